@@ -1,0 +1,80 @@
+//! `dc429`: an ARINC 429 concentrator that is certified before it flies.
+#![tactic(auto)]
+
+mod command;
+
+use command::{Order, parse};
+use dc_app::run_decode;
+use dc_device::{ReadSource, WriteSink};
+use std::alloc::AllocError;
+use std::process::ExitCode;
+use std::rt::Env;
+use std::{env, fmt, io};
+
+// What keeps the program from its work.
+#[derive(Debug, Drop)]
+enum Failure {
+    Memory,
+    Device,
+}
+
+impl fmt::Display for Failure {
+    fn fmt<W: fmt::Write>(&self, f: &mut fmt::Formatter<W>) -> fmt::Result {
+        match self {
+            Failure::Memory => f.write_str("failed memory"),
+            Failure::Device => f.write_str("failed device"),
+        }
+    }
+}
+
+impl From<AllocError> for Failure {
+    fn from(_: AllocError) -> Failure {
+        Failure::Memory
+    }
+}
+
+impl From<io::Error> for Failure {
+    fn from(error: io::Error) -> Failure {
+        if error.kind() == io::ErrorKind::OutOfMemory {
+            Failure::Memory
+        } else {
+            Failure::Device
+        }
+    }
+}
+
+// Carries out what was asked. The answer is the exit status.
+fn carry_out<R: Input + Print>(rt: &R, order: Order) -> u8 {
+    match order {
+        Order::Decode(format) => {
+            let mut source = ReadSource::new(rt.reader());
+            let mut sink = WriteSink::new(io::writer(rt));
+            run_decode(format, &mut source, &mut sink)
+        }
+    }
+}
+
+// Reads the command line and carries it out, or shows clap's text. The answer is the exit status.
+fn run<R: AllocGlobal + Env + Input + Print + Eprint>(rt: &R) -> Result<u8, Failure> {
+    let words: Vec<String> = env::args(rt)?.collect(rt.alloc())?;
+    match parse(rt.alloc(), words.as_slice()) {
+        Ok(order) => Ok(carry_out(rt, order)),
+        Err(error) => {
+            if error.kind() == clap::error::ErrorKind::OutOfMemory {
+                return Err(Failure::Memory);
+            }
+            error.print(rt)?;
+            Ok(if error.exit_code() == 0 { 0 } else { 2 })
+        }
+    }
+}
+
+fn main(rt: HostRuntime) -> ExitCode {
+    match run(&rt) {
+        Ok(status) => ExitCode::from(status),
+        Err(failure) => {
+            let _ = rt.println(failure);
+            ExitCode::from(3)
+        }
+    }
+}

@@ -1,0 +1,55 @@
+-- What `decode` writes for a text of words.
+use Rattle.std.specs.Prelude.{ℕ, ◌+◌, ◌-◌, ◌*◌, List, [], ◌∷◌, length, ◌==◌, ◌&&◌, ◌||◌, Bool, nat_le, nat_lt, if◌then◌else◌, Option, Some, None, codes, option_and_then}
+use Rattle.dc_word.specs.declared.format.Format.{Format}
+use Rattle.dc_device.specs.Lines.{lines_of}
+use Rattle.dc_app.specs.Answer.{Answer, after_all, fault}
+use Rattle.dc_app.specs.Printed.{line_of}
+
+-- a hexadecimal digit in either case
+abbrev pub hex_value : ℕ → Option ℕ
+hex_value c =
+    if nat_le 48 c && nat_le c 57 then Some (c - 48)
+    else if nat_le 65 c && nat_le c 70 then Some (c - 55)
+    else if nat_le 97 c && nat_le c 102 then Some (c - 87)
+    else None
+
+-- the number that the digits write, behind n
+abbrev pub number_behind : ℕ → List ℕ → Option ℕ
+number_behind n [] = Some n
+number_behind n (c ∷ cs) = option_and_then (λ d. number_behind (n * 16 + d) cs) (hex_value c)
+
+-- a word is eight hexadecimal digits
+unfoldable pub word_of : List ℕ → Option ℕ
+word_of bytes = if length bytes == 8 then number_behind 0 bytes else None
+
+-- the answer to a line with its number, where `rest` answers the lines after it
+abbrev pub answer_word : Format → ℕ → Option ℕ → Answer → Answer
+answer_word format number None rest = fault (codes "E5") number
+answer_word format number (Some w) rest = after_all (line_of format w ∷ []) rest
+
+-- the answer where the text ends behind these bytes of a line
+abbrev pub answer_end : ℕ → List ℕ → Answer
+answer_end number [] = record { lines = []; status = 0 }
+answer_end number (b ∷ bs) = fault (codes "E6") number
+
+-- whether a line or the text is too long with so many bytes of the one and of the other
+abbrev pub too_long : ℕ → ℕ → ℕ → Bool
+too_long room line text = nat_lt 64 line || nat_lt room text
+
+-- the answer to what stands after the last line feed
+abbrev pub answer_rest : ℕ → ℕ → List ℕ → Answer
+answer_rest room number rest = if too_long room (length rest) (length rest) then fault (codes "E1") number else answer_end number rest
+
+-- the answer to lines from a number on, where the text may have so many bytes from there on
+abbrev pub answer_lines : Format → ℕ → ℕ → List (List ℕ) → List ℕ → Answer
+answer_lines format room number [] rest = answer_rest room number rest
+answer_lines format room number (l ∷ ls) rest =
+    if too_long room (length l) (length l + 1) then fault (codes "E1") number
+    else answer_word format number (word_of l) (answer_lines format (room - (length l + 1)) (number + 1) ls rest)
+
+abbrev pub answer_text : Format → ℕ → ℕ → List ℕ → Answer
+answer_text format room number text = answer_lines format room number (lines_of text).0 (lines_of text).1
+
+-- what `decode` writes for a text: its limit is 2^63 - 1 bytes
+abbrev pub decode_text : Format → List ℕ → Answer
+decode_text format text = answer_text format 9223372036854775807 1 text

@@ -1,0 +1,22 @@
+-- Numbers as digits.
+use Rattle.std.specs.Prelude.{ℕ, ◌+◌, ◌/◌, ◌%◌, ◌^◌, List, [], ◌∷◌, nat_lt, if◌then◌else◌}
+
+-- a digit of base 16 or below, in upper case
+abbrev pub digit : ℕ → ℕ
+digit d = if nat_lt d 10 then 48 + d else 55 + d
+
+abbrev pub eight_hex : ℕ → List ℕ
+eight_hex n =
+    digit (n / 2 ^ 28 % 16) ∷ digit (n / 2 ^ 24 % 16) ∷ digit (n / 2 ^ 20 % 16) ∷ digit (n / 2 ^ 16 % 16)
+    ∷ digit (n / 2 ^ 12 % 16) ∷ digit (n / 2 ^ 8 % 16) ∷ digit (n / 2 ^ 4 % 16) ∷ digit (n % 16) ∷ []
+
+abbrev pub five_hex : ℕ → List ℕ
+five_hex n =
+    digit (n / 2 ^ 16 % 16) ∷ digit (n / 2 ^ 12 % 16) ∷ digit (n / 2 ^ 8 % 16) ∷ digit (n / 2 ^ 4 % 16) ∷ digit (n % 16) ∷ []
+
+abbrev pub five_decimal : ℕ → List ℕ
+five_decimal n =
+    digit (n / 10000 % 10) ∷ digit (n / 1000 % 10) ∷ digit (n / 100 % 10) ∷ digit (n / 10 % 10) ∷ digit (n % 10) ∷ []
+
+abbrev pub three_octal : ℕ → List ℕ
+three_octal n = digit (n / 64 % 8) ∷ digit (n / 8 % 8) ∷ digit (n % 8) ∷ []

@@ -1,0 +1,94 @@
+//! What every engine does alike: it ends with a fault, with a failure, or asks for more.
+ghost use Rattle.std.specs.Prelude.{◌≡◌, [], ◌∷◌, ◌++◌, ◌+◌, ◌^◌, ◌<◌, ◌≤◌, length, IfErr, IfOk};
+ghost use Rattle.dc_device.specs.Bytes.{Writes};
+ghost use Rattle.dc_device.specs.Device.{failures_of};
+ghost use Rattle.dc_app.specs.Answer.{Asks, Causes, Ends, fault, fault_text};
+
+use crate::text::{Text, append};
+use dc_device::{Broken, LineReader, LineWriter, Sink, Source};
+use itoa::Buffer;
+
+/// Which device failed.
+#[derive(Clone, Copy, Debug, PartialEq, Eq)]
+pub enum Failure {
+    Source,
+    Sink,
+}
+
+/// How many bytes a text may have that is read without an end in sight: what a gigabyte a second makes in three
+/// centuries.
+pub const LIMIT: u64 = 9_223_372_036_854_775_807;
+
+// The line of a fault.
+fn print_fault(text: &mut Text, code: &[u8], number: u64)
+    requires { length code.now ≤ 8 }
+    ensures { text.new.items ≡ fault_text code.now number }
+{
+    let mut buffer = Buffer::new();
+    text.clear();
+    append(text, b"unreadable ");
+    append(text, code);
+    append(text, b" at line ");
+    append(text, buffer.format(number).as_bytes());
+}
+
+/// Writes the last line, and pushes all that waits.
+pub fn end_with<K: Sink>(writer: &mut LineWriter, sink: &mut K, line: &[u8]) -> Result<(), Broken>
+    requires { K.failed sink.old + 1 < 2 ^ 64 }
+    ensures bytes { Writes (K.contents sink.old) (K.contents sink.new)
+        (writer.old ++ (line.now ++ 10 ∷ [])) result }
+    ensures empty { writer.new ≡ [] }
+    ensures count { K.failed sink.new ≡ K.failed sink.old + failures_of result }
+{
+    writer.line(sink, line)?;
+    writer.flush(sink)
+}
+
+/// Ends with the fault of a line. The answer is the exit status.
+pub fn end_at<K: Sink>(
+    writer: &mut LineWriter,
+    sink: &mut K,
+    code: &[u8],
+    number: u64,
+) -> Result<u8, Failure>
+    requires short { length code.now ≤ 8 }
+    requires countable { K.failed sink.old + 1 < 2 ^ 64 }
+    ensures bytes { Ends (K.contents sink.old) writer.old (K.contents sink.new) (fault code.now number) result }
+    ensures empty { writer.new ≡ [] }
+    ensures count { K.failed sink.new ≡ K.failed sink.old + failures_of result }
+    ensures sink { IfErr result (λ e. e ≡ Failure.Sink) }
+    ensures status { IfOk result (λ status. status ≡ 2) }
+{
+    let mut text = Text::new();
+    print_fault(&mut text, code, number);
+    match end_with(writer, sink, text.as_slice()) {
+        Ok(()) => Ok(2),
+        Err(_) => Err(Failure::Sink),
+    }
+}
+
+/// Asks the source for more, when the sink holds all that was written.
+pub fn ask<S: Source, K: Sink>(
+    reader: &mut LineReader,
+    source: &mut S,
+    writer: &mut LineWriter,
+    sink: &mut K,
+) -> Result<bool, Failure>
+    requires read { reader.old.bytes ≡ [] }
+    requires source { S.failed source.old + 1 < 2 ^ 64 }
+    requires sink { K.failed sink.old + 1 < 2 ^ 64 }
+    ensures bytes { Asks (S.remaining source.old) (S.remaining source.new) reader.new.bytes
+        (K.contents sink.old) (K.contents sink.new) writer.old result }
+    ensures empty { writer.new ≡ [] }
+    ensures room { reader.new.room ≡ reader.old.room }
+    ensures cause { Causes (S.failed source.old) (S.failed source.new) (K.failed sink.old)
+        (K.failed sink.new) result }
+{
+    match writer.flush(sink) {
+        Err(_) => Err(Failure::Sink),
+        Ok(()) => match reader.fill(source, writer) {
+            Ok(more) => Ok(more),
+            Err(_) => Err(Failure::Source),
+        },
+    }
+}

@@ -1,0 +1,155 @@
+//! `decode`: words in, their lines out.
+ghost use Rattle.std.specs.Prelude.{◌≡◌, [], ◌∷◌, ◌++◌, ◌+◌, ◌-◌, ◌^◌, ◌<◌, ◌≤◌, IfErr, IfOk, IfSome};
+ghost use Rattle.dc_device.specs.Bytes.{Gathers};
+ghost use Rattle.dc_device.specs.Device.{failures_of};
+ghost use Rattle.dc_app.specs.Answer.{Causes, Ends, Reports};
+ghost use Rattle.dc_app.specs.Decode.{answer_end, decode_text, hex_value, word_of};
+ghost use Rattle.dc_app.specs.Printed.{line_of};
+
+use crate::answer::{Failure, LIMIT, ask, end_at, end_with};
+use crate::print::print;
+use crate::text::Text;
+use dc_device::{Line, LineReader, LineWriter, Part, Sink, Source};
+use dc_word::{Format, Word};
+
+// The value of a hexadecimal digit in either case.
+fn digit_value(c: u8) -> Option<u8>
+    ensures value { result ≡ hex_value c }
+    ensures digit { IfSome result (λ d. d < 16) }
+{
+    match c {
+        b'0'..=b'9' => Some(c - b'0'),
+        b'A'..=b'F' => Some(c - 55),
+        b'a'..=b'f' => Some(c - 87),
+        _ => None,
+    }
+}
+
+// The word that a line writes: eight hexadecimal digits.
+#[tactic(auto, unfolding(crate::specs::Decode::word_of))]
+fn read_word(line: &[u8]) -> Option<Word>
+    ensures { result ≡ word_of line.now }
+{
+    if line.len() != 8 {
+        return None;
+    }
+    let mut n = 0;
+    for c in line {
+        n = n * 16 + u32::from(digit_value(*c)?);
+    }
+    Some(Word(n))
+}
+
+// Answers a text that ends behind these bytes of a line.
+fn end_inside<K: Sink>(
+    line: &[u8],
+    number: u64,
+    writer: &mut LineWriter,
+    sink: &mut K,
+) -> Result<u8, Failure>
+    requires seen { writer.old ≡ [] }
+    requires countable { K.failed sink.old + 1 < 2 ^ 64 }
+    ensures bytes { Ends (K.contents sink.old) [] (K.contents sink.new) (answer_end number line.now) result }
+    ensures empty { writer.new ≡ [] }
+    ensures count { K.failed sink.new ≡ K.failed sink.old + failures_of result }
+    ensures sink { IfErr result (λ e. e ≡ Failure.Sink) }
+    ensures status { IfOk result (λ status. status < 3) }
+{
+    match line {
+        [] => Ok(0),
+        _ => end_at(writer, sink, b"E6", number),
+    }
+}
+
+// Writes the line of a word.
+fn write_word<K: Sink>(
+    writer: &mut LineWriter,
+    sink: &mut K,
+    format: Format,
+    word: Word,
+) -> Result<(), Failure>
+    requires { K.failed sink.old + 1 < 2 ^ 64 }
+    ensures bytes { Gathers (K.contents sink.old) writer.old (K.contents sink.new) writer.new
+        (line_of format word ++ 10 ∷ []) result }
+    ensures count { K.failed sink.new ≡ K.failed sink.old + failures_of result }
+    ensures sink { IfErr result (λ e. e ≡ Failure.Sink) }
+{
+    let mut text = Text::new();
+    print(&mut text, format, word);
+    match writer.line(sink, text.as_slice()) {
+        Ok(()) => Ok(()),
+        Err(_) => Err(Failure::Sink),
+    }
+}
+
+// Answers the text of a source, until one of the two fails.
+fn answer<S: Source, K: Sink>(
+    format: Format,
+    source: &mut S,
+    writer: &mut LineWriter,
+    sink: &mut K,
+) -> Result<u8, Failure>
+    requires new { writer.old ≡ [] }
+    requires source { S.failed source.old + 1 < 2 ^ 64 }
+    requires sink { K.failed sink.old + 1 < 2 ^ 64 }
+    ensures answer { IfSome (S.remaining source.old) (λ text.
+        Ends (K.contents sink.old) [] (K.contents sink.new) (decode_text format text) result) }
+    ensures empty { writer.new ≡ [] }
+    ensures cause { Causes (S.failed source.old) (S.failed source.new) (K.failed sink.old)
+        (K.failed sink.new) result }
+    ensures status { IfOk result (λ status. status < 3) }
+{
+    let mut reader = LineReader::new(LIMIT);
+    let mut line = Line::new();
+    let mut number: u64 = 1;
+    loop {
+        match reader.read_on(&mut line) {
+            None => match ask(&mut reader, source, writer, sink) {
+                Err(failure) => return Err(failure),
+                Ok(false) => return end_inside(line.as_slice(), number, writer, sink),
+                Ok(true) => {}
+            },
+            Some(Part::Long) => return end_at(writer, sink, b"E1", number),
+            Some(Part::Whole) => {
+                let Some(word) = read_word(line.as_slice()) else {
+                    return end_at(writer, sink, b"E5", number);
+                };
+                match write_word(writer, sink, format, word) {
+                    Err(failure) => return Err(failure),
+                    Ok(()) => {}
+                }
+                line.clear();
+                number += 1;
+            }
+        }
+    }
+}
+
+/// Decodes the words on a source, one a line, onto a sink, with no memory but two fixed buffers. Each line that is
+/// due stands on the sink before the source is asked for more.
+///
+/// The answer is the exit status: 0 at the end of the text; 2 at the first faulty line, whose fault was written behind
+/// the lines before it; 3 where a device failed. After a failed pull whole lines of the answer and then
+/// `failed device` were written; after a failed push or flush nothing more was.
+pub fn run_decode<S: Source, K: Sink>(format: Format, source: &mut S, sink: &mut K) -> u8
+    requires source { S.failed source.old + 1 < 2 ^ 64 }
+    requires sink { K.failed sink.old + 1 < 2 ^ 64 }
+    ensures reports { IfSome (S.remaining source.old) (λ text.
+        Reports (K.contents sink.old) (K.contents sink.new) (K.failed sink.new - K.failed sink.old)
+        (decode_text format text) result) }
+    ensures cause { result ≡ 3
+        → S.failed source.old + K.failed sink.old < S.failed source.new + K.failed sink.new }
+    ensures quiet { result < 3
+        → (S.failed source.new ≡ S.failed source.old) × (K.failed sink.new ≡ K.failed sink.old) }
+    ensures status { result ≤ 3 }
+{
+    let mut writer = LineWriter::new();
+    match answer(format, source, &mut writer, sink) {
+        Ok(status) => status,
+        Err(Failure::Sink) => 3,
+        Err(Failure::Source) => {
+            let _ = end_with(&mut writer, sink, b"failed device");
+            3
+        }
+    }
+}

@@ -1,0 +1,75 @@
+//! Text that takes no memory.
+ghost use Rattle.std.specs.Prelude.{◌≡◌, ◌++◌, ◌+◌, ◌<◌, ◌≤◌, length, codes, decimal};
+ghost use Rattle.arrayvec.specs.ArrayVec.{array_vec_len};
+ghost use Rattle.dc_app.specs.Text.{digit, eight_hex, five_decimal, five_hex, three_octal};
+
+use arrayvec::ArrayVec;
+
+/// A line that is written, without its line feed.
+pub type Text = ArrayVec<u8, 96>;
+
+/// Puts bytes at the end.
+pub fn append(text: &mut Text, bytes: &[u8])
+    requires { array_vec_len text.old + length bytes.now ≤ 96 }
+    ensures items { text.new.items ≡ text.old.items ++ bytes.now }
+    ensures len { array_vec_len text.new ≡ array_vec_len text.old + length bytes.now }
+{
+    let _ = text.try_extend_from_slice(bytes);
+}
+
+/// The digit of base 16 or below, in upper case.
+pub fn digit_of(d: u32) -> u8
+    requires { d < 16 }
+    ensures { result ≡ digit d }
+{
+    if d < 10 { 48 + d as u8 } else { 55 + d as u8 }
+}
+
+/// Eight hexadecimal digits.
+pub fn hex_8(n: u32) -> [u8; 8]
+    ensures { result ≡ eight_hex n }
+{
+    [
+        digit_of(n / 268_435_456 % 16),
+        digit_of(n / 16_777_216 % 16),
+        digit_of(n / 1_048_576 % 16),
+        digit_of(n / 65_536 % 16),
+        digit_of(n / 4096 % 16),
+        digit_of(n / 256 % 16),
+        digit_of(n / 16 % 16),
+        digit_of(n % 16),
+    ]
+}
+
+/// The last five hexadecimal digits.
+pub fn hex_5(n: u32) -> [u8; 5]
+    ensures { result ≡ five_hex n }
+{
+    [
+        digit_of(n / 65_536 % 16),
+        digit_of(n / 4096 % 16),
+        digit_of(n / 256 % 16),
+        digit_of(n / 16 % 16),
+        digit_of(n % 16),
+    ]
+}
+
+/// The last five decimal digits.
+pub fn decimal_5(n: u32) -> [u8; 5]
+    ensures { result ≡ five_decimal n }
+{
+    [
+        digit_of(n / 10_000 % 10),
+        digit_of(n / 1000 % 10),
+        digit_of(n / 100 % 10),
+        digit_of(n / 10 % 10),
+        digit_of(n % 10),
+    ]
+}
+
+/// The last three octal digits.
+pub fn octal_3(n: u32) -> [u8; 3]
+    ensures { result ≡ three_octal n }
+{
+    [digit_of(n / 64 % 8), digit_of(n / 8 % 8), digit_of(n % 8)]
+}

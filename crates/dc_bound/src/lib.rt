@@ -1,0 +1,14 @@
+//! Arrival bounds and service floors with their laws, and the words in which the whole workspace speaks of time,
+//! counts and queues.
+#![tactic(auto)]
+
+mod arrival;
+mod cyclic;
+mod service;
+
+pub use arrival::{ArrivalBound, Both, Sporadic, SumOf, Wire};
+pub use cyclic::Cyclic;
+pub use service::{Paced, ServiceBound, Visits};
+
+#[cfg(test)]
+mod tests;

@@ -1,0 +1,53 @@
+-- The window tests and the busy-window law, over the moves of a queue.
+use Rattle.std.specs.Prelude.{◌≡◌, ℕ, ◌+◌, ◌-◌, ◌<◌, ◌≤◌, List, ◌++◌, length}
+use Rattle.dc_bound.specs.Window.{count_in}
+use Rattle.dc_bound.specs.Moves.{Move, ticks_in, visit_ticks, entries, ins, passed, arrived_tick}
+
+-- each d whole ticks hold at least s d visits
+abbrev pub Serves : (ℕ → ℕ) → List Move → Type 0
+Serves s ms = (u d : ℕ) → d ≤ 1000000 → u + d ≤ ticks_in ms → s d ≤ count_in u d (visit_ticks ms)
+
+-- the window closes: as many visits in its ticks but the first as entries in all of them
+abbrev pub Closes : (a s : ℕ → ℕ) → ℕ → Type 0
+Closes a s window = a window ≤ s (window - 1)
+
+abbrev pub BacklogAt : (a s : ℕ → ℕ) (backlog : ℕ) → ℕ → Type 0
+BacklogAt a s backlog w = a w - s (w - 2) ≤ backlog
+
+abbrev pub DelayAt : (a s : ℕ → ℕ) (delay : ℕ) → ℕ → Type 0
+DelayAt a s delay w = a w ≤ s (w - 1 + delay)
+
+-- P holds for each w from 1 to the window
+abbrev pub EachWindow : (ℕ → Type 0) → ℕ → Type 0
+EachWindow P window = (w : ℕ) → 1 ≤ w → w ≤ window → P w
+
+abbrev pub BacklogBounded : (a s : ℕ → ℕ) (window backlog : ℕ) → Type 0
+BacklogBounded a s window backlog = EachWindow (BacklogAt a s backlog) window
+
+abbrev pub DelayBounded : (a s : ℕ → ℕ) (window delay : ℕ) → Type 0
+DelayBounded a s window delay = EachWindow (DelayAt a s delay) window
+
+-- w is the first from 1 to the window at which P fails
+abbrev pub IsLeastFailing : (ℕ → Type 0) → ℕ → ℕ → Type 0
+IsLeastFailing P window w = (1 ≤ w) × (w ≤ window) × (¬ P w) × ((v : ℕ) → 1 ≤ v → v < w → P v)
+
+-- the backlog is bounded at each place of each run
+abbrev pub QueueBacklog : (a : ℕ → ℕ) (allows : List (ℕ × ℕ) → Type 0) (s : ℕ → ℕ) (window backlog : ℕ) → Type 0
+QueueBacklog a allows s window backlog =
+    Closes a s window → BacklogBounded a s window backlog →
+    (ms : List Move) → allows (entries ms) → Serves s ms →
+    (pre post : List Move) → ms ≡ pre ++ post → length (ins pre) - passed pre ≤ backlog
+
+-- what has come in by a place of tick t has been taken by the end of tick t + delay, where that tick is whole
+abbrev pub QueueDelay : (a : ℕ → ℕ) (allows : List (ℕ × ℕ) → Type 0) (s : ℕ → ℕ) (window delay : ℕ) → Type 0
+QueueDelay a allows s window delay =
+    Closes a s window → DelayBounded a s window delay →
+    (ms : List Move) → allows (entries ms) → Serves s ms →
+    (pre mid post : List Move) → ms ≡ pre ++ (mid ++ post) → delay < ticks_in mid → length (ins pre) ≤ passed (pre ++ mid)
+
+-- the item of each number, once it has come in in tick t, has been taken where tick t + delay is whole
+abbrev pub QueueInTime : (a : ℕ → ℕ) (allows : List (ℕ × ℕ) → Type 0) (s : ℕ → ℕ) (window delay : ℕ) → Type 0
+QueueInTime a allows s window delay =
+    Closes a s window → DelayBounded a s window delay →
+    (ms : List Move) → allows (entries ms) → Serves s ms →
+    (pre post : List Move) → ms ≡ pre ++ post → (n : ℕ) → n < length (ins pre) → arrived_tick n pre + delay < ticks_in pre → n < passed pre

@@ -1,0 +1,2 @@
+pub mod BusyWindow
+pub mod Law

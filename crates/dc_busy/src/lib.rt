@@ -1,0 +1,101 @@
+//! The busy-window law: exact tests of a window, and what they say of every run of a queue.
+//!
+//! An arrival bound caps what comes to a queue in so many ticks, a service floor says how many visits so many whole
+//! ticks hold. A window of ticks *closes* where its ticks but the first are visited at least as often as words come in
+//! all of them: whatever came in a window that began with an empty queue has then left by its end, so that no busy
+//! stretch needs to be looked at past its first window.
+#![tactic(auto)]
+
+ghost use Rattle.std.specs.Prelude.{◌≡◌, ℕ, ◌≤◌, ◌↔◌, MatchOption, IsTrue};
+ghost use Rattle.dc_busy.specs.BusyWindow.{Closes, BacklogAt, BacklogBounded, DelayAt, DelayBounded, IsLeastFailing, QueueBacklog, QueueDelay, QueueInTime};
+
+use dc_bound::{ArrivalBound, ServiceBound};
+
+/// Whether a window closes: as many visits in its ticks but the first as may come in all of them. `window` is 1 to
+/// 100,000.
+pub fn closes<A: ArrivalBound, S: ServiceBound>(arrivals: &A, service: &S, window: u32) -> bool
+    requires least { 1 ≤ window }
+    requires most { window ≤ 100000 }
+    ensures { IsTrue result ↔ Closes (A.cap arrivals.now) (S.floor service.now) window }
+{
+    arrivals.at_most(window) <= service.at_least(window - 1)
+}
+
+/// The first number of ticks up to `window`, 1 to 100,000, in which more than `backlog` may come above the visits in
+/// the whole ticks inside them, two less; `None` where there is none.
+pub fn backlog_fails<A: ArrivalBound, S: ServiceBound>(
+    arrivals: &A,
+    service: &S,
+    window: u32,
+    backlog: u64,
+) -> Option<u32>
+    requires least { 1 ≤ window }
+    requires most { window ≤ 100000 }
+    ensures { MatchOption result (BacklogBounded (A.cap arrivals.now) (S.floor service.now) window backlog) (λ w. IsLeastFailing (BacklogAt (A.cap arrivals.now) (S.floor service.now) backlog) window w) }
+{
+    let mut ticks = 1;
+    while ticks <= window {
+        let visits = service.at_least(ticks.saturating_sub(2));
+        if arrivals.at_most(ticks).saturating_sub(visits) > backlog {
+            return Some(ticks);
+        }
+        match arrivals.next_jump(ticks) {
+            None => return None,
+            Some(jump) => ticks = jump,
+        }
+    }
+    None
+}
+
+/// The first number of ticks up to `window`, 1 to 100,000, in which more may come than is visited in as many ticks less
+/// one and `delay` more, at most 100,000; `None` where there is none.
+pub fn delay_fails<A: ArrivalBound, S: ServiceBound>(
+    arrivals: &A,
+    service: &S,
+    window: u32,
+    delay: u32,
+) -> Option<u32>
+    requires least { 1 ≤ window }
+    requires most { window ≤ 100000 }
+    requires short { delay ≤ 100000 }
+    ensures { MatchOption result (DelayBounded (A.cap arrivals.now) (S.floor service.now) window delay) (λ w. IsLeastFailing (DelayAt (A.cap arrivals.now) (S.floor service.now) delay) window w) }
+{
+    let mut ticks = 1;
+    while ticks <= window {
+        if arrivals.at_most(ticks) > service.at_least(ticks - 1 + delay) {
+            return Some(ticks);
+        }
+        match arrivals.next_jump(ticks) {
+            None => return None,
+            Some(jump) => ticks = jump,
+        }
+    }
+    None
+}
+
+/// The busy-window law. Take any queue whose arrivals the bound allows and in which any `d` whole ticks hold at least as
+/// many visits as the floor at `d` says. Where the window closes:
+///
+/// - if `backlog_fails` finds nothing, then at each place of the run what has come less what has been taken is at most
+///   `backlog`;
+/// - if `delay_fails` finds nothing, then what came in tick t or before has been taken by the end of tick t + `delay`,
+///   where that tick is whole, and so has each item by its number.
+///
+/// `window` is 1 to 100,000, `delay` at most 100,000. The call does nothing: its contract is the law.
+pub fn queue_law<A: ArrivalBound, S: ServiceBound>(
+    arrivals: &A,
+    service: &S,
+    window: u32,
+    backlog: u64,
+    delay: u32,
+)
+    requires least { 1 ≤ window }
+    requires most { window ≤ 100000 }
+    requires short { delay ≤ 100000 }
+    ensures backlog { QueueBacklog (A.cap arrivals.now) (A.allows arrivals.now) (S.floor service.now) window backlog }
+    ensures delay { QueueDelay (A.cap arrivals.now) (A.allows arrivals.now) (S.floor service.now) window delay }
+    ensures in_time { QueueInTime (A.cap arrivals.now) (A.allows arrivals.now) (S.floor service.now) window delay }
+{}
+
+#[cfg(test)]
+mod tests;

@@ -1,0 +1,151 @@
+//! Worked windows, the dense searches, and the number of calls of a long search.
+
+ghost use Rattle.std.specs.Prelude.{◌≡◌, ℕ, ◌+◌, ◌^◌, ◌≤◌, ◌++◌, List, [], ◌∷◌};
+ghost use Rattle.dc_bound.specs.Window.{count_in, ticks_of, IsNextJump};
+ghost use Rattle.dc_bound.specs.Moves.{routed_tick, passed};
+ghost use Rattle.dc_bound.specs.Moves.Move.{Tick, In, Visit};
+
+use crate::{backlog_fails, closes, delay_fails, queue_law};
+use dc_bound::{ArrivalBound, Both, Cyclic, Paced, ServiceBound, Sporadic, SumOf, Visits, Wire};
+use std::cell::Cell;
+use std::process::Abort;
+
+// `backlog_fails`, where each number of ticks is looked at.
+fn backlog_fails_densely<A: ArrivalBound, S: ServiceBound>(
+    arrivals: &A,
+    service: &S,
+    window: u32,
+    backlog: u64,
+) -> Option<u32>
+    requires { window ≤ 100000 }
+{
+    for ticks in 1..=window {
+        let visits = service.at_least(ticks.saturating_sub(2));
+        if arrivals.at_most(ticks).saturating_sub(visits) > backlog {
+            return Some(ticks);
+        }
+    }
+    None
+}
+
+// `delay_fails`, where each number of ticks is looked at.
+fn delay_fails_densely<A: ArrivalBound, S: ServiceBound>(
+    arrivals: &A,
+    service: &S,
+    window: u32,
+    delay: u32,
+) -> Option<u32>
+    requires window { window ≤ 100000 }
+    requires delay { delay ≤ 100000 }
+{
+    for ticks in 1..=window {
+        if arrivals.at_most(ticks) > service.at_least(ticks - 1 + delay) {
+            return Some(ticks);
+        }
+    }
+    None
+}
+
+// The searches by jumps and the dense ones agree at each small window, backlog and delay.
+fn assert_same<A: ArrivalBound, S: ServiceBound>(rt: &impl Abort, arrivals: &A, service: &S) {
+    for window in 1..40 {
+        for bound in 0..12 {
+            let backlog = bound as u64;
+            assert_eq!(rt;
+                backlog_fails(arrivals, service, window, backlog),
+                backlog_fails_densely(arrivals, service, window, backlog),
+                "backlog {backlog} in {window}"
+            );
+            assert_eq!(rt;
+                delay_fails(arrivals, service, window, bound),
+                delay_fails_densely(arrivals, service, window, bound),
+                "delay {bound} in {window}"
+            );
+        }
+    }
+}
+
+// A bound that counts the calls of its cap.
+#[derive(Drop)]
+struct Counted<'a, A: ArrivalBound> {
+    inner: &'a A,
+    calls: Cell<u64>,
+}
+
+impl<'a, A: ArrivalBound> ArrivalBound for Counted<'a, A> {
+    ghost cap = { λ x d. A.cap x.inner.now d };
+
+    ghost allows = { λ x xs. A.allows x.inner.now xs };
+
+    fn at_most(&self, d: u32) -> u64 {
+        self.calls.set(self.calls.get().wrapping_add(1));
+        self.inner.at_most(d)
+    }
+
+    fn next_jump(&self, d: u32) -> Option<u32> {
+        self.inner.next_jump(d)
+    }
+
+    ghost cap_zero = { λ x. A.cap_zero x.inner.now };
+
+    ghost cap_monotone = { λ x d e h. A.cap_monotone x.inner.now d e h };
+
+    ghost cap_bounded = { λ x d h. A.cap_bounded x.inner.now d h };
+
+    ghost cap_holds = { λ x xs u d h. A.cap_holds x.inner.now xs u d h };
+
+    ghost allows_prefix = { λ x xs ys h. A.allows_prefix x.inner.now xs ys h };
+}
+
+#[test]
+fn small_bus_closes_at_three_ticks(rt: HostRuntime) {
+    let streams = [Sporadic::new(10), Sporadic::new(10)];
+    let bus = Both::new(SumOf::new(0, &streams), Wire::new(1000, 350));
+    let router = Paced::new(1, 1);
+    assert!(rt; !closes(&bus, &router, 2));
+    assert!(rt; closes(&bus, &router, 3));
+    assert_eq!(rt; backlog_fails(&bus, &router, 3, 1), Some(1));
+    assert_eq!(rt; backlog_fails(&bus, &router, 3, 2), None);
+    assert_eq!(rt; delay_fails(&bus, &router, 3, 1), Some(1));
+    assert_eq!(rt; delay_fails(&bus, &router, 3, 2), None);
+    queue_law(&bus, &router, 3, 2, 2);
+}
+
+#[test]
+fn jumps_find_what_dense_searches_find(rt: HostRuntime) {
+    let streams = [Sporadic::new(10), Sporadic::new(7), Sporadic::new(3)];
+    let bus = Both::new(SumOf::new(0, &streams), Wire::new(1000, 1350));
+    let visits = [0, 1, 0, 2];
+    assert_same(&rt, &bus, &Paced::new(2, 3));
+    assert_same(&rt, &bus, &Visits::new(Paced::new(3, 2), &visits, 0));
+    assert_same(&rt, &Sporadic::new(5), &Paced::new(1, 6));
+    assert_same(&rt, &Wire::new(100, 2450), &Paced::new(1, 20));
+    assert_same(&rt, &Cyclic::new(10, &[0, 1, 5]), &Paced::new(1, 3));
+}
+
+#[test]
+fn long_search_goes_by_jumps_alone(rt: HostRuntime) {
+    let streams = [Sporadic::new(10); 16];
+    let bus = Both::new(SumOf::new(0, &streams), Wire::new(1000, 350));
+    let counted = Counted {
+        inner: &bus,
+        calls: Cell::new(0),
+    };
+    assert_eq!(rt;
+        backlog_fails(&counted, &Paced::new(2, 1), 100_000, 14),
+        None
+    );
+    assert!(rt; counted.calls.get() <= 10_005);
+}
+
+// In Visit, In, In, Tick, Visit, Tick, Visit the first visit finds nothing, and each later one takes one word.
+fn second_in_waits()
+    ensures first { routed_tick 4 0 (Visit ∷ In (0, 0) ∷ In (1, 0) ∷ Tick ∷ Visit ∷ Tick ∷ Visit ∷ []) ≡ 1 }
+    ensures second { routed_tick 4 1 (Visit ∷ In (0, 0) ∷ In (1, 0) ∷ Tick ∷ Visit ∷ Tick ∷ Visit ∷ []) ≡ 2 }
+    ensures all { passed (Visit ∷ In (0, 0) ∷ In (1, 0) ∷ Tick ∷ Visit ∷ Tick ∷ Visit ∷ []) ≡ 2 }
+{}
+
+#[test]
+fn second_in_is_taken_in_tick_two() {
+    second_in_waits();
+}

@@ -1,0 +1,8 @@
+-- What a certificate says, how a text is read as one, and how one is printed.
+pub mod Claims
+pub mod Bounds
+pub mod Faults
+pub mod Names
+pub mod Reading
+pub mod Printing
+pub mod Limits

@@ -1,0 +1,175 @@
+-- What a certificate's text says, or its first fault: key by key, in the order in which they are looked at.
+use Rattle.std.specs.Prelude.{ℕ, ◌+◌, List, [], ◌∷◌, length, codes, Bool, true, false, not, ◌&&◌, ◌==◌, nat_le, if◌then◌else◌, Option, Some, None, is_some, option_and_then, Result, Ok, Err}
+use Rattle.std.specs.List.{list_any}
+use Rattle.std.specs.Str.{is_utf8}
+use Rattle.std.specs.Ordering.{nat_cmp, is_eq}
+use Rattle.std.specs.Cmp.Lexicographic.{slice_cmp}
+use Rattle.serde_json.specs.Data.{Data, Items, no_items, item, Members, no_members, member}
+use Rattle.serde_json.specs.Read.{read}
+use Rattle.serde_json.specs.Find.{get_member, as_object, as_array, as_str, as_number, as_u64}
+use Rattle.serde_json.specs.Events.{items_len}
+use Rattle.dc_cert.specs.declared.fault.Code.{Code}
+use Rattle.dc_cert.specs.declared.fault.Code.TheVariants.{K1, K2, K3, K4, K5, K6}
+use Rattle.dc_cert.specs.declared.fault.Place.{Place}
+use Rattle.dc_cert.specs.declared.fault.Place.TheVariants.{Top, Inputs, Outputs, Labels}
+use Rattle.dc_cert.specs.declared.fault.Fault.{Fault}
+use Rattle.dc_cert.specs.Claims.{InputClaim, OutputClaim, LabelClaim, Claims}
+use Rattle.dc_cert.specs.Names.{is_name}
+
+-- ---- a value or a fault, and the steps that were good so far
+
+-- what was read, or the first fault
+abbrev pub Reading : Type 0 → Type 0
+Reading A = Result A Fault
+
+abbrev pub refused : {A : Type 0} → Code → Place → Reading A
+refused code place = Err (record { code = code; place = place })
+
+-- goes on where nothing was refused
+infixl 10 ◌>>=◌
+abbrev pub ◌>>=◌ : {A B : Type 0} → Reading A → (A → Reading B) → Reading B
+(Ok x) >>= rest = rest x
+(Err fault) >>= rest = Err fault
+
+-- goes on where the test holds
+abbrev pub wanted : Bool → Code → Place → Reading (Unit {0})
+wanted true code place = Ok tt
+wanted false code place = refused code place
+
+-- what is there, or a fault
+abbrev pub found : {A : Type 0} → Option A → Code → Place → Reading A
+found (Some x) code place = Ok x
+found None code place = refused code place
+
+-- ---- objects and their keys
+
+abbrev pub same_key : List ℕ → List ℕ → Bool
+same_key k l = is_eq (slice_cmp nat_cmp k l)
+
+-- each key of the object is one of these
+abbrev pub only_keys : List (List ℕ) → Members → Bool
+only_keys keys no_members = true
+only_keys keys (member k d ms) = list_any (same_key k) keys && only_keys keys ms
+
+-- each of these keys is in the object
+abbrev pub all_keys : List (List ℕ) → Members → Bool
+all_keys [] ms = true
+all_keys (k ∷ ks) ms = is_some (get_member k ms) && all_keys ks ms
+
+-- the members of a value that is an object, else K5
+abbrev pub object_of : Place → Data → Reading Members
+object_of place d = found (as_object d) K5 place
+
+-- no key is unknown, else K4; none is absent, else K3
+abbrev pub shape_of : Place → List (List ℕ) → Members → Reading (Unit {0})
+shape_of place keys ms = if not (only_keys keys ms) then refused K4 place else wanted (all_keys keys ms) K3 place
+
+-- ---- the kinds of values
+
+-- a whole number up to 4,294,967,295, else K5
+abbrev pub number_in : Place → Option ℕ → Reading ℕ
+number_in place None = refused K5 place
+number_in place (Some n) = if nat_le n 4294967295 then Ok n else refused K5 place
+
+-- the number at a key
+abbrev pub number_at : Place → List ℕ → Members → Reading ℕ
+number_at place key ms = number_in place (option_and_then as_u64 (option_and_then as_number (get_member key ms)))
+
+-- a text, else K5, in the spelling of names, else K6
+abbrev pub name_in : Place → Option (List ℕ) → Reading (List ℕ)
+name_in place None = refused K5 place
+name_in place (Some s) = if is_name s then Ok s else refused K6 place
+
+-- the name at a key
+abbrev pub name_at : Place → List ℕ → Members → Reading (List ℕ)
+name_at place key ms = name_in place (option_and_then as_str (get_member key ms))
+
+-- a list, else K5, of at most 1,024 members, else K6; both at the top
+abbrev pub list_in : Option Items → Reading Items
+list_in None = refused K5 Top
+list_in (Some ds) = if nat_le (items_len ds) 1024 then Ok ds else refused K6 Top
+
+-- the list at a key of the top
+abbrev pub list_at : List ℕ → Members → Reading Items
+list_at key ms = list_in (option_and_then as_array (get_member key ms))
+
+-- ---- the rows
+
+abbrev pub input_keys : List (List ℕ)
+input_keys = codes "bus" ∷ codes "window" ∷ codes "backlog" ∷ codes "delay" ∷ []
+
+-- the claim for the input with this index
+unfoldable pub input_of : ℕ → Data → Reading InputClaim
+input_of i d = do
+  ms ← object_of (Inputs i) d
+  shape ← shape_of (Inputs i) input_keys ms
+  bus ← name_at (Inputs i) (codes "bus") ms
+  window ← number_at (Inputs i) (codes "window") ms
+  backlog ← number_at (Inputs i) (codes "backlog") ms
+  delay ← number_at (Inputs i) (codes "delay") ms
+  Ok (record { bus = bus; window = window; backlog = backlog; delay = delay })
+
+abbrev pub output_keys : List (List ℕ)
+output_keys = codes "output" ∷ codes "window" ∷ codes "delay" ∷ []
+
+-- the claim for the output with this index
+unfoldable pub output_of : ℕ → Data → Reading OutputClaim
+output_of i d = do
+  ms ← object_of (Outputs i) d
+  shape ← shape_of (Outputs i) output_keys ms
+  output ← name_at (Outputs i) (codes "output") ms
+  window ← number_at (Outputs i) (codes "window") ms
+  delay ← number_at (Outputs i) (codes "delay") ms
+  Ok (record { output = output; window = window; delay = delay })
+
+abbrev pub label_keys : List (List ℕ)
+label_keys = codes "label" ∷ codes "age" ∷ []
+
+-- the claim for the label with this index
+unfoldable pub label_of : ℕ → Data → Reading LabelClaim
+label_of i d = do
+  ms ← object_of (Labels i) d
+  shape ← shape_of (Labels i) label_keys ms
+  label ← name_at (Labels i) (codes "label") ms
+  age ← number_at (Labels i) (codes "age") ms
+  Ok (record { label = label; age = age })
+
+-- each member of a list in order, numbered from n, up to the first fault
+abbrev pub rows_of : {A : Type 0} → (ℕ → Data → Reading A) → ℕ → Items → Reading (List A)
+rows_of row n no_items = Ok []
+rows_of row n (item d ds) = row n d >>= (λ x. rows_of row (n + 1) ds >>= (λ xs. Ok (x ∷ xs)))
+
+-- ---- the whole text
+
+abbrev pub top_keys : List (List ℕ)
+top_keys = codes "version" ∷ codes "inputs" ∷ codes "outputs" ∷ codes "labels" ∷ []
+
+-- the number 1 at `version`, else K2
+abbrev pub is_one : Option ℕ → Bool
+is_one None = false
+is_one (Some n) = n == 1
+
+abbrev pub version_of : Members → Reading (Unit {0})
+version_of ms = wanted (is_one (option_and_then as_u64 (option_and_then as_number (get_member (codes "version") ms)))) K2 Top
+
+-- the certificate that a JSON value is
+unfoldable pub claims_in : Data → Reading Claims
+claims_in d = do
+  ms ← object_of Top d
+  version ← version_of ms
+  shape ← shape_of Top top_keys ms
+  inputs ← list_at (codes "inputs") ms
+  outputs ← list_at (codes "outputs") ms
+  labels ← list_at (codes "labels") ms
+  input_claims ← rows_of input_of 0 inputs
+  output_claims ← rows_of output_of 0 outputs
+  label_claims ← rows_of label_of 0 labels
+  Ok (record { inputs = input_claims; outputs = output_claims; labels = label_claims })
+
+-- the JSON value that a text is: within 1,048,576 bytes, in UTF-8, by the reading of `serde_json`, else K1
+unfoldable pub document_of : List ℕ → Reading Data
+document_of text = if nat_le (length text) 1048576 && is_utf8 text then found (read text) K1 Top else refused K1 Top
+
+-- the certificate of a text
+abbrev pub certificate_of : List ℕ → Reading Claims
+certificate_of text = document_of text >>= claims_in

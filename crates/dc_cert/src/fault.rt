@@ -1,0 +1,169 @@
+//! Why a certificate's text is refused, and where.
+ghost use Rattle.std.specs.Prelude.{◌≡◌, ◌+◌, ◌≤◌, ◌++◌, length, decimal, Some};
+ghost use Rattle.arrayvec.specs.ArrayVec.{array_vec_len};
+ghost use Rattle.dc_cert.specs.declared.fault.CertFault.TheVariants.{Memory, Unreadable};
+ghost use Rattle.dc_cert.specs.Faults.{code_text, place_text, fault_text};
+
+use arrayvec::ArrayVec;
+use itoa::Buffer;
+use std::alloc::{AllocError, AllocFailed};
+use std::fmt;
+use thiserror::Error;
+
+/// What is wrong with a certificate's text.
+#[derive(Clone, Copy, Debug, PartialEq, Eq, Error)]
+pub enum Code {
+    /// The text is over its limit, not UTF-8, or no JSON text with nothing after it.
+    #[error("the text is too long, not UTF-8, or no JSON text with nothing after it")]
+    K1,
+    /// `version` is absent or not the number 1.
+    #[error("`version` is absent or not the number 1")]
+    K2,
+    /// A wanted key is absent.
+    #[error("a wanted key is absent")]
+    K3,
+    /// A key is unknown.
+    #[error("a key is unknown")]
+    K4,
+    /// A value is not of its kind, or a number is not a whole one from 0 to 4,294,967,295.
+    #[error("a value is not of its kind, or a number is not a whole one from 0 to 4294967295")]
+    K5,
+    /// A list has more than 1,024 members, or a name is not in its spelling.
+    #[error("a list has more than 1024 members, or a name is not 1 to 16 of A-Z a-z 0-9 _ -")]
+    K6,
+}
+
+/// A short text, as bytes.
+pub type ShortText = ArrayVec<u8, 64>;
+
+// Puts bytes at the end.
+fn append(text: &mut ShortText, bytes: &[u8])
+    requires { array_vec_len text.old + length bytes.now ≤ 64 }
+    ensures items { text.new.items ≡ text.old.items ++ bytes.now }
+    ensures len { array_vec_len text.new ≡ array_vec_len text.old + length bytes.now }
+{
+    let _ = text.try_extend_from_slice(bytes);
+}
+
+impl Code {
+    // The code, as `K5`.
+    fn text(self) -> &'static [u8]
+        ensures text { result.now ≡ code_text self }
+        ensures short { length result.now ≤ 2 }
+    {
+        match self {
+            Code::K1 => b"K1",
+            Code::K2 => b"K2",
+            Code::K3 => b"K3",
+            Code::K4 => b"K4",
+            Code::K5 => b"K5",
+            Code::K6 => b"K6",
+        }
+    }
+
+    /// The fault with this code at a place.
+    pub(crate) fn at(self, place: Place) -> Fault
+        ensures { result ≡ record { code = self; place = place } }
+    {
+        Fault { code: self, place }
+    }
+}
+
+/// Where a certificate's text is wrong.
+#[derive(Clone, Copy, Debug, PartialEq, Eq)]
+pub enum Place {
+    /// The text as a whole, or its outermost object.
+    Top,
+    /// The input with this index, from 0.
+    Inputs(usize),
+    /// The output with this index, from 0.
+    Outputs(usize),
+    /// The label with this index, from 0.
+    Labels(usize),
+}
+
+impl fmt::Display for Place {
+    ghost output = { λ place. Some (place_text place) };
+
+    fn fmt<W: fmt::Write>(&self, f: &mut fmt::Formatter<W>) -> fmt::Result {
+        match self {
+            Place::Top => write!(f, "top"),
+            Place::Inputs(index) => write!(f, "inputs {index}"),
+            Place::Outputs(index) => write!(f, "outputs {index}"),
+            Place::Labels(index) => write!(f, "labels {index}"),
+        }
+    }
+}
+
+// Puts the name of a list and an index at the end.
+fn append_index(text: &mut ShortText, list: &[u8], index: usize)
+    requires { (array_vec_len text.old ≤ 10) × (length list.now ≤ 10) }
+    ensures { text.new.items ≡ text.old.items ++ list.now ++ decimal index }
+{
+    append(text, list);
+    let mut buffer = Buffer::new();
+    append(text, buffer.format(index).as_bytes());
+}
+
+/// The first fault of a certificate's text.
+#[derive(Clone, Copy, Debug, PartialEq, Eq, Error)]
+#[error("{place}: {code}")]
+pub struct Fault {
+    /// What is wrong.
+    pub code: Code,
+    /// Where it is wrong.
+    pub place: Place,
+}
+
+impl Fault {
+    /// The code and the place in short, as `K5 at inputs 0` or `K1 at top`.
+    pub fn short_text(self) -> ShortText
+        ensures { result.items ≡ fault_text self }
+    {
+        let mut text = ShortText::new();
+        append(&mut text, self.code.text());
+        append(&mut text, b" at ");
+        match self.place {
+            Place::Top => append(&mut text, b"top"),
+            Place::Inputs(index) => append_index(&mut text, b"inputs ", index),
+            Place::Outputs(index) => append_index(&mut text, b"outputs ", index),
+            Place::Labels(index) => append_index(&mut text, b"labels ", index),
+        }
+        text
+    }
+}
+
+/// Why a certificate could not be read.
+#[derive(Clone, Copy, Debug, PartialEq, Eq, Error)]
+pub enum CertFault {
+    /// An allocation failed.
+    #[error("out of memory")]
+    Memory,
+    /// The text is no certificate.
+    #[error(transparent)]
+    Unreadable(Fault),
+}
+
+impl From<Fault> for CertFault {
+    ghost from_gives = { λ fault e. e ≡ Unreadable fault };
+
+    fn from(fault: Fault) -> CertFault {
+        CertFault::Unreadable(fault)
+    }
+}
+
+impl From<AllocError> for CertFault {
+    ghost from_gives = { λ _ e. e ≡ Memory };
+
+    fn from(_error: AllocError) -> CertFault {
+        CertFault::Memory
+    }
+}
+
+impl<T: Drop> From<AllocFailed<T>> for CertFault {
+    ghost from_gives = { λ _ e. e ≡ Memory };
+
+    fn from(_error: AllocFailed<T>) -> CertFault {
+        CertFault::Memory
+    }
+}

@@ -1,0 +1,136 @@
+//! The three kinds of rows: how each is read from a JSON value, and which JSON value it is.
+ghost use Rattle.std.specs.Prelude.{◌≡◌, ℕ, Result, IfOk};
+ghost use Rattle.serde_json.specs.Data.{Data};
+ghost use Rattle.serde_json.specs.View.{view};
+ghost use Rattle.dc_cert.specs.declared.fault.Fault.{Fault as SpecFault};
+ghost use Rattle.dc_cert.specs.Claims.{InputClaim, OutputClaim, LabelClaim, input_claim, output_claim, label_claim};
+ghost use Rattle.dc_cert.specs.Faults.{Gives};
+ghost use Rattle.dc_cert.specs.Reading.{input_of, output_of, label_of};
+ghost use Rattle.dc_cert.specs.Limits.{InputFits, OutputFits, LabelFits};
+ghost use Rattle.dc_cert.specs.Printing.{input_data, output_data, label_data};
+
+use crate::certificate::{InputRow, LabelRow, OutputRow};
+use crate::fault::{CertFault, Place};
+use crate::keys::{name, number, object, shape};
+use serde_json::{Value, json};
+use std::alloc::{AllocError, Global};
+
+/// A member of one of a certificate's lists.
+pub trait Row: Drop {
+    // What a row says.
+    ghost Claim: { Type 0 };
+
+    // The claim of a row.
+    ghost claim: { Self → Claim };
+
+    // The claim that a JSON value with its index is, or its first fault.
+    ghost claim_of: { ℕ → Data → Result Claim SpecFault };
+
+    // The JSON value that a claim is.
+    ghost printed: { Claim → Data };
+
+    // The claim's numbers have 32 bits.
+    ghost fits: { Claim → Type 0 };
+
+    /// The row that a JSON value is, with its index in the list.
+    fn read(alloc: Global, value: &Value, index: usize) -> Result<Self, CertFault>
+        ensures { Gives claim result (claim_of index (view value.now)) };
+
+    /// The JSON value that a row is.
+    fn value(&self, alloc: Global) -> Result<Value, AllocError>
+        ensures value { IfOk result (λ v. view v ≡ printed (claim self.now)) }
+        ensures numbers { IfOk result (λ _. fits (claim self.now)) };
+}
+
+impl Row for InputRow {
+    ghost Claim = { InputClaim };
+
+    ghost claim = { input_claim };
+
+    ghost claim_of = { input_of };
+
+    ghost printed = { input_data };
+
+    ghost fits = { InputFits };
+
+    #[tactic(auto, unfolding(crate::specs::Reading::input_of))]
+    fn read(alloc: Global, value: &Value, index: usize) -> Result<Self, CertFault> {
+        let place = Place::Inputs(index);
+        let members = object(value, place)?;
+        shape(members, &["bus", "window", "backlog", "delay"], place)?;
+        let bus = name(members, "bus", place)?;
+        let window = number(members, "window", place)?;
+        let backlog = number(members, "backlog", place)?;
+        let delay = number(members, "delay", place)?;
+        Ok(InputRow {
+            bus: String::from_str(alloc, bus)?,
+            window,
+            backlog,
+            delay,
+        })
+    }
+
+    fn value(&self, alloc: Global) -> Result<Value, AllocError> {
+        json!(in alloc; {"backlog": self.backlog, "bus": &self.bus, "delay": self.delay, "window": self.window})
+    }
+}
+
+impl Row for OutputRow {
+    ghost Claim = { OutputClaim };
+
+    ghost claim = { output_claim };
+
+    ghost claim_of = { output_of };
+
+    ghost printed = { output_data };
+
+    ghost fits = { OutputFits };
+
+    #[tactic(auto, unfolding(crate::specs::Reading::output_of))]
+    fn read(alloc: Global, value: &Value, index: usize) -> Result<Self, CertFault> {
+        let place = Place::Outputs(index);
+        let members = object(value, place)?;
+        shape(members, &["output", "window", "delay"], place)?;
+        let output = name(members, "output", place)?;
+        let window = number(members, "window", place)?;
+        let delay = number(members, "delay", place)?;
+        Ok(OutputRow {
+            output: String::from_str(alloc, output)?,
+            window,
+            delay,
+        })
+    }
+
+    fn value(&self, alloc: Global) -> Result<Value, AllocError> {
+        json!(in alloc; {"delay": self.delay, "output": &self.output, "window": self.window})
+    }
+}
+
+impl Row for LabelRow {
+    ghost Claim = { LabelClaim };
+
+    ghost claim = { label_claim };
+
+    ghost claim_of = { label_of };
+
+    ghost printed = { label_data };
+
+    ghost fits = { LabelFits };
+
+    #[tactic(auto, unfolding(crate::specs::Reading::label_of))]
+    fn read(alloc: Global, value: &Value, index: usize) -> Result<Self, CertFault> {
+        let place = Place::Labels(index);
+        let members = object(value, place)?;
+        shape(members, &["label", "age"], place)?;
+        let label = name(members, "label", place)?;
+        let age = number(members, "age", place)?;
+        Ok(LabelRow {
+            label: String::from_str(alloc, label)?,
+            age,
+        })
+    }
+
+    fn value(&self, alloc: Global) -> Result<Value, AllocError> {
+        json!(in alloc; {"age": self.age, "label": &self.label})
+    }
+}

@@ -1,0 +1,13 @@
+use Rattle.std.proofs.Common.{subst}
+use Rattle.dc_cert.specs.Claims.{claims_of}
+use Rattle.dc_check.proofs.Whole.{claims_hold}
+use Rattle.dc_check.specs.Accepts.{Accepts}
+use Rattle.dc_check.specs.Certified.{KeepsItsClaims}
+use Rattle.dc_check.specs.Lent.{certificate_of}
+use Rattle.dc_tables.specs.TableRows.{TableRows}
+use Rattle.dc_check.proofs.certified.Certified.keeps_its_claims.Goals as goal
+
+pub returns-clause-claims : goal.returns-clause-claims
+returns-clause-claims c =
+    let P : TableRows → Type 0 = λ t. Accepts t (claims_of (certificate_of c.args.self.now)) → KeepsItsClaims t (claims_of (certificate_of c.args.self.now)) in
+    subst P c.deref.ensures (λ ok. claims_hold c.deref.result.now c.valid.ensures (claims_of (certificate_of c.args.self.now)) ok) c.args.self.now.accepted

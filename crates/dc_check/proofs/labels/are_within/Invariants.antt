@@ -1,0 +1,10 @@
+use Rattle.std.proofs.Common.{◌≡◌, ◌+◌, true, take}
+use Rattle.std.specs.Prelude.{nat_le}
+use Rattle.std.specs.List.{list_all}
+use Rattle.dc_cert.specs.Bounds.{certificate_rows}
+use Rattle.dc_check.specs.Accepts.{source_delay}
+use Rattle.dc_tables.specs.TableRows.{stream_row, label_row}
+use Rattle.dc_check.proofs.labels.are_within.Given as goal
+
+abbrev pub invariant-loop-stream : goal.invariant-loop-stream
+invariant-loop-stream l = list_all (λ s. nat_le ((label_row l.tables l.label).stale + source_delay l.tables (certificate_rows l.certificate) s) l.age) (take l.stream-index l.sources) ≡ true

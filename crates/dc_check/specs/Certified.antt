@@ -1,0 +1,19 @@
+-- What an accepted certificate means: the certification theorem.
+use Rattle.std.specs.Prelude.{List}
+use Rattle.dc_cert.specs.Bounds.{numbers_of}
+use Rattle.dc_cert.specs.Claims.{Claims}
+use Rattle.dc_check.specs.Accepts.{Accepts}
+use Rattle.dc_event.specs.Admissible.{IsAdmissible}
+use Rattle.dc_event.specs.Claims.{ClaimsHold}
+use Rattle.dc_event.specs.declared.event.Event.{Event}
+use Rattle.dc_tables.specs.TableRows.{TableRows}
+
+-- In every admissible run of the tables the certificate's claims hold, at each event: no receive queue overruns, a word
+-- that leaves is the fallback or copies one that is at most the label's age old, a live first source is used, and each
+-- label keeps its intervals.
+abbrev pub KeepsItsClaims : TableRows → Claims → Type 0
+KeepsItsClaims t claims = (run : List Event) → IsAdmissible t run → ClaimsHold t (numbers_of claims).ages run
+
+-- each certificate that is accepted for the tables keeps its claims
+abbrev pub AcceptedKeepTheirClaims : TableRows → Type 0
+AcceptedKeepTheirClaims t = (claims : Claims) → Accepts t claims → KeepsItsClaims t claims

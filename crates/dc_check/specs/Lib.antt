@@ -1,0 +1,5 @@
+-- When a certificate is accepted, what the verdict on it is, and what an accepted one means.
+pub mod Accepts
+pub mod Verdict
+pub mod Certified
+pub mod Lent

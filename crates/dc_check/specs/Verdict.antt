@@ -1,0 +1,178 @@
+-- The verdict on a certificate: the first rule that it breaks.
+use Rattle.std.specs.Prelude.{◌≡◌, ℕ, ◌+◌, ◌-◌, Bool, ◌==◌, ◌&&◌, not, if◌then◌else◌, nat_le, nat_lt, zero, suc, Option, None, Some, List, [], ◌∷◌, length, map, slice_index, string_bytes}
+use Rattle.std.specs.Cmp.Lexicographic.{pointwise}
+use Rattle.std.specs.List.{list_all}
+use Rattle.std.specs.Option.{option_or}
+use Rattle.std.specs.Str.{bytes_eq}
+use Rattle.dc_bound.specs.Places.{when, or_else}
+use Rattle.dc_cert.specs.Bounds.{InputBound, OutputBound, CertificateRows, input_bound, output_bound, numbers_of}
+use Rattle.dc_cert.specs.Claims.{Claims}
+use Rattle.dc_check.specs.Accepts.{gaps_of, label_delay, source_delay}
+use Rattle.dc_check.specs.declared.fault.CheckFault.{CheckFault}
+use Rattle.dc_check.specs.declared.fault.Code.{Code}
+use Rattle.dc_check.specs.declared.fault.Code.TheVariants.{C01, C02, C03, C04, C05, C06, C07, C08, C09, C10, C11, C12}
+use Rattle.dc_check.specs.declared.fault.Part.{Part}
+use Rattle.dc_check.specs.declared.fault.Part.TheVariants.{Inputs, Outputs, Labels}
+use Rattle.dc_tables.specs.Names.{text_of}
+use Rattle.dc_tables.specs.TableRows.{TableRows, bus_row, stream_row, label_row, bus_cap, bus_floor, output_cap, output_floor}
+
+-- ---- faults
+
+-- a fault at a part of the certificate
+abbrev pub fault_at : Part → ℕ → Code → ℕ → CheckFault
+fault_at part index code window = record { code = code; part = part; index = index; window = window }
+
+-- a rule that names no window: this fault, unless the test holds
+unfoldable pub unless : Bool → CheckFault → Option CheckFault
+unless holds fault = if holds then None else Some fault
+
+-- a rule that names the first window that fails, if any does
+unfoldable pub at_window : Part → ℕ → Code → Option ℕ → Option CheckFault
+at_window part index code None = None
+at_window part index code (Some w) = Some (fault_at part index code w)
+
+-- the first fault of rules in their order
+abbrev pub first_of : List (Option CheckFault) → Option CheckFault
+first_of [] = None
+first_of (rule ∷ rules) = option_or rule (first_of rules)
+
+-- ---- tests of a window
+
+abbrev pub is_window : ℕ → Bool
+is_window window = nat_le 1 window && nat_le window 100000
+
+abbrev pub is_delay : ℕ → Bool
+is_delay delay = nat_le delay 100000
+
+-- as many are taken in the window's ticks but the first as come in all of them
+abbrev pub is_closing : (cap floor : ℕ → ℕ) → ℕ → Bool
+is_closing cap floor window = nat_le (cap window) (floor (window - 1))
+
+-- the first w from 1 to n that fails the test
+abbrev pub first_failing : (ℕ → Bool) → ℕ → Option ℕ
+first_failing test zero = None
+first_failing test (suc n) = or_else (first_failing test n) (when (not (test (suc n))) (suc n))
+
+-- the first w of the window in which more may come, less those taken in w - 2 ticks, than the backlog
+unfoldable pub backlog_failure : (cap floor : ℕ → ℕ) (window backlog : ℕ) → Option ℕ
+backlog_failure cap floor window backlog = first_failing (λ w. nat_le (cap w - floor (w - 2)) backlog) window
+
+-- the first w of the window in which more may come than are taken in w - 1 + delay ticks
+unfoldable pub delay_failure : (cap floor : ℕ → ℕ) (window delay : ℕ) → Option ℕ
+delay_failure cap floor window delay = first_failing (λ w. nat_le (cap w) (floor (w - 1 + delay))) window
+
+-- ---- names
+
+-- whether the names are those of so many rows of the tables, in order
+abbrev pub is_named : ℕ → List (List ℕ) → List (List ℕ) → Bool
+is_named count names keys = length names == count && pointwise bytes_eq names (map text_of keys)
+
+-- the rules on names
+abbrev pub name_rules : TableRows → Claims → List (Option CheckFault)
+name_rules t claims =
+    unless (is_named (length t.buses) (map (λ i. i.bus) claims.inputs) t.keys.buses) (fault_at Inputs 0 C01 0)
+    ∷ unless (is_named (length t.outputs) (map (λ o. o.output) claims.outputs) t.keys.outputs) (fault_at Outputs 0 C01 0)
+    ∷ unless (is_named (length t.labels) (map (λ l. l.label) claims.labels) t.keys.labels) (fault_at Labels 0 C01 0)
+    ∷ []
+
+-- the fault of the names, if any
+abbrev pub misnaming : TableRows → Claims → Option CheckFault
+misnaming t claims = first_of (name_rules t claims)
+
+-- as many of each part as the tables have
+pub record IsSized (t : TableRows) (c : CertificateRows) : Type 0 where
+  pub inputs : length c.inputs ≡ length t.buses
+  pub outputs : length c.outputs ≡ length t.outputs
+  pub labels : length c.ages ≡ length t.labels
+
+-- ---- an input, an output, a label
+
+-- the rules on ranges
+abbrev pub range_rules : Part → ℕ → (window delay : ℕ) → List (Option CheckFault)
+range_rules part index window delay =
+    unless (is_window window) (fault_at part index C02 0)
+    ∷ unless (is_delay delay) (fault_at part index C07 0)
+    ∷ []
+
+-- the first window that fails for an input's backlog; for its delay; for an output's delay
+abbrev pub input_backlog_failure : TableRows → ℕ → InputBound → Option ℕ
+input_backlog_failure t b c = backlog_failure (bus_cap t b) (bus_floor t b) c.window c.backlog
+
+abbrev pub input_delay_failure : TableRows → ℕ → InputBound → Option ℕ
+input_delay_failure t b c = delay_failure (bus_cap t b) (bus_floor t b) c.window c.delay
+
+abbrev pub output_delay_failure : TableRows → ℕ → OutputBound → Option ℕ
+output_delay_failure t o c = delay_failure (output_cap t o) (output_floor t o) c.window c.delay
+
+-- the rules on an input, with its first failing windows
+abbrev pub input_rules : TableRows → ℕ → InputBound → List (Option CheckFault)
+input_rules t b c =
+    unless (is_closing (bus_cap t b) (bus_floor t b) c.window) (fault_at Inputs b C03 0)
+    ∷ at_window Inputs b C04 (input_backlog_failure t b c)
+    ∷ unless (nat_le c.backlog (bus_row t b).queue) (fault_at Inputs b C05 0)
+    ∷ at_window Inputs b C06 (input_delay_failure t b c)
+    ∷ []
+
+abbrev pub output_rules : TableRows → ℕ → OutputBound → List (Option CheckFault)
+output_rules t o c =
+    unless (is_closing (output_cap t o) (output_floor t o) c.window) (fault_at Outputs o C03 0)
+    ∷ at_window Outputs o C06 (output_delay_failure t o c)
+    ∷ []
+
+abbrev pub label_rules : TableRows → ℕ → CertificateRows → List (Option CheckFault)
+label_rules t x c =
+    unless (list_all (λ g. nat_le ((label_row t x).least + label_delay t c x) g) (gaps_of t x)) (fault_at Labels x C08 0)
+    ∷ unless (list_all (λ g. nat_le (g + label_delay t c x) (label_row t x).greatest) (gaps_of t x)) (fault_at Labels x C09 0)
+    ∷ unless (list_all (λ s. nat_le ((label_row t x).stale + source_delay t c s) (slice_index c.ages x)) (label_row t x).sources) (fault_at Labels x C10 0)
+    ∷ unless (nat_le (slice_index c.ages x) (label_row t x).oldest) (fault_at Labels x C11 0)
+    ∷ unless (list_all (λ s. nat_le (source_delay t c s + (stream_row t s).maximum) (label_row t x).stale) (label_row t x).sources) (fault_at Labels x C12 0)
+    ∷ []
+
+-- ---- jobs: the inputs, the outputs and the labels in one row, from 0
+
+abbrev pub job_count : TableRows → ℕ
+job_count t = length t.buses + length t.outputs + length t.labels
+
+-- what the rules on ranges say of a job
+abbrev pub job_ranges : TableRows → CertificateRows → ℕ → Option CheckFault
+job_ranges t c job =
+    let inputs = length t.buses in
+    let outputs = length t.outputs in
+    if nat_lt job inputs then first_of (range_rules Inputs job (input_bound c job).window (input_bound c job).delay)
+    else if nat_lt job (inputs + outputs) then first_of (range_rules Outputs (job - inputs) (output_bound c (job - inputs)).window (output_bound c (job - inputs)).delay)
+    else None
+
+-- what the other rules say of it
+abbrev pub job_rules : TableRows → CertificateRows → ℕ → Option CheckFault
+job_rules t c job =
+    let inputs = length t.buses in
+    let outputs = length t.outputs in
+    if nat_lt job inputs then first_of (input_rules t job (input_bound c job))
+    else if nat_lt job (inputs + outputs) then first_of (output_rules t (job - inputs) (output_bound c (job - inputs)))
+    else first_of (label_rules t (job - (inputs + outputs)) c)
+
+-- the first fault of a job
+unfoldable pub job_verdict : TableRows → CertificateRows → ℕ → Option CheckFault
+job_verdict t c job = option_or (job_ranges t c job) (job_rules t c job)
+
+-- the windows that a job's rules name: for its backlog, where it is an input; for its delay, where it is no label
+abbrev pub job_backlog_failure : TableRows → CertificateRows → ℕ → Option ℕ
+job_backlog_failure t c job = if nat_lt job (length t.buses) then input_backlog_failure t job (input_bound c job) else None
+
+abbrev pub job_delay_failure : TableRows → CertificateRows → ℕ → Option ℕ
+job_delay_failure t c job =
+    let inputs = length t.buses in
+    if nat_lt job inputs then input_delay_failure t job (input_bound c job)
+    else if nat_lt job (inputs + length t.outputs) then output_delay_failure t (job - inputs) (output_bound c (job - inputs))
+    else None
+
+-- ---- the verdict
+
+-- the first fault of the jobs below n
+unfoldable pub first_job_fault : (ℕ → Option CheckFault) → ℕ → Option CheckFault
+first_job_fault verdict zero = None
+first_job_fault verdict (suc n) = option_or (first_job_fault verdict n) (verdict n)
+
+-- the first fault of a certificate for the tables: of its names, then of its jobs in their order
+unfoldable pub verdict_of : TableRows → Claims → Option CheckFault
+verdict_of t claims = option_or (misnaming t claims) (first_job_fault (job_verdict t (numbers_of claims)) (job_count t))

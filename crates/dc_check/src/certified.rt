@@ -1,0 +1,58 @@
+//! Tables with a certificate that is accepted for them.
+
+ghost use Rattle.std.specs.Prelude.{◌≡◌};
+ghost use Rattle.std.specs.Arc.{arc_value};
+ghost use Rattle.dc_cert.specs.Claims.{claims_of};
+ghost use Rattle.dc_check.specs.Accepts.{Accepts};
+ghost use Rattle.dc_check.specs.Certified.{KeepsItsClaims};
+
+use dc_cert::Certificate;
+use dc_tables::Tables;
+use std::sync::Arc;
+
+/// Tables with a certificate that is accepted for them. Who holds one has what the certificate claims, in every
+/// admissible run of the tables.
+#[derive(Drop)]
+pub struct Certified {
+    tables: Arc<Tables>,
+    certificate: Certificate,
+    ghost accepted: { Accepts (arc_value tables) (claims_of certificate) },
+}
+
+impl Certified {
+    ghost use Rattle.dc_check.specs.Lent.{tables_of, certificate_of};
+
+    /// Tables and a certificate that is accepted for them.
+    pub(crate) fn new(tables: Arc<Tables>, certificate: Certificate) -> Certified
+        requires { Accepts (arc_value tables) (claims_of certificate) }
+        ensures tables { tables_of result ≡ arc_value tables }
+        ensures certificate { certificate_of result ≡ certificate }
+    {
+        Certified {
+            tables,
+            certificate,
+        }
+    }
+
+    /// The tables that were handed in.
+    pub fn tables(&self) -> &Tables
+        ensures { result.now ≡ tables_of self.now }
+    {
+        &self.tables
+    }
+
+    /// The certificate that was handed in.
+    pub fn certificate(&self) -> &Certificate
+        ensures { result.now ≡ certificate_of self.now }
+    {
+        &self.certificate
+    }
+
+    /// What the certificate claims holds in every admissible run of the tables. The call does nothing.
+    pub fn keeps_its_claims(&self)
+        ensures accepted { Accepts (tables_of self.now) (claims_of (certificate_of self.now)) }
+        ensures claims { KeepsItsClaims (tables_of self.now) (claims_of (certificate_of self.now)) }
+    {
+        self.tables.valid();
+    }
+}

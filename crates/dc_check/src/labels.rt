@@ -1,0 +1,121 @@
+//! The rules on a label: its gaps, the age of its data, and sources that stay fresh.
+
+ghost use Rattle.std.specs.Prelude.{◌≡◌, ℕ, ◌+◌, ◌<◌, ◌≤◌, length, nat_le};
+ghost use Rattle.std.specs.List.{list_all};
+ghost use Rattle.dc_cert.specs.Bounds.{certificate_rows, input_bound, output_bound};
+ghost use Rattle.dc_check.specs.Accepts.{gaps_of, source_delay};
+ghost use Rattle.dc_check.specs.Verdict.{IsSized, first_of, label_rules};
+ghost use Rattle.dc_tables.specs.TableRows.{stream_row, label_row};
+
+use crate::fault::{CheckFault, Code, Part};
+use crate::rules::{fault, fault_unless, first_fault};
+use dc_cert::Certificate;
+use dc_tables::Tables;
+use dc_transmit::Schedule;
+
+/// The first fault of a label.
+pub(crate) fn label_fault(
+    tables: &Tables,
+    certificate: &Certificate,
+    label: usize,
+) -> Option<CheckFault>
+    requires sized { IsSized tables.now (certificate_rows certificate.now) }
+    requires there { label < length tables.now.labels }
+    ensures { result ≡ first_of (label_rules tables.now label (certificate_rows certificate.now)) }
+{
+    tables.valid();
+    let delay = certificate.outputs[tables.label(label).output].delay;
+    let age = certificate.labels[label].age;
+    first_fault(&[
+        fault_unless(
+            are_not_soon(tables, label, delay),
+            fault(Part::Labels, label, Code::C08),
+        ),
+        fault_unless(
+            are_not_late(tables, label, delay),
+            fault(Part::Labels, label, Code::C09),
+        ),
+        fault_unless(
+            are_within(tables, certificate, label, age),
+            fault(Part::Labels, label, Code::C10),
+        ),
+        fault_unless(
+            age <= tables.label(label).oldest,
+            fault(Part::Labels, label, Code::C11),
+        ),
+        fault_unless(
+            stay_fresh(tables, certificate, label),
+            fault(Part::Labels, label, Code::C12),
+        ),
+    ])
+}
+
+/// Whether neighbouring entries of a label lie at least its least interval and the delay apart, round the frame.
+fn are_not_soon(tables: &Tables, label: usize, delay: u32) -> bool
+    requires { label < length tables.now.labels }
+    ensures { result ≡ list_all (λ g. nat_le ((label_row tables.now label).least + delay) g) (gaps_of tables.now label) }
+{
+    tables.valid();
+    let row = tables.label(label);
+    let schedule = Schedule::of(tables, row.output);
+    u64::from(row.least) + u64::from(delay) <= schedule.min_gap(label)
+}
+
+/// Whether they lie, with the delay, at most its greatest interval apart.
+fn are_not_late(tables: &Tables, label: usize, delay: u32) -> bool
+    requires { label < length tables.now.labels }
+    ensures { result ≡ list_all (λ g. nat_le (g + delay) (label_row tables.now label).greatest) (gaps_of tables.now label) }
+{
+    tables.valid();
+    let row = tables.label(label);
+    let schedule = Schedule::of(tables, row.output);
+    let greatest = u64::from(row.greatest);
+    let delay = u64::from(delay);
+    delay <= greatest && schedule.max_gap(label) <= greatest - delay
+}
+
+/// Whether the age is long enough for the oldest word that the label still copies, from whichever source.
+fn are_within(tables: &Tables, certificate: &Certificate, label: usize, age: u32) -> bool
+    requires sized { IsSized tables.now (certificate_rows certificate.now) }
+    requires there { label < length tables.now.labels }
+    ensures { result ≡ list_all (λ s. nat_le ((label_row tables.now label).stale + source_delay tables.now (certificate_rows certificate.now) s) age) (label_row tables.now label).sources }
+{
+    tables.valid();
+    let row = tables.label(label);
+    let sources = row.sources.as_slice();
+    for stream in sources {
+        let delay = delay_of(tables, certificate, *stream);
+        if u64::from(row.stale) + u64::from(delay) > u64::from(age) {
+            return false;
+        }
+    }
+    true
+}
+
+/// Whether the label's stale limit is long enough for each of its sources that keeps sending.
+fn stay_fresh(tables: &Tables, certificate: &Certificate, label: usize) -> bool
+    requires sized { IsSized tables.now (certificate_rows certificate.now) }
+    requires there { label < length tables.now.labels }
+    ensures { result ≡ list_all (λ s. nat_le (source_delay tables.now (certificate_rows certificate.now) s + (stream_row tables.now s).maximum) (label_row tables.now label).stale) (label_row tables.now label).sources }
+{
+    tables.valid();
+    let row = tables.label(label);
+    let sources = row.sources.as_slice();
+    for stream in sources {
+        let delay = delay_of(tables, certificate, *stream);
+        let maximum = tables.stream(*stream).maximum;
+        if u64::from(delay) + u64::from(maximum) > u64::from(row.stale) {
+            return false;
+        }
+    }
+    true
+}
+
+/// The delay that the certificate claims of a stream's bus.
+fn delay_of(tables: &Tables, certificate: &Certificate, stream: usize) -> u32
+    requires sized { IsSized tables.now (certificate_rows certificate.now) }
+    requires there { stream < length tables.now.streams }
+    ensures { result ≡ source_delay tables.now (certificate_rows certificate.now) stream }
+{
+    certificate.inputs[tables.bus_of(stream)].delay
+}

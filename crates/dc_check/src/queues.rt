@@ -1,0 +1,130 @@
+//! The rules on an input and on an output, by the bounds of their queues.
+
+ghost use Rattle.std.specs.Prelude.{◌≡◌, ℕ, ◌+◌, ◌<◌, ◌≤◌, length, None};
+ghost use Rattle.dc_cert.specs.Bounds.{certificate_rows, input_bound, output_bound};
+ghost use Rattle.dc_check.specs.Verdict.{IsSized, first_of, range_rules, input_rules, output_rules, input_backlog_failure, input_delay_failure, output_delay_failure, job_verdict};
+ghost use Rattle.dc_check.specs.declared.fault.Part.TheVariants.{Inputs, Outputs};
+ghost use Rattle.dc_tables.specs.TableRows.{bus_cap, bus_floor, output_cap, output_floor};
+
+use crate::fault::{CheckFault, Code, Part};
+use crate::rules::{
+    closing_fault, fault, fault_unless, first_fault, first_overdue, first_overfull, range_fault,
+    window_fault,
+};
+use dc_bound::{ArrivalBound, ServiceBound};
+use dc_cert::Certificate;
+use dc_tables::Tables;
+
+/// The first fault of an input but those of its ranges, given the bounds of its bus and its first failing windows.
+pub(crate) fn input_fault<A: ArrivalBound, S: ServiceBound>(
+    tables: &Tables,
+    certificate: &Certificate,
+    bus: usize,
+    arrivals: &A,
+    service: &S,
+    first_backlog: Option<u32>,
+    first_delay: Option<u32>,
+) -> Option<CheckFault>
+    requires sized { IsSized tables.now (certificate_rows certificate.now) }
+    requires there { bus < length tables.now.buses }
+    requires ranges { first_of (range_rules Inputs bus (input_bound (certificate_rows certificate.now) bus).window (input_bound (certificate_rows certificate.now) bus).delay) ≡ None }
+    requires arrivals { (d : ℕ) → A.cap arrivals.now d ≡ bus_cap tables.now bus d }
+    requires service { (d : ℕ) → S.floor service.now d ≡ bus_floor tables.now bus d }
+    requires first_backlog { first_backlog ≡ input_backlog_failure tables.now bus (input_bound (certificate_rows certificate.now) bus) }
+    requires first_delay { first_delay ≡ input_delay_failure tables.now bus (input_bound (certificate_rows certificate.now) bus) }
+    ensures { result ≡ first_of (input_rules tables.now bus (input_bound (certificate_rows certificate.now) bus)) }
+{
+    let window = certificate.inputs[bus].window;
+    let backlog = certificate.inputs[bus].backlog;
+    first_fault(&[
+        closing_fault(Part::Inputs, bus, arrivals, service, window),
+        window_fault(Part::Inputs, bus, Code::C04, first_backlog),
+        fault_unless(
+            backlog <= tables.queue(bus),
+            fault(Part::Inputs, bus, Code::C05),
+        ),
+        window_fault(Part::Inputs, bus, Code::C06, first_delay),
+    ])
+}
+
+/// The first fault of an output but those of its ranges, given its bounds and its first failing window.
+pub(crate) fn output_fault<A: ArrivalBound, S: ServiceBound>(
+    tables: &Tables,
+    certificate: &Certificate,
+    output: usize,
+    arrivals: &A,
+    service: &S,
+    first_delay: Option<u32>,
+) -> Option<CheckFault>
+    requires sized { IsSized tables.now (certificate_rows certificate.now) }
+    requires there { output < length tables.now.outputs }
+    requires ranges { first_of (range_rules Outputs output (output_bound (certificate_rows certificate.now) output).window (output_bound (certificate_rows certificate.now) output).delay) ≡ None }
+    requires arrivals { (d : ℕ) → A.cap arrivals.now d ≡ output_cap tables.now output d }
+    requires service { (d : ℕ) → S.floor service.now d ≡ output_floor tables.now output d }
+    requires first_delay { first_delay ≡ output_delay_failure tables.now output (output_bound (certificate_rows certificate.now) output) }
+    ensures { result ≡ first_of (output_rules tables.now output (output_bound (certificate_rows certificate.now) output)) }
+{
+    let window = certificate.outputs[output].window;
+    first_fault(&[
+        closing_fault(Part::Outputs, output, arrivals, service, window),
+        window_fault(Part::Outputs, output, Code::C06, first_delay),
+    ])
+}
+
+/// The first fault of an input, given the bounds of its bus.
+pub(crate) fn input_job<A: ArrivalBound, S: ServiceBound>(
+    tables: &Tables,
+    certificate: &Certificate,
+    bus: usize,
+    arrivals: &A,
+    service: &S,
+) -> Option<CheckFault>
+    requires sized { IsSized tables.now (certificate_rows certificate.now) }
+    requires there { bus < length tables.now.buses }
+    requires arrivals { (d : ℕ) → A.cap arrivals.now d ≡ bus_cap tables.now bus d }
+    requires service { (d : ℕ) → S.floor service.now d ≡ bus_floor tables.now bus d }
+    ensures { result ≡ job_verdict tables.now (certificate_rows certificate.now) bus }
+{
+    let window = certificate.inputs[bus].window;
+    let backlog = certificate.inputs[bus].backlog;
+    let delay = certificate.inputs[bus].delay;
+    let ranges = range_fault(Part::Inputs, bus, window, delay);
+    if ranges.is_some() {
+        return ranges;
+    }
+    let first_backlog = first_overfull(arrivals, service, window, backlog);
+    let first_delay = first_overdue(arrivals, service, window, delay);
+    input_fault(
+        tables,
+        certificate,
+        bus,
+        arrivals,
+        service,
+        first_backlog,
+        first_delay,
+    )
+}
+
+/// The first fault of an output, given its bounds.
+pub(crate) fn output_job<A: ArrivalBound, S: ServiceBound>(
+    tables: &Tables,
+    certificate: &Certificate,
+    output: usize,
+    arrivals: &A,
+    service: &S,
+) -> Option<CheckFault>
+    requires sized { IsSized tables.now (certificate_rows certificate.now) }
+    requires there { output < length tables.now.outputs }
+    requires arrivals { (d : ℕ) → A.cap arrivals.now d ≡ output_cap tables.now output d }
+    requires service { (d : ℕ) → S.floor service.now d ≡ output_floor tables.now output d }
+    ensures { result ≡ job_verdict tables.now (certificate_rows certificate.now) (length tables.now.buses + output) }
+{
+    let window = certificate.outputs[output].window;
+    let delay = certificate.outputs[output].delay;
+    let ranges = range_fault(Part::Outputs, output, window, delay);
+    if ranges.is_some() {
+        return ranges;
+    }
+    let first_delay = first_overdue(arrivals, service, window, delay);
+    output_fault(tables, certificate, output, arrivals, service, first_delay)
+}

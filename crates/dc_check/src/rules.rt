@@ -1,0 +1,125 @@
+//! Faults of single rules, and the first of several.
+
+ghost use Rattle.std.specs.Prelude.{◌≡◌, ℕ, ◌≤◌};
+ghost use Rattle.dc_check.specs.Verdict.{fault_at, unless, at_window, first_of, range_rules, is_closing, backlog_failure, delay_failure};
+ghost use Rattle.dc_check.specs.declared.fault.Code.TheVariants.{C03};
+
+use crate::fault::{CheckFault, Code, Part};
+use dc_bound::{ArrivalBound, ServiceBound};
+use dc_busy::{backlog_fails, closes, delay_fails};
+
+/// The longest window, and the longest delay, that a certificate may claim, in ticks.
+pub const LONGEST: u32 = 100_000;
+
+/// A fault that names no window.
+pub(crate) fn fault(part: Part, index: usize, code: Code) -> CheckFault
+    ensures { result ≡ fault_at part index code 0 }
+{
+    CheckFault {
+        code,
+        part,
+        index,
+        window: 0,
+    }
+}
+
+/// The fault, unless its rule holds.
+#[tactic(auto, unfolding(crate::specs::Verdict::unless))]
+pub(crate) fn fault_unless(holds: bool, fault: CheckFault) -> Option<CheckFault>
+    ensures { result ≡ unless holds fault }
+{
+    if holds { None } else { Some(fault) }
+}
+
+/// The fault that names the first window that fails, if there is one.
+#[tactic(auto, unfolding(crate::specs::Verdict::at_window))]
+pub(crate) fn window_fault(
+    part: Part,
+    index: usize,
+    code: Code,
+    first: Option<u32>,
+) -> Option<CheckFault>
+    ensures { result ≡ at_window part index code first }
+{
+    match first {
+        None => None,
+        Some(window) => Some(CheckFault {
+            code,
+            part,
+            index,
+            window,
+        }),
+    }
+}
+
+/// The first fault of some rules, in their order.
+pub(crate) fn first_fault(rules: &[Option<CheckFault>]) -> Option<CheckFault>
+    ensures { result ≡ first_of rules.now }
+{
+    for rule in rules {
+        if rule.is_some() {
+            return *rule;
+        }
+    }
+    None
+}
+
+/// The fault of a window or a delay that is out of range.
+pub(crate) fn range_fault(part: Part, index: usize, window: u32, delay: u32) -> Option<CheckFault>
+    ensures { result ≡ first_of (range_rules part index window delay) }
+{
+    first_fault(&[
+        fault_unless(
+            1 <= window && window <= LONGEST,
+            fault(part, index, Code::C02),
+        ),
+        fault_unless(delay <= LONGEST, fault(part, index, Code::C07)),
+    ])
+}
+
+/// The fault of a window, 1 to 100,000, that does not close.
+pub(crate) fn closing_fault<A: ArrivalBound, S: ServiceBound>(
+    part: Part,
+    index: usize,
+    arrivals: &A,
+    service: &S,
+    window: u32,
+) -> Option<CheckFault>
+    requires least { 1 ≤ window }
+    requires most { window ≤ 100000 }
+    ensures { result ≡ unless (is_closing (A.cap arrivals.now) (S.floor service.now) window) (fault_at part index C03 0) }
+{
+    fault_unless(
+        closes(arrivals, service, window),
+        fault(part, index, Code::C03),
+    )
+}
+
+/// The first window up to this one, 1 to 100,000, in which more may wait than the backlog.
+pub(crate) fn first_overfull<A: ArrivalBound, S: ServiceBound>(
+    arrivals: &A,
+    service: &S,
+    window: u32,
+    backlog: u32,
+) -> Option<u32>
+    requires least { 1 ≤ window }
+    requires most { window ≤ 100000 }
+    ensures { result ≡ backlog_failure (A.cap arrivals.now) (S.floor service.now) window backlog }
+{
+    backlog_fails(arrivals, service, window, u64::from(backlog))
+}
+
+/// The first window up to this one, 1 to 100,000, in which a word may wait longer than the delay, at most 100,000.
+pub(crate) fn first_overdue<A: ArrivalBound, S: ServiceBound>(
+    arrivals: &A,
+    service: &S,
+    window: u32,
+    delay: u32,
+) -> Option<u32>
+    requires least { 1 ≤ window }
+    requires most { window ≤ 100000 }
+    requires short { delay ≤ 100000 }
+    ensures { result ≡ delay_failure (A.cap arrivals.now) (S.floor service.now) window delay }
+{
+    delay_fails(arrivals, service, window, delay)
+}

@@ -1,0 +1,7 @@
+mod Holds
+mod Windows
+mod Standing
+mod Routing
+mod Sending
+mod Ticking
+mod Starting

@@ -1,0 +1,7 @@
+pub mod Windows
+pub mod Parts
+pub mod Standing
+pub mod Steps
+pub mod Lacking
+pub mod Fresh
+pub mod CoreSteps

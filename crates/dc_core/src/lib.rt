@@ -1,0 +1,14 @@
+//! The state machine of the whole concentrator. After every event it stands for its history: each reply is the one that
+//! the whole run calls for, and it refuses just what would break a budget.
+#![tactic(auto)]
+
+mod concentrator;
+mod fault;
+mod machine;
+mod parts;
+mod start;
+
+pub use concentrator::Core;
+pub use fault::StepFault;
+pub use machine::State;
+pub use parts::{OutputState, RouterState};

@@ -1,0 +1,164 @@
+ghost use Rattle.std.specs.Prelude.{◌≡◌, ℕ, ◌+◌, ◌<◌, ◌^◌, length, Bool, true, cond, nat_lt, Option, Some, None, slice_get, slice_set};
+ghost use Rattle.dc_queue.specs.WindowData.{WindowData, added};
+ghost use Rattle.dc_route.specs.Routing.{next_bus, queue_at, rest_of, routed};
+ghost use Rattle.dc_core.specs.Parts.{Receives, visit_reply_of, router_stepped, router_turned, output_turned, output_sent};
+
+use dc_event::Reply;
+use dc_queue::queue::WordQueue;
+use dc_queue::window::StepWindow;
+use dc_route::{Latest, Router};
+use dc_tables::Tables;
+use dc_word::Word;
+
+/// Takes a declared word into a bus's queue, unless the bus has latched. A full queue latches it.
+pub fn receive(queue: &mut WordQueue, latched: &mut bool, word: Word) -> Reply
+    ensures { Receives (record { queue = queue.old; latched = latched.old }) word result (record { queue = queue.new; latched = latched.new }) }
+{
+    if *latched {
+        return Reply::Latched;
+    }
+    match queue.put(word) {
+        Ok(backlog) => Reply::Queued(backlog),
+        Err(_) => {
+            *latched = true;
+            Reply::Overrun
+        }
+    }
+}
+
+/// The reply to a visit of the bus.
+pub fn visit_reply(bus: usize, taken: Option<Word>) -> Reply
+    ensures { result ≡ visit_reply_of bus taken }
+{
+    match taken {
+        Some(word) => Reply::Took(bus, word),
+        None => Reply::Empty(bus),
+    }
+}
+
+/// A router, with its steps of the last ticks.
+#[derive(Drop)]
+pub struct RouterState {
+    pub router: Router,
+    pub window: StepWindow,
+}
+
+impl RouterState {
+    /// Makes a step in this tick: visits the next bus. Answers the bus, and the word that was taken, if there was one.
+    pub fn step(
+        &mut self,
+        tables: &Tables,
+        queues: &mut [WordQueue],
+        latest: &mut Latest,
+        tick: u64,
+    ) -> (usize, Option<Word>)
+        requires open { self.old.window.count < self.old.window.room }
+        requires router { self.old.router.number < length tables.now.routers }
+        requires queues { length queues.old ≡ length tables.now.buses }
+        requires latest { length latest.old ≡ length tables.now.streams }
+        ensures bus { result.0 ≡ next_bus tables.now self.old.router }
+        ensures there { result.0 < length tables.now.buses }
+        ensures word { result.1 ≡ slice_get (queue_at queues.old result.0).words 0 }
+        ensures after { self.new ≡ router_stepped tables.now self.old }
+        ensures queues { queues.new ≡ slice_set queues.old result.0 (rest_of (queue_at queues.old result.0)) }
+        ensures latest { latest.new ≡ routed tables.now result.0 tick result.1 latest.old }
+    {
+        self.window.add();
+        self.router.visit(tables, queues, latest, tick)
+    }
+
+    /// Ends the tick.
+    pub fn turn(&mut self)
+        ensures { self.new ≡ router_turned self.old }
+    {
+        self.window.turn();
+    }
+}
+
+/// An output: how many entries have left, the tick of its last send, and its sends of the last ticks.
+#[derive(Drop)]
+pub struct OutputState {
+    pub sent: u64,
+    pub last: Option<u64>,
+    pub window: StepWindow,
+}
+
+impl OutputState {
+    /// Makes a send in this tick, which emits an entry or is idle.
+    pub fn send(&mut self, tick: u64, emits: bool)
+        requires open { self.old.window.count < self.old.window.room }
+        requires few { emits ≡ true → self.old.sent < 2 ^ 41 }
+        ensures { self.new ≡ output_sent self.old tick (cond emits 1 0) }
+    {
+        if emits {
+            self.sent += 1;
+        }
+        self.last = Some(tick);
+        self.window.add();
+    }
+
+    /// Ends the tick.
+    pub fn turn(&mut self)
+        ensures { self.new ≡ output_turned self.old }
+    {
+        self.window.turn();
+    }
+}
+
+#[cfg(test)]
+mod tests {
+    use super::*;
+    use std::test::Fail;
+
+    #[test]
+    fn latch_after_overrun(rt: HostRuntime) -> Result<(), Fail> {
+        let mut queue = WordQueue::new(rt.alloc(), 1)?;
+        let mut latched = false;
+        assert_eq!(rt;
+            receive(&mut queue, &mut latched, Word(7)),
+            Reply::Queued(1)
+        );
+        assert_eq!(rt; receive(&mut queue, &mut latched, Word(8)), Reply::Overrun);
+        assert_eq!(rt; receive(&mut queue, &mut latched, Word(9)), Reply::Latched);
+        assert_eq!(rt;
+            queue.take(),
+            Some(Word(7)),
+            "the first word is still taken"
+        );
+        assert_eq!(rt;
+            receive(&mut queue, &mut latched, Word(9)),
+            Reply::Latched,
+            "a latch holds"
+        );
+        Ok(())
+    }
+
+    #[test]
+    fn visits_are_told_with_their_bus(rt: HostRuntime) {
+        assert_eq!(rt; visit_reply(3, Some(Word(7))), Reply::Took(3, Word(7)));
+        assert_eq!(rt; visit_reply(3, None), Reply::Empty(3));
+    }
+
+    #[test]
+    fn idle_sends_fill_the_tick(rt: HostRuntime) -> Result<(), Fail> {
+        let window = StepWindow::new(rt.alloc(), 2, 1)?;
+        let mut output = OutputState {
+            sent: 0,
+            last: None,
+            window,
+        };
+        if !output.window.is_spent() {
+            output.send(5, false);
+        }
+        assert_eq!(rt; output.sent, 0);
+        assert_eq!(rt; output.last, Some(5));
+        assert!(rt; output.window.is_spent());
+        output.turn();
+        if !output.window.is_spent() {
+            output.send(6, true);
+        }
+        assert_eq!(rt; output.sent, 1);
+        assert_eq!(rt; output.window.total(), 2);
+        Ok(())
+    }
+}

@@ -1,0 +1,4 @@
+pub mod Bytes
+pub mod Device
+pub mod Lines
+pub mod Whole

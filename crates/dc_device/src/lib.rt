@@ -1,0 +1,18 @@
+//! Devices: where bytes come from and go to, and the lines read from and written to them through fixed buffers.
+#![tactic(auto)]
+
+mod device;
+mod memory;
+mod reader;
+#[cfg(test)]
+mod tests;
+mod whole;
+mod wrappers;
+mod writer;
+
+pub use device::{Broken, Sink, Source};
+pub use memory::{MemSink, MemSource};
+pub use reader::{BLOCK, LINE_LIMIT, Line, LineReader, Part};
+pub use whole::{Unread, read_at_most};
+pub use wrappers::{ReadSource, WriteSink};
+pub use writer::LineWriter;

@@ -1,0 +1,117 @@
+//! The lines of a source, through one fixed buffer.
+ghost use Rattle.std.specs.Prelude.{◌≡◌, ◌∷◌, [], ◌+◌, ◌^◌, ◌<◌, MatchOption, length};
+ghost use Rattle.dc_device.specs.Device.{failures_of};
+ghost use Rattle.dc_device.specs.Lines.{Fills, ReadsOn};
+
+use crate::device::{Broken, Source};
+use crate::writer::LineWriter;
+use arrayvec::ArrayVec;
+use std::marker::Model;
+
+/// How many bytes are asked of a source at a time, and are given to a sink at a time.
+pub const BLOCK: usize = 32768;
+
+/// The greatest length of a line, without its line feed.
+pub const LINE_LIMIT: usize = 64;
+
+/// A line, without its line feed.
+pub type Line = ArrayVec<u8, LINE_LIMIT>;
+
+/// How a line that was read stands.
+#[derive(Clone, Copy, Debug, PartialEq, Eq)]
+pub enum Part {
+    /// Its line feed was read.
+    Whole,
+    /// A byte was read that is past the limit of the text, or of a line.
+    Long,
+}
+
+/// Reads the lines of a source, each of at most 64 bytes, within a limit on the bytes of the whole text.
+///
+/// It reads on in the bytes that it holds, and pulls where it is told to: so its owner knows when the source is
+/// asked, and can first show what was answered so far.
+#[derive(Drop)]
+pub struct LineReader {
+    block: [u8; BLOCK],
+    at: usize,
+    end: usize,
+    room: u64,
+}
+
+impl Model for LineReader {
+    ghost use Rattle.std.specs.Prelude.{◌-◌, ◌≤◌, drop, take};
+    ghost use Rattle.dc_device.specs.Lines.{Held};
+
+    ghost Value = { Held };
+
+    ghost view = { λ r. record { bytes = take (r.end - r.at) (drop r.at r.block); room = r.room } };
+
+    ghost invariant = { λ r. (r.at ≤ r.end) × (r.end ≤ 32768) };
+}
+
+impl LineReader {
+    /// A reader that holds nothing yet and may read so many bytes.
+    pub fn new(limit: u64) -> Self
+        ensures bytes { result.bytes ≡ [] }
+        ensures room { result.room ≡ limit }
+    {
+        LineReader {
+            block: [0; BLOCK],
+            at: 0,
+            end: 0,
+            room: limit,
+        }
+    }
+
+    // The next byte of those that are held.
+    fn held_byte(&mut self) -> Option<u8>
+        ensures bytes { MatchOption result ((self.old.bytes ≡ []) × (self.new.bytes ≡ []))
+            (λ b. self.old.bytes ≡ b ∷ self.new.bytes) }
+        ensures room { self.new.room ≡ self.old.room }
+    {
+        if self.at == self.end {
+            return None;
+        }
+        let byte = self.block[self.at];
+        self.at += 1;
+        Some(byte)
+    }
+
+    /// Reads on in the line, as far as the held bytes go. None where they end before the line does: then pull more,
+    /// and call again with the same line. After `Long` neither reader nor line is of use.
+    pub fn read_on(&mut self, line: &mut Line) -> Option<Part>
+        ensures { ReadsOn self.old self.new line.old.items line.new.items result }
+    {
+        loop {
+            let byte = self.held_byte()?;
+            if self.room == 0 {
+                return Some(Part::Long);
+            }
+            self.room -= 1;
+            if byte == b'\n' {
+                return Some(Part::Whole);
+            }
+            if line.is_full() {
+                return Some(Part::Long);
+            }
+            line.push(byte);
+        }
+    }
+
+    /// Pulls the next bytes, where none is held, and says whether there were any. What was written must not wait any
+    /// more: who reads the answers sees each before the source is asked again.
+    pub fn fill<S: Source>(&mut self, source: &mut S, written: &LineWriter) -> Result<bool, Broken>
+        requires empty { self.old.bytes ≡ [] }
+        requires seen { written.now ≡ [] }
+        requires countable { S.failed source.old + 1 < 2 ^ 64 }
+        ensures bytes { Fills (S.remaining source.old) (S.remaining source.new) self.new.bytes result }
+        ensures room { self.new.room ≡ self.old.room }
+        ensures count { S.failed source.new ≡ S.failed source.old + failures_of result }
+    {
+        self.at = 0;
+        self.end = 0;
+        let n = source.pull(&mut self.block)?;
+        self.end = n;
+        Ok(n > 0)
+    }
+}

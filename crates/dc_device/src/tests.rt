@@ -1,0 +1,114 @@
+//! What no clause says: the devices over memory, each public call once, and calls that fail in mid-stream.
+use super::*;
+use std::alloc::Global;
+use std::test::Fail;
+
+#[test]
+fn a_source_gives_pieces_and_fails_once(rt: HostRuntime) {
+    let mut source = MemSource::new(b"abcdef", 4, 2);
+    let mut buf = [0; 8];
+    assert_eq!(rt; source.pull(&mut buf), Ok(4));
+    assert_eq!(rt; source.pull(&mut buf), Err(Broken));
+    assert_eq!(rt; source.pull(&mut buf), Ok(2));
+    assert_eq!(rt; source.pull(&mut buf), Ok(0));
+    assert_eq!(rt; source.failures(), 1);
+}
+
+#[test]
+fn a_sink_is_full_and_fails_once(rt: HostRuntime) -> Result<(), Fail> {
+    let mut sink = MemSink::new(rt.alloc(), 4, 2)?;
+    assert_eq!(rt; sink.push(b"ab"), Ok(2));
+    assert_eq!(rt; sink.push(b"cd"), Err(Broken));
+    assert_eq!(rt; sink.push(b"cde"), Ok(2));
+    assert_eq!(rt; sink.push(b"e"), Err(Broken));
+    assert_eq!(rt; sink.flush(), Ok(()));
+    assert_eq!(rt; sink.failures(), 2);
+    assert_eq!(rt; sink.bytes(), b"abcd".as_slice());
+    Ok(())
+}
+
+#[test]
+fn a_reader_and_a_writer_of_std_are_devices(rt: HostRuntime) -> Result<(), Fail> {
+    let mut source = ReadSource::new(b"abc".as_slice());
+    let mut buf = [0; 2];
+    assert_eq!(rt; source.pull(&mut buf), Ok(2));
+    assert_eq!(rt; source.pull(&mut buf), Ok(1));
+    assert_eq!(rt; source.pull(&mut buf), Ok(0));
+    assert_eq!(rt; source.failures(), 0);
+    let mut room = [0; 3];
+    let mut sink = WriteSink::new(room.as_mut_slice());
+    assert_eq!(rt; sink.push(b"ab"), Ok(2));
+    assert_eq!(rt; sink.push(b"cd"), Ok(1));
+    assert_eq!(rt; sink.push(b"d"), Err(Broken));
+    assert_eq!(rt; sink.flush(), Ok(()));
+    assert_eq!(rt; sink.failures(), 1);
+    Ok(())
+}
+
+// Copies the lines of a text, each marked, until it ends.
+fn copy(alloc: Global, text: &[u8], piece: usize, limit: u64) -> Result<MemSink, Fail> {
+    let mut source = MemSource::new(text, piece.max(1), 0);
+    let mut sink = MemSink::new(alloc, 1000, 0)?;
+    let mut reader = LineReader::new(limit);
+    let mut writer = LineWriter::new();
+    let mut line = Line::new();
+    for _ in 0..1000 {
+        match reader.read_on(&mut line) {
+            Some(Part::Whole) => {
+                writer.line(&mut sink, line.as_slice())?;
+                line.clear();
+            }
+            Some(Part::Long) => {
+                writer.line(&mut sink, b"long")?;
+                break;
+            }
+            None => {
+                writer.flush(&mut sink)?;
+                if !reader.fill(&mut source, &writer)? {
+                    break;
+                }
+            }
+        }
+    }
+    writer.flush(&mut sink)?;
+    Ok(sink)
+}
+
+#[test]
+fn lines_are_read_and_written_in_pieces_of_any_size(rt: HostRuntime) -> Result<(), Fail> {
+    for piece in [1, 2, 3, 64] {
+        let copied = copy(rt.alloc(), b"ab\n\ncde\nf", piece, 100)?;
+        assert_eq!(rt;
+            copied.bytes(),
+            b"ab\n\ncde\n".as_slice(),
+            "in pieces of {piece}"
+        );
+        let limited = copy(rt.alloc(), b"ab\n\ncde\nf", piece, 4)?;
+        assert_eq!(rt;
+            limited.bytes(),
+            b"ab\n\nlong\n".as_slice(),
+            "in pieces of {piece}"
+        );
+    }
+    Ok(())
+}
+
+#[test]
+fn a_text_is_read_whole_up_to_its_limit(rt: HostRuntime) -> Result<(), Fail> {
+    for (limit, fails_at, want) in [
+        (7, 0, None),
+        (6, 0, None),
+        (5, 0, Some(Unread::TooLong)),
+        (6, 2, Some(Unread::Device)),
+    ] {
+        let mut source = MemSource::new(b"abcdef", 4, fails_at);
+        match read_at_most(rt.alloc(), &mut source, limit) {
+            Ok(text) => {
+                assert_eq!(rt; want, None, "up to {limit}");
+                assert_eq!(rt; text.as_slice(), b"abcdef".as_slice());
+            }
+            Err(unread) => assert_eq!(rt; want, Some(unread), "up to {limit}"),
+        }
+    }
+    Ok(())
+}

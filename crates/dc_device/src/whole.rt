@@ -1,0 +1,49 @@
+//! A text read whole.
+ghost use Rattle.std.specs.Prelude.{◌≡◌, ◌+◌, ◌^◌, ◌<◌, ◌≤◌, ◌↔◌, length, IfOk, IfSome};
+ghost use Rattle.dc_device.specs.Whole.{ReadsWhole, failed_in};
+
+use crate::device::Source;
+use crate::reader::BLOCK;
+use std::alloc::Global;
+
+/// Why a text was not read whole.
+#[derive(Clone, Copy, Debug, PartialEq, Eq)]
+pub enum Unread {
+    /// The source failed.
+    Device,
+    /// Memory was refused.
+    Memory,
+    /// The text has more bytes than it may have.
+    TooLong,
+}
+
+/// All the bytes that the source still gives, where these are at most so many. It pulls at most once more than that.
+pub fn read_at_most<S: Source>(
+    alloc: Global,
+    source: &mut S,
+    limit: usize,
+) -> Result<Vec<u8>, Unread>
+    requires { S.failed source.old + 1 < 2 ^ 64 }
+    ensures bytes { IfSome (S.remaining source.old) (λ text. ReadsWhole text limit result) }
+    ensures count { S.failed source.new ≡ S.failed source.old + failed_in result }
+    ensures within { IfOk result (λ bytes. length bytes.items ≤ limit) }
+{
+    let mut text = Vec::new(alloc);
+    let mut block = [0; BLOCK];
+    loop {
+        let n = match source.pull(&mut block) {
+            Ok(n) => n,
+            Err(_) => return Err(Unread::Device),
+        };
+        if n == 0 {
+            return Ok(text);
+        }
+        if n > limit - text.len() {
+            return Err(Unread::TooLong);
+        }
+        match text.extend_from_slice(&block[..n]) {
+            Ok(()) => {}
+            Err(_) => return Err(Unread::Memory),
+        }
+    }
+}

@@ -1,0 +1,3 @@
+pub mod Fault
+pub mod Ticks
+pub mod Rows

@@ -1,0 +1,32 @@
+-- Intervals in ticks, made from microseconds. They lean to the safe side.
+use Rattle.std.specs.Prelude.{ℕ, ◌+◌, ◌-◌, ◌/◌, nat_lt, if◌then◌else◌, Result, Ok, Err}
+use Rattle.std.specs.Int.{div_ceil}
+use Rattle.dc_dict.specs.declared.fault.DictFault.{DictFault}
+use Rattle.dc_dict.specs.declared.fault.DictFault.TheVariants.{NoTicks}
+use Rattle.dc_dict.specs.declared.ticks.Interval.{Interval}
+
+-- on an input: the whole ticks of the least interval, and those that the greatest begins
+abbrev pub in_minimum : (min_us tick_us : ℕ) → ℕ
+in_minimum min_us tick_us = min_us / tick_us
+
+abbrev pub in_maximum : (max_us tick_us : ℕ) → ℕ
+in_maximum max_us tick_us = div_ceil max_us tick_us
+
+-- on an output: a tick more than the least interval begins, and one less than the whole ticks of the greatest
+abbrev pub out_minimum : (min_us tick_us : ℕ) → ℕ
+out_minimum min_us tick_us = div_ceil min_us tick_us + 1
+
+abbrev pub out_maximum : (max_us tick_us : ℕ) → ℕ
+out_maximum max_us tick_us = max_us / tick_us - 1
+
+-- the interval on an input, whose least is a tick or more
+unfoldable pub in_interval : (min_us max_us tick_us : ℕ) → Result Interval DictFault
+in_interval min_us max_us tick_us =
+    if nat_lt (in_minimum min_us tick_us) 1 then Err NoTicks
+    else Ok (record { min = in_minimum min_us tick_us; max = in_maximum max_us tick_us })
+
+-- the interval on an output, whose greatest is its least or more
+unfoldable pub out_interval : (min_us max_us tick_us : ℕ) → Result Interval DictFault
+out_interval min_us max_us tick_us =
+    if nat_lt (out_maximum max_us tick_us) (out_minimum min_us tick_us) then Err NoTicks
+    else Ok (record { min = out_minimum min_us tick_us; max = out_maximum max_us tick_us })

@@ -1,0 +1,13 @@
+//! The dictionary of parameters: which label and equipment code carry which format, how often, and what that is in
+//! ticks.
+#![tactic(auto)]
+
+mod dictionary;
+mod fault;
+mod parameter;
+mod ticks;
+
+pub use dictionary::Dictionary;
+pub use fault::DictFault;
+pub use parameter::{Equipment, Parameter};
+pub use ticks::{Interval, in_ticks, out_ticks};

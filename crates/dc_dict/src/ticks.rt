@@ -1,0 +1,82 @@
+ghost use Rattle.std.specs.Prelude.{◌≡◌, ◌+◌, ◌*◌, ◌<◌, ◌≤◌, IfOk};
+ghost use Rattle.dc_dict.specs.Ticks.{in_interval, out_interval};
+
+use crate::fault::DictFault;
+use crate::parameter::Parameter;
+
+/// The least and greatest interval between two words, in ticks.
+#[derive(Clone, Copy, Debug, PartialEq, Eq)]
+pub struct Interval {
+    pub min: u32,
+    pub max: u32,
+}
+
+/// The interval of a parameter's words on an input, for a tick of `tick_us` microseconds. It leans to the safe side:
+/// no word comes sooner or later than the interval says.
+///
+/// # Errors
+/// `NoTicks` just where the least interval is below a tick.
+#[tactic(auto, unfolding(crate::specs::Ticks::in_interval))]
+pub fn in_ticks(row: &Parameter, tick_us: u32) -> Result<Interval, DictFault>
+    requires { 0 < tick_us }
+    ensures value { result ≡ in_interval row.now.min_us row.now.max_us tick_us }
+    ensures covers { IfOk result (λ i. (i.min * tick_us ≤ row.now.min_us) × (row.now.max_us ≤ i.max * tick_us)) }
+{
+    let min = row.min_us / tick_us;
+    if min < 1 {
+        return Err(DictFault::NoTicks);
+    }
+    Ok(Interval {
+        min,
+        max: row.max_us.div_ceil(tick_us),
+    })
+}
+
+/// The interval that a parameter's words on an output keep, for a tick of `tick_us` microseconds. It leans to the safe
+/// side: words that are emitted at any time within the ticks of this interval keep the parameter's.
+///
+/// # Errors
+/// `NoTicks` just where no interval is left.
+#[tactic(auto, unfolding(crate::specs::Ticks::out_interval))]
+pub fn out_ticks(row: &Parameter, tick_us: u32) -> Result<Interval, DictFault>
+    requires { 0 < tick_us }
+    ensures value { result ≡ out_interval row.now.min_us row.now.max_us tick_us }
+    ensures inside { IfOk result (λ i. (row.now.min_us + tick_us ≤ i.min * tick_us) × (i.max * tick_us + tick_us ≤ row.now.max_us)) }
+{
+    let min = row.min_us.div_ceil(tick_us);
+    let max = row.max_us / tick_us;
+    if max < 2 || max - 2 < min {
+        return Err(DictFault::NoTicks);
+    }
+    Ok(Interval {
+        min: min + 1,
+        max: max - 1,
+    })
+}
+
+#[cfg(test)]
+mod tests {
+    use super::*;
+    use crate::parameter::Equipment;
+    use dc_word::{Format, Label};
+    use std::test::Fail;
+
+    #[test]
+    fn intervals_lean_to_the_safe_side(rt: HostRuntime) -> Result<(), Fail> {
+        let row = Parameter {
+            label: Label::new(0o203).ok_or("no label")?,
+            equipment: Equipment::new(0x001).ok_or("no equipment")?,
+            format: Format::Bnr,
+            min_us: 10_000,
+            max_us: 20_000,
+        };
+        assert_eq!(rt; in_ticks(&row, 1000), Ok(Interval { min: 10, max: 20 }));
+        assert_eq!(rt; in_ticks(&row, 3000), Ok(Interval { min: 3, max: 7 }));
+        assert_eq!(rt; in_ticks(&row, 10_001), Err(DictFault::NoTicks));
+        assert_eq!(rt; out_ticks(&row, 1000), Ok(Interval { min: 11, max: 19 }));
+        assert_eq!(rt; out_ticks(&row, 10_000), Err(DictFault::NoTicks));
+        assert_eq!(rt; DictFault::NoTicks.code(), 4);
+        assert_eq!(rt; row.equipment.code(), 1);
+        Ok(())
+    }
+}

@@ -1,0 +1,6 @@
+use Rattle.dc_event.proofs.TraceAnswers.{ahead_at_start}
+use Rattle.dc_event.proofs.trace_lines.TraceLines.new.Goals as goal
+
+pub returns-clause-whole : goal.returns-clause-whole
+returns-clause-whole c = λ text.
+    ahead_at_start c.args.tables.now c.args.limit c.new-line.result.items c.new-reader.result c.new-line.ensures c.new-reader.ensures.bytes c.new-reader.ensures.room text

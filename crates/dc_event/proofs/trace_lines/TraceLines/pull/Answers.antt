@@ -1,0 +1,10 @@
+use Rattle.dc_event.proofs.TraceSteps.{end_kept}
+use Rattle.dc_event.proofs.trace_lines.TraceLines.pull.Goals as goal
+
+pub returns-in-Ok-false-clause-kept : goal.returns-in-Ok-false-clause-kept
+returns-in-Ok-false-clause-kept g c =
+    let fills = rw c.in-Ok-false.field-0-test at c.in-Ok-false.ensures.bytes in
+    let short = rw c.as_slice.ensures.value at c.as_slice.ensures.fits in
+    let stop = rw c.as_slice.ensures.value at c.end_inside.ensures in
+    end_kept c.args.self.now c.self.inside.tables.now c.self.inside.line.items c.self.inside.reader c.fill.new.self c.self.inside.number c.self.inside.stopped c.end_inside.result _ _
+    c.self.view_is c.requires.runs stop c.self.invariant short c.requires.read fills.0 fills.1

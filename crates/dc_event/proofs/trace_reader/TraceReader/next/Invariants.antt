@@ -1,0 +1,16 @@
+use Rattle.std.proofs.Common.{◌≡◌, ◌+◌, ◌*◌}
+use Rattle.dc_event.specs.Reading.{Stays, ahead, new_failures, waits}
+use Rattle.dc_event.proofs.TraceNext.{Again, steps}
+use Rattle.dc_event.proofs.trace_reader.TraceReader.next.Given as goal
+
+abbrev pub invariant-loop-told : goal.invariant-loop-told
+invariant-loop-told g l =
+    record {
+      kept : Stays (ahead l.fn.self.lines l.fn.self.coming) (ahead l.self-inside.lines (g.S.Source.remaining l.self-inside.source));
+      count : g.S.Source.failed l.self-inside.source ≡ l.fn.self.failed + new_failures l.fn.self.lines.stopped l.self-inside.lines.stopped;
+      again : Again l.fn.self.lines.stopped l.fn.self.lines l.self-inside.lines l.fn.self.coming (g.S.Source.remaining l.self-inside.source);
+      tables : l.self-inside.lines.tables ≡ l.fn.self.lines.tables;
+    }
+
+abbrev pub decreases-loop-told : goal.decreases-loop-told
+decreases-loop-told g l = steps l.self-inside.lines.stopped (2 * l.self-inside.lines.room + waits l.self-inside.lines.held)

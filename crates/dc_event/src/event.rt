@@ -1,0 +1,95 @@
+ghost use Rattle.std.specs.Prelude.{◌≡◌};
+ghost use Rattle.dc_event.specs.ClaimNumber.{claim_number};
+
+use dc_word::{Label, Word};
+
+/// One step of one actor. Buses, routers and outputs are given by their numbers in the tables.
+#[derive(Clone, Copy, Debug, PartialEq, Eq)]
+pub enum Event {
+    /// The running tick ends, and the next one begins.
+    Tick,
+    /// A word arrives on a bus.
+    Arrive(usize, Word),
+    /// A router makes a step.
+    Route(usize),
+    /// An output makes a send step.
+    Send(usize),
+}
+
+/// What the concentrator answers to an event.
+#[derive(Clone, Copy, Debug, PartialEq, Eq)]
+pub enum Reply {
+    /// The word waits in its bus's queue, whose backlog is now this.
+    Queued(u32),
+    /// The word's parity is even.
+    BadParity,
+    /// No stream of the bus declares the word's label and SDI.
+    Undeclared,
+    /// The queue was full: the word is lost, and the bus latches.
+    Overrun,
+    /// The bus has latched before: the word is lost.
+    Latched,
+    /// The router took a word from a bus.
+    Took(usize, Word),
+    /// The router visited a bus whose queue was empty.
+    Empty(usize),
+    /// The output sent a word under a label.
+    Sent(Label, Word),
+    /// No entry of the output was due and unsent.
+    Idle,
+    /// The tick that begins.
+    Now(u64),
+}
+
+/// One who makes steps.
+#[derive(Clone, Copy, Debug, PartialEq, Eq)]
+pub enum Actor {
+    /// The wire of the bus of this number.
+    Wire(usize),
+    /// The router of this number.
+    Router(usize),
+    /// The output of this number.
+    Output(usize),
+    /// The clock, which ends ticks.
+    Clock,
+}
+
+/// One of the four claims that a certificate makes for each admissible run.
+#[derive(Clone, Copy, Debug, PartialEq, Eq)]
+pub enum Claim {
+    /// No receive queue overruns.
+    NoOverrun,
+    /// A sent word is the fallback, or copies an arrival that is young enough.
+    DataAge,
+    /// A live first source is used, and any live source makes the sent word usable.
+    LiveSource,
+    /// Each output label leaves neither too soon nor too late after its last time.
+    Interval,
+}
+
+impl Claim {
+    /// The claim's number as it is printed, 1 to 4.
+    pub fn number(self) -> u8
+        ensures { result ≡ claim_number self }
+    {
+        match self {
+            Claim::NoOverrun => 1,
+            Claim::DataAge => 2,
+            Claim::LiveSource => 3,
+            Claim::Interval => 4,
+        }
+    }
+}
+
+#[cfg(test)]
+mod tests {
+    use super::*;
+
+    #[test]
+    fn claims_are_printed_by_number(rt: HostRuntime) {
+        assert_eq!(rt; Claim::NoOverrun.number(), 1);
+        assert_eq!(rt; Claim::DataAge.number(), 2);
+        assert_eq!(rt; Claim::LiveSource.number(), 3);
+        assert_eq!(rt; Claim::Interval.number(), 4);
+    }
+}

@@ -1,0 +1,158 @@
+//! The event of a line.
+ghost use Rattle.std.specs.Prelude.{◌≡◌, ◌∷◌, [], ◌<◌, IfSome};
+ghost use Rattle.std.specs.Str.{bytes_eq};
+ghost use Rattle.dc_event.specs.TraceText.{arrive_fields, line_event, number_named, route_fields, send_fields, tick_fields};
+ghost use Rattle.dc_event.specs.WordText.{hex_value, word_of};
+
+use crate::event::Event;
+use crate::fields::Fields;
+use crate::trace::TraceCode;
+use dc_tables::{Name, Tables};
+use dc_word::Word;
+
+// The value of a hexadecimal digit in either case.
+fn digit_value(c: u8) -> Option<u8>
+    ensures value { result ≡ hex_value c }
+    ensures digit { IfSome result (λ d. d < 16) }
+{
+    match c {
+        b'0'..=b'9' => Some(c - b'0'),
+        b'A'..=b'F' => Some(c - 55),
+        b'a'..=b'f' => Some(c - 87),
+        _ => None,
+    }
+}
+
+/// The word that a text writes: eight hexadecimal digits.
+#[tactic(auto, unfolding(crate::specs::WordText::word_of))]
+pub fn read_word(text: &[u8]) -> Option<Word>
+    ensures { result ≡ word_of text.now }
+{
+    if text.len() != 8 {
+        return None;
+    }
+    let mut n = 0;
+    for c in text {
+        n = n * 16 + u32::from(digit_value(*c)?);
+    }
+    Some(Word(n))
+}
+
+// Whether a field is this letter.
+fn is_letter(field: &[u8], letter: u8) -> bool
+    ensures { result ≡ bytes_eq field.now (letter ∷ []) }
+{
+    field == [letter].as_slice()
+}
+
+// The number of the bus that a text names.
+fn bus_named(tables: &Tables, text: &[u8]) -> Option<usize>
+    ensures { result ≡ number_named tables.now.keys.buses text.now }
+{
+    let name = Name::new(text)?;
+    tables.bus_named(&name)
+}
+
+// The number of the router that a text names.
+fn router_named(tables: &Tables, text: &[u8]) -> Option<usize>
+    ensures { result ≡ number_named tables.now.keys.routers text.now }
+{
+    let name = Name::new(text)?;
+    tables.router_named(&name)
+}
+
+// The number of the output that a text names.
+fn output_named(tables: &Tables, text: &[u8]) -> Option<usize>
+    ensures { result ≡ number_named tables.now.keys.outputs text.now }
+{
+    let name = Name::new(text)?;
+    tables.output_named(&name)
+}
+
+// Behind A: a bus and a word.
+fn read_arrive(tables: &Tables, fields: &mut Fields) -> Result<Event, TraceCode>
+    ensures { result ≡ arrive_fields tables.now fields.old }
+{
+    let Some(bus) = fields.next() else {
+        return Err(TraceCode::E3);
+    };
+    let Some(word) = fields.next() else {
+        return Err(TraceCode::E3);
+    };
+    let None = fields.next() else {
+        return Err(TraceCode::E3);
+    };
+    let Some(bus) = bus_named(tables, bus) else {
+        return Err(TraceCode::E4);
+    };
+    let Some(word) = read_word(word) else {
+        return Err(TraceCode::E5);
+    };
+    Ok(Event::Arrive(bus, word))
+}
+
+// Behind R: a router.
+fn read_route(tables: &Tables, fields: &mut Fields) -> Result<Event, TraceCode>
+    ensures { result ≡ route_fields tables.now fields.old }
+{
+    let Some(router) = fields.next() else {
+        return Err(TraceCode::E3);
+    };
+    let None = fields.next() else {
+        return Err(TraceCode::E3);
+    };
+    let Some(router) = router_named(tables, router) else {
+        return Err(TraceCode::E4);
+    };
+    Ok(Event::Route(router))
+}
+
+// Behind S: an output.
+fn read_send(tables: &Tables, fields: &mut Fields) -> Result<Event, TraceCode>
+    ensures { result ≡ send_fields tables.now fields.old }
+{
+    let Some(output) = fields.next() else {
+        return Err(TraceCode::E3);
+    };
+    let None = fields.next() else {
+        return Err(TraceCode::E3);
+    };
+    let Some(output) = output_named(tables, output) else {
+        return Err(TraceCode::E4);
+    };
+    Ok(Event::Send(output))
+}
+
+// Behind T: nothing.
+fn read_tick(fields: &mut Fields) -> Result<Event, TraceCode>
+    ensures { result ≡ tick_fields fields.old }
+{
+    let None = fields.next() else {
+        return Err(TraceCode::E3);
+    };
+    Ok(Event::Tick)
+}
+
+/// The event of a line of at most 64 bytes, or the code of its fault.
+#[tactic(auto, unfolding(crate::specs::TraceText::line_event))]
+pub fn read_line(tables: &Tables, line: &[u8]) -> Result<Event, TraceCode>
+    ensures { result ≡ line_event tables.now line.now }
+{
+    let mut fields = Fields::of(line);
+    let Some(kind) = fields.next() else {
+        return Err(TraceCode::E2);
+    };
+    if is_letter(kind, b'A') {
+        return read_arrive(tables, &mut fields);
+    }
+    if is_letter(kind, b'R') {
+        return read_route(tables, &mut fields);
+    }
+    if is_letter(kind, b'S') {
+        return read_send(tables, &mut fields);
+    }
+    if is_letter(kind, b'T') {
+        return read_tick(&mut fields);
+    }
+    Err(TraceCode::E2)
+}

@@ -1,0 +1,123 @@
+//! The events of a trace, in the bytes that are held of it.
+ghost use Rattle.std.specs.Prelude.{◌≡◌, ◌≢◌, ℕ, List, Option, [], ◌+◌, ◌^◌, ◌<◌, Some, None, IfSome, MatchOption};
+ghost use Rattle.dc_event.specs.TraceText.{trace_of};
+ghost use Rattle.dc_event.specs.Reading.{IsOfLine, NeedsMore, Stays, Tells, ahead, at_start, failures_at, stop_behind, stop_of};
+
+use crate::event::Event;
+use crate::line::read_line;
+use crate::trace::{TraceCode, TraceFault, TraceStop};
+use dc_device::{Line, LineReader, LineWriter, Part, Source};
+use dc_tables::Tables;
+use std::marker::Model;
+
+// A reader stops at this fault of a line.
+fn fault(code: TraceCode, line: u64) -> TraceStop
+    ensures { result ≡ TraceStop.Fault (record { code = code; line = line }) }
+{
+    TraceStop::Fault(TraceFault { code, line })
+}
+
+// A text ended behind these bytes of a line.
+fn end_inside(line: &[u8], number: u64) -> TraceStop
+    ensures { result ≡ stop_behind number line.now }
+{
+    match line {
+        [] => TraceStop::End,
+        _ => fault(TraceCode::E6, number),
+    }
+}
+
+/// Reads the lines of a trace in the bytes that it holds, and pulls where it is told to: so its owner knows when the
+/// source is asked, and can first show what was answered so far. It takes no memory.
+#[derive(Drop)]
+pub struct TraceLines<'t> {
+    tables: &'t Tables,
+    reader: LineReader,
+    line: Line,
+    number: u64,
+    stopped: Option<TraceStop>,
+}
+
+impl<'t> Model for TraceLines<'t> {
+    ghost use Rattle.dc_event.specs.Reading.{Reading};
+    ghost use Rattle.dc_event.specs.ReadingFits.{Fits};
+
+    ghost Value = { Reading };
+
+    ghost view = { λ r. record { tables = r.tables.now; line = r.line.items; held = r.reader.bytes; room = r.reader.room; number = r.number; stopped = r.stopped } };
+
+    ghost invariant = { λ r. Fits r.stopped r.line.items r.reader.room r.number };
+}
+
+impl<'t> TraceLines<'t> {
+    /// Nothing is read yet of a text of at most `limit` bytes.
+    pub fn new(tables: &'t Tables, limit: u64) -> Self
+        requires { limit + 1 < 2 ^ 64 }
+        ensures start { result ≡ at_start tables.now limit }
+        ensures whole { (text : List ℕ) → ahead result (Some text) ≡ Some (trace_of tables.now limit text) }
+    {
+        let reader = LineReader::new(limit);
+        let line = Line::new();
+        TraceLines {
+            tables,
+            reader,
+            line,
+            number: 1,
+            stopped: None,
+        }
+    }
+
+    /// Tells the next event, or why there is none, as far as the held bytes go. None where they end before the line
+    /// does: then pull, and call again. Once it told why there is none, it tells that same from then on.
+    pub fn advance(&mut self) -> Option<Result<Event, TraceStop>>
+        ensures told { (coming : Option (List ℕ)) →
+            MatchOption result (Stays (ahead self.old coming) (ahead self.new coming)) (λ told. Tells (ahead self.old coming) (ahead self.new coming) told) }
+        ensures more { MatchOption result (NeedsMore self.old self.new) (λ told. self.new.stopped ≡ stop_of told) }
+        ensures again { IfSome self.old.stopped (λ stop. (result ≡ Some (Err stop)) × (self.new ≡ self.old)) }
+        ensures line { self.old.stopped ≡ None → IfSome result (λ told. IsOfLine told) }
+        ensures tables { self.new.tables ≡ self.old.tables }
+    {
+        if let Some(stop) = self.stopped {
+            return Some(Err(stop));
+        }
+        match self.reader.read_on(&mut self.line)? {
+            Part::Long => {
+                let long = fault(TraceCode::E1, self.number);
+                self.stopped = Some(long);
+                Some(Err(long))
+            }
+            Part::Whole => match read_line(self.tables, self.line.as_slice()) {
+                Ok(event) => {
+                    self.line.clear();
+                    self.number += 1;
+                    Some(Ok(event))
+                }
+                Err(code) => {
+                    let refused = fault(code, self.number);
+                    self.stopped = Some(refused);
+                    Some(Err(refused))
+                }
+            },
+        }
+    }
+
+    /// Pulls the next bytes, where none is held. What was written must not wait any more: who reads the answers sees
+    /// each before the source is asked again. Where nothing came, `advance` tells why.
+    pub fn pull<S: Source>(&mut self, source: &mut S, written: &LineWriter)
+        requires read { self.old.held ≡ [] }
+        requires runs { self.old.stopped ≡ None }
+        requires seen { written.now ≡ [] }
+        requires countable { S.failed source.old + 1 < 2 ^ 64 }
+        ensures kept { Stays (ahead self.old (S.remaining source.old)) (ahead self.new (S.remaining source.new)) }
+        ensures came { self.new.stopped ≡ None → self.new.held ≢ [] }
+        ensures room { self.new.room ≡ self.old.room }
+        ensures tables { self.new.tables ≡ self.old.tables }
+        ensures count { S.failed source.new ≡ S.failed source.old + failures_at self.new.stopped }
+    {
+        match self.reader.fill(source, written) {
+            Ok(true) => {}
+            Ok(false) => self.stopped = Some(end_inside(self.line.as_slice(), self.number)),
+            Err(_) => self.stopped = Some(TraceStop::Broken),
+        }
+    }
+}

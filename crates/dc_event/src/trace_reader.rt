@@ -1,0 +1,93 @@
+//! The events of a trace, from its source.
+ghost use Rattle.std.specs.Prelude.{◌≡◌, ◌≢◌, [], ◌+◌, ◌^◌, ◌<◌, Some, None, IfSome, option_map};
+ghost use Rattle.dc_event.specs.TraceText.{trace_of};
+ghost use Rattle.dc_event.specs.Reading.{Stays, Tells, ahead, at_start, failures_at, left, new_failures, stop_of};
+
+use crate::event::Event;
+use crate::trace::TraceStop;
+use crate::trace_lines::TraceLines;
+use dc_device::{LineWriter, Source};
+use dc_tables::Tables;
+use std::marker::Model;
+
+/// How many bytes a trace may have, where nothing else is said.
+pub const TRACE_LIMIT: u64 = 1_073_741_824;
+
+/// Reads the events of a trace from a source. It keeps one line and one buffer, and takes no memory.
+#[derive(Drop)]
+pub struct TraceReader<'t, S: Source + Drop> {
+    lines: TraceLines<'t>,
+    source: S,
+}
+
+impl<'t, S: Source + Drop> Model for TraceReader<'t, S> {
+    ghost use Rattle.dc_event.specs.Reading.{Reader};
+
+    ghost Value = { Reader };
+
+    ghost view = { λ r. record { lines = r.lines; coming = S.remaining r.source; failed = S.failed r.source } };
+}
+
+// Pulls for a reader whose owner writes nothing.
+fn pull_unwatched<S: Source>(lines: &mut TraceLines, source: &mut S)
+    requires read { lines.old.held ≡ [] }
+    requires runs { lines.old.stopped ≡ None }
+    requires countable { S.failed source.old + 1 < 2 ^ 64 }
+    ensures kept { Stays (ahead lines.old (S.remaining source.old)) (ahead lines.new (S.remaining source.new)) }
+    ensures came { lines.new.stopped ≡ None → lines.new.held ≢ [] }
+    ensures room { lines.new.room ≡ lines.old.room }
+    ensures tables { lines.new.tables ≡ lines.old.tables }
+    ensures count { S.failed source.new ≡ S.failed source.old + failures_at lines.new.stopped }
+{
+    let nothing = LineWriter::new();
+    lines.pull(source, &nothing);
+}
+
+impl<'t, S: Source + Drop> TraceReader<'t, S> {
+    /// Reads a trace of at most 1,073,741,824 bytes.
+    pub fn new(tables: &'t Tables, source: S) -> Self
+        ensures start { result.lines ≡ at_start tables.now 1073741824 }
+        ensures trace { left result ≡ option_map (λ text. trace_of tables.now 1073741824 text) (S.remaining source) }
+        ensures failed { result.failed ≡ S.failed source }
+    {
+        TraceReader::limited(tables, source, TRACE_LIMIT)
+    }
+
+    /// Reads a trace of at most `bytes` bytes.
+    pub fn limited(tables: &'t Tables, source: S, bytes: u64) -> Self
+        requires { bytes + 1 < 2 ^ 64 }
+        ensures start { result.lines ≡ at_start tables.now bytes }
+        ensures trace { left result ≡ option_map (λ text. trace_of tables.now bytes text) (S.remaining source) }
+        ensures failed { result.failed ≡ S.failed source }
+    {
+        TraceReader {
+            lines: TraceLines::new(tables, bytes),
+            source,
+        }
+    }
+
+    /// Tells the next event, or why there is none: the text ended, a line is refused, or the source failed. Once it told
+    /// why there is none, it tells that same from then on. It pulls only where the held bytes end before the line does.
+    pub fn next(&mut self) -> Result<Event, TraceStop>
+        requires { self.old.failed + 1 < 2 ^ 64 }
+        ensures told { Tells (left self.old) (left self.new) result }
+        ensures again { IfSome self.old.lines.stopped (λ stop. (result ≡ Err stop) × (self.new ≡ self.old)) }
+        ensures stopped { self.new.lines.stopped ≡ stop_of result }
+        ensures count { self.new.failed ≡ self.old.failed + new_failures self.old.lines.stopped self.new.lines.stopped }
+        ensures tables { self.new.lines.tables ≡ self.old.lines.tables }
+    {
+        loop {
+            match self.lines.advance() {
+                Some(told) => return told,
+                None => pull_unwatched(&mut self.lines, &mut self.source),
+            }
+        }
+    }
+
+    /// How many calls of the source have failed.
+    pub fn failures(&self) -> u64
+        ensures { result ≡ self.now.failed }
+    {
+        self.source.failures()
+    }
+}

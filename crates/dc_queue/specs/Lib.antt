@@ -1,0 +1,2 @@
+pub mod QueueData
+pub mod WindowData

@@ -1,0 +1,139 @@
+ghost use Rattle.std.specs.Prelude.{◌≡◌, ℕ, ◌+◌, ◌-◌, ◌<◌, ◌≤◌, IfOk};
+ghost use Rattle.dc_queue.specs.WindowData.{WindowData, empty_window, steps_of, added, turned, is_full_tick, lacks};
+
+use circular_buffer::HeapCircularBuffer;
+use std::alloc::{AllocError, Global};
+use std::marker::Model;
+
+/// How many steps an actor made in each of the last `width` ticks, the unfinished one included.
+///
+/// A width is 1 to 1,000 ticks, and a tick has room for at most 1,000 steps.
+#[derive(Drop)]
+pub struct StepWindow {
+    // the steps of each finished tick, the oldest first
+    past: HeapCircularBuffer<u32>,
+    // the steps of the unfinished tick
+    count: u32,
+    // the steps of all these ticks
+    total: u32,
+    // how many steps a tick has room for
+    room: u32,
+}
+
+impl Model for StepWindow {
+    ghost use Rattle.std.specs.Prelude.{ℕ, ◌+◌, ◌≡◌, ◌≤◌, ◌<◌, length, sum};
+    ghost use Rattle.std.specs.List.{All};
+    ghost use Rattle.dc_queue.specs.WindowData.{WindowData};
+
+    ghost Value = { WindowData };
+
+    ghost view = { λ w. record { width = w.past.capacity + 1; room = w.room; past = w.past.items; count = w.count } };
+
+    ghost invariant = { λ w. (w.total ≡ sum w.past.items + w.count) × All (λ n. n ≤ w.room) w.past.items × (w.count ≤ w.room) × (length w.past.items ≤ w.past.capacity) × (w.past.capacity < 1000) × (w.room ≤ 1000) };
+}
+
+impl StepWindow {
+    /// A window of `width` ticks before the first step, whose ticks have room for `room` steps each.
+    ///
+    /// # Errors
+    /// Out of memory.
+    pub fn new(alloc: Global, width: u32, room: u32) -> Result<StepWindow, AllocError>
+        requires some_width { 1 ≤ width }
+        requires small_width { width ≤ 1000 }
+        requires small_room { room ≤ 1000 }
+        ensures { IfOk result (λ w. w ≡ empty_window width room) }
+    {
+        Ok(StepWindow {
+            past: HeapCircularBuffer::with_capacity(alloc, width as usize - 1)?,
+            count: 0,
+            total: 0,
+            room,
+        })
+    }
+
+    /// Whether the unfinished tick has room for no step more.
+    pub fn is_spent(&self) -> bool
+        ensures { result ≡ is_full_tick self.now }
+    {
+        self.count >= self.room
+    }
+
+    /// Counts a step of the unfinished tick.
+    pub fn add(&mut self)
+        requires { self.old.count < self.old.room }
+        ensures { self.new ≡ added self.old }
+    {
+        self.count += 1;
+        self.total += 1;
+    }
+
+    /// How many steps the last `width` ticks hold, the unfinished one included.
+    pub fn total(&self) -> u32
+        ensures { result ≡ steps_of self.now }
+    {
+        let steps = self.total;
+        steps
+    }
+
+    /// Whether as many ticks have begun as the window is wide, and they hold fewer than `steps` steps.
+    pub fn lacks(&self, steps: u32) -> bool
+        ensures { result ≡ lacks self.now steps }
+    {
+        self.past.is_full() && self.total < steps
+    }
+
+    /// Ends the unfinished tick. The oldest tick leaves a full window.
+    pub fn turn(&mut self)
+        ensures { self.new ≡ turned self.old }
+    {
+        let gone = self.past.push_back(self.count).unwrap_or(0);
+        self.total -= gone;
+        self.count = 0;
+    }
+}
+
+#[cfg(test)]
+mod tests {
+    use super::*;
+    use std::test::Fail;
+
+    #[test]
+    fn window_holds_the_last_three_ticks(rt: HostRuntime) -> Result<(), Fail> {
+        let mut window = StepWindow::new(rt.alloc(), 3, 2)?;
+        assert_eq!(rt; window.total(), 0);
+        assert!(rt; !window.is_spent());
+        assert!(rt; !window.lacks(1), "one tick has begun");
+        for (steps, total) in [(2, 2), (1, 3), (0, 3), (1, 2)] {
+            for _step in 0..steps {
+                if !window.is_spent() {
+                    window.add();
+                }
+            }
+            assert_eq!(rt; window.total(), total);
+            window.turn();
+        }
+        assert_eq!(rt;
+            window.total(),
+            1,
+            "of the last three ticks, the unfinished one is empty"
+        );
+        assert!(rt; !window.lacks(1));
+        assert!(rt; window.lacks(2));
+        Ok(())
+    }
+
+    #[test]
+    fn tick_has_room_for_so_many_steps(rt: HostRuntime) -> Result<(), Fail> {
+        let mut window = StepWindow::new(rt.alloc(), 1, 1)?;
+        assert!(rt; window.lacks(1));
+        if !window.is_spent() {
+            window.add();
+        }
+        assert!(rt; window.is_spent());
+        assert!(rt; !window.lacks(1));
+        window.turn();
+        assert!(rt; !window.is_spent());
+        assert_eq!(rt; window.total(), 0);
+        Ok(())
+    }
+}

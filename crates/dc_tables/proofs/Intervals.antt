@@ -1,0 +1,83 @@
+-- Intervals in ticks.
+use Rattle.std.proofs.Common.{◌≡◌, ℕ, zero, suc, ◌+◌, ◌-◌, ◌*◌, ◌/◌, ◌<◌, ◌≤◌, Bool, true, false, Option, Some, None, is_none, List, [], ◌∷◌, length, get_or, map, refl, arith, subst}
+use Rattle.std.specs.Option.{option_map_or}
+use Rattle.std.specs.Prelude.{option_and_then}
+use Rattle.std.specs.List.{slice_get, position}
+use Rattle.std.proofs.Math.Nat.{div-lt_iff_lt-mul, lt-div-mul-add, div-le_of_le-mul}
+use Rattle.dc_tables.specs.Ticks.{ticks_up, input_minimum, input_maximum, output_minimum, output_maximum, output_gap, output_spacing, input_spacing}
+use Rattle.dc_tables.specs.Rules.{parameter_of, parameter_key, same_parameter, too_quick, no_interval, outside}
+use Rattle.dc_tables.specs.declared.keys.ParameterKey.{ParameterKey}
+use Rattle.dc_tables.specs.declared.parts.ParameterPart.{ParameterPart}
+use Rattle.dc_tables.specs.declared.rows.Speed.{Speed}
+use Rattle.dc_tables.specs.declared.rows.Speed.TheVariants.{High, Low}
+use Rattle.dc_tables.proofs.Picks.{not_below}
+
+div_mono : (k x y : ℕ) → 0 < k → x ≤ y → x / k ≤ y / k
+div_mono k x y h l =
+    let lt : x < (y / k + 1) * k = omega (arith, lt-div-mul-add {a = y} {b = k} h) in
+    let r : x / k < y / k + 1 = (div-lt_iff_lt-mul {k = k} {x = x} {y = y / k + 1} h).1 lt in
+    omega arith
+
+at_least_one : (q k x : ℕ) → k ≤ x → (q < 1 → x < 1 * k) → 1 ≤ q
+at_least_one zero k x l r = absurd (omega (arith, r (omega arith)))
+at_least_one (suc q) k x l r = omega arith
+
+div_some : (k x : ℕ) → 0 < k → k ≤ x → 1 ≤ x / k
+div_some k x h l = at_least_one (x / k) k x l (div-lt_iff_lt-mul {k = k} {x = x} {y = 1} h).0
+
+-- ---- the parameter that was found
+
+got : {A : Type 0} (xs : List A) (i : ℕ) (x : A) → slice_get xs i ≡ Some x → (i < length xs) × (get_or xs i x ≡ x)
+got [] i x h = absurd (cc h)
+got (y ∷ ys) zero x h = (omega arith, cc h)
+got (y ∷ ys) (suc i) x h = let r = got ys i x h in (omega (arith, r.0), r.1)
+
+found_at : (Q : ParameterPart → Type 0) (ps : List ParameterPart) (r : Option ℕ) (p : ParameterPart) → ((k : ℕ) (d : ParameterPart) → k < length ps → Q (get_or ps k d)) → option_and_then (slice_get ps) r ≡ Some p → Q p
+found_at Q ps None p each h = absurd (cc h)
+found_at Q ps (Some i) p each h = let r = got ps i p h in subst Q r.1 (each i p r.0)
+
+-- what holds of each parameter holds of the one that is found
+pub found_holds : (Q : ParameterPart → Type 0) (ps : List ParameterPart) (key : ParameterKey) (p : ParameterPart) → ((k : ℕ) (d : ParameterPart) → k < length ps → Q (get_or ps k d)) → parameter_of ps key ≡ Some p → Q p
+found_holds Q ps key p each h = found_at Q ps (position (same_parameter key) (map parameter_key ps)) p each h
+
+-- ---- a stream's interval
+
+pub minimum_some : (tick : ℕ) (o : Option ParameterPart) → is_none o ≡ false → too_quick tick o ≡ false → 1 ≤ option_map_or (λ p. input_minimum tick p.min_us) o 0
+minimum_some tick None h q = absurd (cc h)
+minimum_some tick (Some p) h q = not_below (p.min_us / tick) 1 q
+
+pub maximum_after : (tick : ℕ) (o : Option ParameterPart) → 0 < tick → ((p : ParameterPart) → o ≡ Some p → p.min_us ≤ p.max_us) → option_map_or (λ p. input_minimum tick p.min_us) o 0 ≤ option_map_or (λ p. input_maximum tick p.max_us) o 0
+maximum_after tick None t h = omega arith
+maximum_after tick (Some p) t h = let l : p.min_us ≤ p.max_us + (tick - 1) = omega (arith, h p refl) in div_mono tick p.min_us (p.max_us + (tick - 1)) t l
+
+pub maximum_small : (tick : ℕ) (o : Option ParameterPart) → 100 ≤ tick → ((p : ParameterPart) → o ≡ Some p → p.max_us ≤ 60000000) → option_map_or (λ p. input_maximum tick p.max_us) o 0 ≤ 600000
+maximum_small tick None t h = omega arith
+maximum_small tick (Some p) t h =
+    let z : 0 < tick = omega arith in
+    let lt : p.max_us + (tick - 1) < 600001 * tick = omega (arith, h p refl) in
+    let r : (p.max_us + (tick - 1)) / tick < 600001 = (div-lt_iff_lt-mul {k = tick} {x = p.max_us + (tick - 1)} {y = 600001} z).1 lt in
+    omega arith
+
+-- ---- a label's interval
+
+pub interval_there : (tick : ℕ) (o : Option ParameterPart) → is_none o ≡ false → no_interval tick o ≡ false → option_map_or (λ p. output_minimum tick p.min_us) o 0 ≤ option_map_or (λ p. output_maximum tick p.max_us) o 0
+interval_there tick None h q = absurd (cc h)
+interval_there tick (Some p) h q = omega (arith, not_below (p.max_us / tick) (output_minimum tick p.min_us + 1) q)
+
+pub interval_small : (tick : ℕ) (o : Option ParameterPart) → 100 ≤ tick → ((p : ParameterPart) → o ≡ Some p → p.max_us ≤ 60000000) → option_map_or (λ p. output_maximum tick p.max_us) o 0 ≤ 600000
+interval_small tick None t h = omega arith
+interval_small tick (Some p) t h =
+    let z : 0 < tick = omega arith in
+    let lt : p.max_us < 600001 * tick = omega (arith, h p refl) in
+    let r : p.max_us / tick < 600001 = (div-lt_iff_lt-mul {k = tick} {x = p.max_us} {y = 600001} z).1 lt in
+    omega arith
+
+-- ---- speeds
+
+pub spacing_some : (speed : Speed) → 1 ≤ input_spacing speed
+spacing_some High = omega arith
+spacing_some Low = omega arith
+
+pub gap_some : (tick : ℕ) (speed : Speed) → 1 ≤ tick → 1 ≤ output_gap tick speed
+gap_some tick High t = div_some tick (365 + (tick - 1)) t (omega arith)
+gap_some tick Low t = div_some tick (3050 + (tick - 1)) t (omega arith)

@@ -1,0 +1,17 @@
+pub mod Doubled
+pub mod Telling
+pub mod RowsMade
+pub mod Picks
+pub mod Obeys
+pub mod Owners
+pub mod Intervals
+pub mod ValidBuses
+pub mod ValidRouters
+pub mod Apart
+pub mod ValidLabels
+pub mod ValidEntries
+pub mod ValidOutputs
+pub mod Valid
+pub mod Admits
+pub mod Pushed
+pub mod Spelling

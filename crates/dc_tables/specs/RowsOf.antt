@@ -1,0 +1,107 @@
+-- The rows of a document's tables.
+use Rattle.std.specs.Prelude.{◌≡◌, ℕ, suc, ◌<◌, ◌≤◌, Bool, ◌==◌, nat_lt, Option, unwrap_or, List, [], ◌∷◌, length, map, filter, count_by, position, slice_index_or}
+use Rattle.std.specs.Option.{option_map_or}
+use Rattle.std.specs.List.Sorted.{IsPermutation, IsNonDecreasingBy}
+use Rattle.dc_word.specs.declared.format.Format.TheVariants.{Bnr}
+use Rattle.dc_tables.specs.declared.rows.Bus.{Bus}
+use Rattle.dc_tables.specs.declared.rows.Stream.{Stream}
+use Rattle.dc_tables.specs.declared.rows.Router.{Router}
+use Rattle.dc_tables.specs.declared.rows.Output.{Output}
+use Rattle.dc_tables.specs.declared.rows.Entry.{Entry}
+use Rattle.dc_tables.specs.declared.rows.OutputLabel.{OutputLabel}
+use Rattle.dc_tables.specs.declared.keys.PlacedEntry.{PlacedEntry}
+use Rattle.dc_tables.specs.declared.parts.ParameterPart.{ParameterPart}
+use Rattle.dc_tables.specs.declared.parts.BusPart.{BusPart}
+use Rattle.dc_tables.specs.declared.parts.StreamPart.{StreamPart}
+use Rattle.dc_tables.specs.declared.parts.RouterPart.{RouterPart}
+use Rattle.dc_tables.specs.declared.parts.OutputPart.{OutputPart}
+use Rattle.dc_tables.specs.declared.parts.LabelPart.{LabelPart}
+use Rattle.dc_tables.specs.Document.{Document, stream_owners}
+use Rattle.dc_tables.specs.Ticks.{input_minimum, input_maximum, output_minimum, output_maximum, output_gap, input_spacing}
+use Rattle.dc_tables.specs.Rules.{parameter_of, stream_key, label_key, number_of, visits_bus, entries_from, bus_names, stream_names, router_names, output_names, label_names}
+use Rattle.dc_tables.specs.TableKeys.{TableKeys}
+use Rattle.dc_tables.specs.TableRows.{TableRows, output_row}
+
+-- a bus: its streams are those of its number, after those of the buses before it; a router visits it
+abbrev pub bus_row_of : List ℕ → List RouterPart → ℕ → BusPart → Bus
+bus_row_of owners routers b part = record {
+  queue = part.queue;
+  spacing = input_spacing part.speed;
+  first = count_by (λ o. nat_lt o b) owners;
+  streams = count_by (λ o. o == b) owners;
+  router = unwrap_or (position (visits_bus part.name) routers) 0;
+}
+
+abbrev pub bus_rows_from : List ℕ → List RouterPart → ℕ → List BusPart → List Bus
+bus_rows_from owners routers b [] = []
+bus_rows_from owners routers b (x ∷ xs) = bus_row_of owners routers b x ∷ bus_rows_from owners routers (suc b) xs
+
+-- a stream: its parameter's interval in ticks
+abbrev pub stream_row_of : (tick : ℕ) → List ParameterPart → StreamPart → Stream
+stream_row_of tick parameters s = record {
+  bus = s.bus;
+  label = s.label;
+  sdi = s.sdi;
+  minimum = option_map_or (λ p. input_minimum tick p.min_us) (parameter_of parameters (stream_key s)) 0;
+  maximum = option_map_or (λ p. input_maximum tick p.max_us) (parameter_of parameters (stream_key s)) 0;
+}
+
+-- the number of a name
+abbrev pub number_in : List (List ℕ) → List ℕ → ℕ
+number_in names n = unwrap_or (number_of names n) 0
+
+abbrev pub router_row_of : List (List ℕ) → RouterPart → Router
+router_row_of buses r = record { steps = r.steps; within = r.within; most = r.most; visits = map (number_in buses) r.visits.items }
+
+-- a label: its parameter's format, and the interval that it leaves to an output
+abbrev pub label_row_of : (tick : ℕ) → List ParameterPart → List (List ℕ) → LabelPart → OutputLabel
+label_row_of tick parameters streams x = record {
+  output = x.output;
+  label = x.label;
+  sdi = x.sdi;
+  format = option_map_or (λ p. p.format) (parameter_of parameters (label_key x)) Bnr;
+  sources = map (number_in streams) x.sources.items;
+  stale = x.stale;
+  oldest = x.age;
+  least = option_map_or (λ p. output_minimum tick p.min_us) (parameter_of parameters (label_key x)) 0;
+  greatest = option_map_or (λ p. output_maximum tick p.max_us) (parameter_of parameters (label_key x)) 0;
+}
+
+-- the entries of an output in the order of the text
+abbrev pub entry_of : PlacedEntry → Entry
+entry_of e = record { offset = e.offset; label = e.label }
+
+abbrev pub own_entries : List PlacedEntry → ℕ → List Entry
+own_entries entries o = map entry_of (filter (λ e. e.output == o) entries)
+
+-- entries in ascending order of offset
+pub record IsFrameOf (all : List PlacedEntry) (o : ℕ) (frame : List Entry) : Type 0 where
+  pub same : IsPermutation (own_entries all o) frame
+  pub ascend : IsNonDecreasingBy (λ e. e.offset) frame
+
+-- an output: its entries are those of its labels
+pub record IsOutputRow (tick : ℕ) (all : List PlacedEntry) (o : ℕ) (part : OutputPart) (row : Output) : Type 0 where
+  pub steps : row.steps ≡ part.steps
+  pub within : row.within ≡ part.within
+  pub gap : row.gap ≡ output_gap tick part.speed
+  pub frame : row.frame ≡ part.frame
+  pub entries : IsFrameOf all o row.entries
+
+-- the first n rows of the outputs are there
+pub record AreOutputs (tick : ℕ) (all : List PlacedEntry) (parts : List OutputPart) (n : ℕ) (rows : List Output) : Type 0 where
+  pub there : length rows ≡ n
+  pub each : (o : ℕ) (e : OutputPart) → o < n → IsOutputRow tick all o (slice_index_or parts o e) (slice_index_or rows o (record { steps = 0; within = 0; gap = 0; frame = 0; entries = [] }))
+
+abbrev pub keys_of : Document → TableKeys
+keys_of d = record { buses = bus_names d; streams = stream_names d; routers = router_names d; outputs = output_names d; labels = label_names d }
+
+-- the rows of a document
+pub record AreRows (d : Document) (t : TableRows) : Type 0 where
+  pub tick : t.tick_us ≡ d.tick_us
+  pub buses : t.buses ≡ bus_rows_from (stream_owners d) d.routers 0 d.buses
+  pub streams : t.streams ≡ map (stream_row_of d.tick_us d.parameters) d.streams
+  pub routers : t.routers ≡ map (router_row_of (bus_names d)) d.routers
+  pub outputs_there : length t.outputs ≡ length d.outputs
+  pub outputs : (o : ℕ) (e : OutputPart) → o < length d.outputs → IsOutputRow d.tick_us (entries_from 0 d.labels) o (slice_index_or d.outputs o e) (output_row t o)
+  pub labels : t.labels ≡ map (label_row_of d.tick_us d.parameters (stream_names d)) d.labels
+  pub keys : t.keys ≡ keys_of d

@@ -1,0 +1,261 @@
+//! The rows of tables that break no rule.
+ghost use Rattle.std.specs.Prelude.{All, ◌≡◌, ℕ, ◌≤◌, ◌<◌, ◌==◌, nat_lt, count_by, map, length, slice_index_or, IfOk, unwrap_or, position};
+ghost use Rattle.dc_tables.specs.RowsOf.{bus_row_of, bus_rows_from, stream_row_of, number_in, router_row_of, label_row_of, own_entries, IsFrameOf, IsOutputRow, AreOutputs};
+ghost use Rattle.dc_tables.specs.Rules.{visits_bus};
+
+use crate::index::{NameIndex, Parameters};
+use crate::keys::PlacedEntry;
+use crate::name::Name;
+use crate::parts::{BusPart, LabelPart, OutputPart, RouterPart, StreamPart};
+use crate::references::does_visit;
+use crate::rows::{Bus, Entries, Entry, Numbers, Output, OutputLabel, Router, Stream};
+use crate::ticks::{input_spacing, output_gap, ticks_up};
+use dc_word::Format;
+use std::alloc::{AllocError, Global};
+
+/// The number of a name that is there.
+fn number_in(names: &NameIndex, name: &Name) -> usize
+    ensures { result ≡ number_in names.now name.now }
+{
+    names.number_of(name).unwrap_or(0)
+}
+
+/// The numbers of names that are there.
+fn numbers_of(alloc: Global, names: &NameIndex, wanted: &[Name]) -> Result<Numbers, AllocError>
+    ensures { IfOk result (λ n. n ≡ map (number_in names.now) wanted.now) }
+{
+    let items = wanted.iter().map(|n| number_in(names, n)).collect(alloc)?;
+    Ok(Numbers { items })
+}
+
+/// How many owners are below this one.
+fn count_before(owners: &[usize], owner: usize) -> usize
+    ensures { result ≡ count_by (λ o. nat_lt o owner) owners.now }
+{
+    owners.iter().filter(|o| **o < owner).count()
+}
+
+/// How many owners are this one.
+fn count_own(owners: &[usize], owner: usize) -> usize
+    ensures { result ≡ count_by (λ o. o == owner) owners.now }
+{
+    owners.iter().filter(|o| **o == owner).count()
+}
+
+/// The router that visits the bus of this name.
+fn router_of(routers: &[RouterPart], name: &Name) -> usize
+    ensures { result ≡ unwrap_or (position (visits_bus name.now) routers.now) 0 }
+{
+    first_visitor(routers, name).unwrap_or(0)
+}
+
+/// The first router that visits the bus of this name.
+fn first_visitor(routers: &[RouterPart], name: &Name) -> Option<usize>
+    ensures { result ≡ position (visits_bus name.now) routers.now }
+{
+    routers.iter().position(|r| does_visit(name, r))
+}
+
+fn bus_row(owners: &[usize], routers: &[RouterPart], bus: usize, part: &BusPart) -> Bus
+    ensures { result ≡ bus_row_of owners.now routers.now bus part.now }
+{
+    Bus {
+        queue: part.queue,
+        spacing: input_spacing(part.speed),
+        first: count_before(owners, bus),
+        streams: count_own(owners, bus),
+        router: router_of(routers, &part.name),
+    }
+}
+
+#[tactic(auto, using(crate::proofs::RowsMade::bus_rows_step))]
+pub(crate) fn bus_rows(
+    alloc: Global,
+    owners: &[usize],
+    routers: &[RouterPart],
+    parts: &[BusPart],
+) -> Result<Vec<Bus>, AllocError>
+    ensures { IfOk result (λ v. v.items ≡ bus_rows_from owners.now routers.now 0 parts.now) }
+{
+    let mut rows = Vec::new(alloc);
+    for (bus, part) in parts.iter().enumerate() {
+        rows.push(bus_row(owners, routers, bus, part))?;
+    }
+    Ok(rows)
+}
+
+fn stream_row(tick_us: u32, parameters: &Parameters, part: &StreamPart) -> Stream
+    requires { 1 ≤ tick_us }
+    ensures { result ≡ stream_row_of tick_us parameters.now part.now }
+{
+    let (minimum, maximum) = match parameters.find(part.key()) {
+        None => (0, 0),
+        Some(p) => (p.min_us / tick_us, ticks_up(tick_us, p.max_us)),
+    };
+    Stream {
+        bus: part.bus,
+        label: part.label,
+        sdi: part.sdi,
+        minimum,
+        maximum,
+    }
+}
+
+pub(crate) fn stream_rows(
+    alloc: Global,
+    tick_us: u32,
+    parameters: &Parameters,
+    parts: &[StreamPart],
+) -> Result<Vec<Stream>, AllocError>
+    requires { 1 ≤ tick_us }
+    ensures { IfOk result (λ v. v.items ≡ map (stream_row_of tick_us parameters.now) parts.now) }
+{
+    parts
+        .iter()
+        .map(|s| stream_row(tick_us, parameters, s))
+        .collect(alloc)
+}
+
+fn router_row(alloc: Global, buses: &NameIndex, part: &RouterPart) -> Result<Router, AllocError>
+    ensures { IfOk result (λ r. r ≡ router_row_of buses.now part.now) }
+{
+    let visits = numbers_of(alloc, buses, &part.visits)?;
+    Ok(Router {
+        steps: part.steps,
+        within: part.within,
+        most: part.most,
+        visits,
+    })
+}
+
+pub(crate) fn router_rows(
+    alloc: Global,
+    buses: &NameIndex,
+    parts: &[RouterPart],
+) -> Result<Vec<Router>, AllocError>
+    ensures { IfOk result (λ v. v.items ≡ map (router_row_of buses.now) parts.now) }
+{
+    let mut rows = Vec::new(alloc);
+    for part in parts {
+        rows.push(router_row(alloc, buses, part)?)?;
+    }
+    Ok(rows)
+}
+
+/// The least and greatest interval and the format that the label's parameter leaves to an output.
+fn label_row(
+    alloc: Global,
+    tick_us: u32,
+    parameters: &Parameters,
+    streams: &NameIndex,
+    part: &LabelPart,
+) -> Result<OutputLabel, AllocError>
+    requires { 1 ≤ tick_us }
+    ensures row { IfOk result (λ r. r ≡ label_row_of tick_us parameters.now streams.now part.now) }
+    ensures fits { IfOk result (λ r. (r.label < 256) × (r.sdi < 4)) }
+{
+    let _label = part.label.number();
+    let _sdi = part.sdi.number();
+    let sources = numbers_of(alloc, streams, &part.sources)?;
+    let (format, least, greatest) = match parameters.find(part.key()) {
+        None => (Format::Bnr, 0, 0),
+        Some(p) => (
+            p.format,
+            ticks_up(tick_us, p.min_us) + 1,
+            (p.max_us / tick_us).saturating_sub(1),
+        ),
+    };
+    Ok(OutputLabel {
+        output: part.output,
+        label: part.label,
+        sdi: part.sdi,
+        format,
+        sources,
+        stale: part.stale,
+        oldest: part.age,
+        least,
+        greatest,
+    })
+}
+
+#[tactic(auto, using(crate::proofs::RowsMade::all_push))]
+pub(crate) fn label_rows(
+    alloc: Global,
+    tick_us: u32,
+    parameters: &Parameters,
+    streams: &NameIndex,
+    parts: &[LabelPart],
+) -> Result<Vec<OutputLabel>, AllocError>
+    requires { 1 ≤ tick_us }
+    ensures rows { IfOk result (λ v. v.items ≡ map (label_row_of tick_us parameters.now streams.now) parts.now) }
+    ensures fit { IfOk result (λ v. All (λ r. (r.label < 256) × (r.sdi < 4)) v.items) }
+{
+    let mut rows = Vec::new(alloc);
+    for part in parts {
+        rows.push(label_row(alloc, tick_us, parameters, streams, part)?)?;
+    }
+    Ok(rows)
+}
+
+/// The entries of an output in the order of the text.
+fn own_entries(
+    alloc: Global,
+    entries: &[PlacedEntry],
+    output: usize,
+) -> Result<Vec<Entry>, AllocError>
+    ensures { IfOk result (λ v. v.items ≡ own_entries entries.now output) }
+{
+    entries
+        .iter()
+        .filter(|e| e.output == output)
+        .map(|e| Entry {
+            offset: e.offset,
+            label: e.label,
+        })
+        .collect(alloc)
+}
+
+/// The entries of an output in ascending order of offset.
+fn frame_of(alloc: Global, entries: &[PlacedEntry], output: usize) -> Result<Entries, AllocError>
+    ensures { IfOk result (λ e. IsFrameOf entries.now output e) }
+{
+    let mut items = own_entries(alloc, entries, output)?;
+    items.sort_unstable_by_key(|e| e.offset);
+    Ok(Entries { items })
+}
+
+fn output_row(
+    alloc: Global,
+    tick_us: u32,
+    entries: &[PlacedEntry],
+    output: usize,
+    part: &OutputPart,
+) -> Result<Output, AllocError>
+    requires { 1 ≤ tick_us }
+    ensures { IfOk result (λ r. IsOutputRow tick_us entries.now output part.now r) }
+{
+    let entries = frame_of(alloc, entries, output)?;
+    Ok(Output {
+        steps: part.steps,
+        within: part.within,
+        gap: output_gap(tick_us, part.speed),
+        frame: part.frame,
+        entries,
+    })
+}
+
+pub(crate) fn output_rows(
+    alloc: Global,
+    tick_us: u32,
+    entries: &[PlacedEntry],
+    parts: &[OutputPart],
+) -> Result<Vec<Output>, AllocError>
+    requires { 1 ≤ tick_us }
+    ensures { IfOk result (λ v. AreOutputs tick_us entries.now parts.now (length parts.now) v.items) }
+{
+    let mut rows = Vec::new(alloc);
+    for (output, part) in parts.iter().enumerate() {
+        rows.push(output_row(alloc, tick_us, entries, output, part)?)?;
+    }
+    Ok(rows)
+}

@@ -1,0 +1,57 @@
+ghost use Rattle.std.specs.Prelude.{◌≡◌, length};
+ghost use Rattle.std.specs.List.{list_all};
+ghost use Rattle.dc_tables.specs.Names.{is_name_byte as is_spelling_byte, is_spelled as is_spelled_name, name_of};
+
+use std::marker::Model;
+
+/// The name of a bus, stream, router, output or label: 1 to 16 of the characters A-Z, a-z, 0-9, `_` and `-`.
+#[derive(Clone, Copy, Debug, PartialEq, Eq, Hash)]
+pub struct Name([u8; 16]);
+
+impl Model for Name {
+    ghost use Rattle.std.specs.Prelude.{ℕ, List};
+    ghost use Rattle.dc_tables.specs.Names.{IsName};
+
+    ghost Value = { List ℕ };
+
+    ghost view = { λ n. n.0 };
+
+    ghost invariant = { λ n. IsName n.0 };
+
+    ghost inverse = { λ bytes. record { 0 = bytes } };
+}
+
+// Whether a byte is a letter, a digit, `_` or `-`.
+fn is_name_byte(byte: u8) -> bool
+    ensures { result ≡ is_spelling_byte byte }
+{
+    matches!(byte, b'A'..=b'Z' | b'a'..=b'z' | b'0'..=b'9' | b'_' | b'-')
+}
+
+// Whether each byte may stand in a name.
+fn are_name_bytes(bytes: &[u8]) -> bool
+    ensures { result ≡ list_all is_spelling_byte bytes.now }
+{
+    bytes.iter().all(|byte| is_name_byte(*byte))
+}
+
+// Whether a text is spelled as a name.
+fn is_spelled(text: &[u8]) -> bool
+    ensures { result ≡ is_spelled_name text.now }
+{
+    !text.is_empty() && text.len() <= 16 && are_name_bytes(text)
+}
+
+impl Name {
+    /// The name with this text, if it is spelled as one.
+    pub fn new(text: &[u8]) -> Option<Name>
+        ensures { result ≡ name_of text.now }
+    {
+        if !is_spelled(text) {
+            return None;
+        }
+        let mut bytes = [0; 16];
+        bytes[..text.len()].copy_from_slice(text);
+        Some(Name(bytes))
+    }
+}

@@ -1,0 +1,113 @@
+//! The rules on names that one table has of another, and on what two tables share.
+ghost use Rattle.std.specs.Prelude.{◌≡◌, is_some};
+ghost use Rattle.dc_tables.specs.Rules.{has_unknown, first_lost_router, first_lost_label, visits_bus, first_unserved};
+ghost use Rattle.dc_tables.specs.Rules.{sdis_meet, overlap, doubled, doubled_from, doubled_name, first_doubled_source};
+ghost use Rattle.std.specs.Str.{bytes_eq};
+ghost use Rattle.std.specs.List.{list_any};
+
+use crate::index::NameIndex;
+use crate::name::Name;
+use crate::parts::{BusPart, LabelPart, RouterPart, StreamPart};
+use dc_word::Sdi;
+
+/// Whether one of these names is not there.
+fn has_unknown(names: &NameIndex, wanted: &[Name]) -> bool
+    ensures { result ≡ has_unknown names.now wanted.now }
+{
+    wanted.iter().any(|n| names.number_of(n).is_none())
+}
+
+/// The first router that visits a bus that is not there.
+pub(crate) fn first_lost_router(buses: &NameIndex, routers: &[RouterPart]) -> Option<usize>
+    ensures { result ≡ first_lost_router buses.now routers.now }
+{
+    routers.iter().position(|r| has_unknown(buses, &r.visits))
+}
+
+/// The first label with a source that is not there.
+pub(crate) fn first_lost_label(streams: &NameIndex, labels: &[LabelPart]) -> Option<usize>
+    ensures { result ≡ first_lost_label streams.now labels.now }
+{
+    labels.iter().position(|x| has_unknown(streams, &x.sources))
+}
+
+/// Whether the router visits the bus of this name.
+pub(crate) fn does_visit(name: &Name, router: &RouterPart) -> bool
+    ensures { result ≡ visits_bus name.now router.now }
+{
+    is_among(name, &router.visits)
+}
+
+/// The first bus that no router visits, or two.
+pub(crate) fn first_unserved(routers: &[RouterPart], buses: &[BusPart]) -> Option<usize>
+    ensures { result ≡ first_unserved routers.now buses.now }
+{
+    buses.iter().position(|b| routers.iter().filter(|r| does_visit(&b.name, r)).count() != 1)
+}
+
+/// Whether one word may fit both declarations.
+fn do_sdis_meet(a: Option<Sdi>, b: Option<Sdi>) -> bool
+    ensures { result ≡ sdis_meet a b }
+{
+    match (a, b) {
+        (None, _) => true,
+        (Some(_), None) => true,
+        (Some(x), Some(y)) => x == y,
+    }
+}
+
+/// Whether two streams are of one bus and declare one word.
+fn do_overlap(one: &StreamPart, other: &StreamPart) -> bool
+    ensures { result ≡ overlap one.now other.now }
+{
+    one.bus == other.bus && one.label == other.label && do_sdis_meet(one.sdi, other.sdi)
+}
+
+/// Whether the stream overlaps with one of these.
+fn does_overlap_any(stream: &StreamPart, others: &[StreamPart]) -> bool
+    ensures { result ≡ list_any (overlap stream.now) others.now }
+{
+    others.iter().any(|other| do_overlap(stream, other))
+}
+
+/// The first stream that overlaps with one before it.
+#[tactic(auto, using(crate::proofs::Doubled::doubled_step))]
+pub(crate) fn first_overlap(streams: &[StreamPart]) -> Option<usize>
+    ensures { result ≡ doubled overlap streams.now }
+{
+    for (i, stream) in streams.iter().enumerate() {
+        if does_overlap_any(stream, &streams[..i]) {
+            return Some(i);
+        }
+    }
+    None
+}
+
+/// Whether the name is one of these.
+fn is_among(name: &Name, others: &[Name]) -> bool
+    ensures { result ≡ list_any (bytes_eq name.now) others.now }
+{
+    others.iter().any(|other| name == other)
+}
+
+/// The first name that is doubled, in a short list.
+#[tactic(auto, using(crate::proofs::Doubled::doubled_step))]
+fn first_doubled_name(names: &[Name]) -> Option<usize>
+    ensures { result ≡ doubled_name names.now }
+{
+    for (i, name) in names.iter().enumerate() {
+        if is_among(name, &names[..i]) {
+            return Some(i);
+        }
+    }
+    None
+}
+
+/// The first label with a doubled source.
+pub(crate) fn first_doubled_source(labels: &[LabelPart]) -> Option<usize>
+    ensures { result ≡ first_doubled_source labels.now }
+{
+    labels
+        .iter()
+        .position(|x| first_doubled_name(&x.sources).is_some())
+}

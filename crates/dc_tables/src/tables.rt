@@ -1,0 +1,292 @@
+ghost use Rattle.std.specs.Prelude.{◌≡◌, ◌+◌, ◌%◌, ◌<◌, length, IfSome};
+ghost use Rattle.dc_tables.specs.TableRows.{visited, bus_row, router_row};
+ghost use Rattle.dc_tables.specs.Declares.{declares, stream_of, fits};
+
+use crate::fault::BuildError;
+use crate::index::{NameIndex, Parameters};
+use crate::judge::{Names, check_first, check_later};
+use crate::keys::PlacedEntry;
+use crate::made::{make_buses, make_labels, make_outputs, make_routers, make_streams};
+use crate::name::Name;
+use crate::parts::Parts;
+use crate::rows::{Bus, Output, OutputLabel, Router, Stream};
+use dc_word::{Sdi, Word};
+use std::alloc::{AllocError, Global};
+use std::marker::Model;
+
+/// Valid tables. A clause sees them as their rows, which are valid.
+#[derive(Drop)]
+pub struct Tables {
+    tick_us: u32,
+    buses: Vec<Bus>,
+    streams: Vec<Stream>,
+    routers: Vec<Router>,
+    outputs: Vec<Output>,
+    labels: Vec<OutputLabel>,
+    bus_names: NameIndex,
+    stream_names: NameIndex,
+    router_names: NameIndex,
+    output_names: NameIndex,
+    label_names: NameIndex,
+}
+
+impl Model for Tables {
+    ghost use Rattle.dc_tables.specs.TableRows.{TableRows, AreValid};
+
+    ghost Value = { TableRows };
+
+    ghost view = { λ t. record { tick_us = t.tick_us; buses = t.buses.items; streams = t.streams.items; routers = t.routers.items; outputs = t.outputs.items; labels = t.labels.items; keys = record { buses = t.bus_names; streams = t.stream_names; routers = t.router_names; outputs = t.output_names; labels = t.label_names } } };
+
+    ghost invariant = { λ t. AreValid (record { tick_us = t.tick_us; buses = t.buses.items; streams = t.streams.items; routers = t.routers.items; outputs = t.outputs.items; labels = t.labels.items; keys = record { buses = t.bus_names; streams = t.stream_names; routers = t.router_names; outputs = t.output_names; labels = t.label_names } }) };
+}
+
+impl Tables {
+    ghost use Rattle.dc_tables.specs.TableRows.{AreValid, stream_row, output_row, label_row};
+    ghost use Rattle.std.specs.Prelude.{◌≤◌, Ok, IfOk, vec_len};
+    ghost use Rattle.dc_tables.specs.RowsOf.{AreRows};
+    ghost use Rattle.dc_tables.specs.Rules.{Tells, verdict_of, first_rules, later_rules, entries_from, bus_names, stream_names, router_names, output_names, label_names, number_of};
+
+    /// The tables of these parts, where no rule is broken, else the first broken rule; or memory is out.
+    pub fn build(alloc: Global, parts: Parts) -> Result<Tables, BuildError>
+        ensures verdict { Tells (verdict_of parts) result }
+        ensures rows { IfOk result (λ t. AreRows parts t) }
+    {
+        let (entries, parameters) = check_first(alloc, &parts)?;
+        let names = check_later(alloc, &parts, &parameters, &entries)?;
+        Tables::assembled(alloc, &parts, &parameters, names, &entries)
+    }
+
+    /// The tables of parts that break no rule.
+    fn assemble(
+        alloc: Global,
+        parts: &Parts,
+        parameters: &Parameters,
+        names: Names,
+        entries: &[PlacedEntry],
+    ) -> Result<Tables, AllocError>
+        requires first { first_rules parts.now ≡ Ok tt }
+        requires later { later_rules parts.now ≡ Ok tt }
+        requires tick { 1 ≤ parts.now.tick_us }
+        requires parameters { parameters.now ≡ parts.now.parameters }
+        requires entries { entries.now ≡ entries_from 0 parts.now.labels }
+        requires buses { names.buses ≡ bus_names parts.now }
+        requires streams { names.streams ≡ stream_names parts.now }
+        requires routers { names.routers ≡ router_names parts.now }
+        requires outputs { names.outputs ≡ output_names parts.now }
+        requires labels { names.labels ≡ label_names parts.now }
+        ensures { IfOk result (λ t. AreRows parts.now t) }
+    {
+        parts.in_order();
+        let buses = make_buses(alloc, parts)?;
+        let streams = make_streams(alloc, parts, parameters)?;
+        let routers = make_routers(alloc, parts, &names.buses)?;
+        let outputs = make_outputs(alloc, parts, entries)?;
+        let labels = make_labels(alloc, parts, parameters, &names.streams)?;
+        let tick_us = parts.tick_us();
+        Ok(Tables {
+            tick_us,
+            buses,
+            streams,
+            routers,
+            outputs,
+            labels,
+            bus_names: names.buses,
+            stream_names: names.streams,
+            router_names: names.routers,
+            output_names: names.outputs,
+            label_names: names.labels,
+        })
+    }
+
+    /// The same, where want of memory is an error of `build`.
+    fn assembled(
+        alloc: Global,
+        parts: &Parts,
+        parameters: &Parameters,
+        names: Names,
+        entries: &[PlacedEntry],
+    ) -> Result<Tables, BuildError>
+        requires first { first_rules parts.now ≡ Ok tt }
+        requires later { later_rules parts.now ≡ Ok tt }
+        requires tick { 1 ≤ parts.now.tick_us }
+        requires parameters { parameters.now ≡ parts.now.parameters }
+        requires entries { entries.now ≡ entries_from 0 parts.now.labels }
+        requires buses { names.buses ≡ bus_names parts.now }
+        requires streams { names.streams ≡ stream_names parts.now }
+        requires routers { names.routers ≡ router_names parts.now }
+        requires outputs { names.outputs ≡ output_names parts.now }
+        requires labels { names.labels ≡ label_names parts.now }
+        ensures verdict { Tells (verdict_of parts.now) result }
+        ensures rows { IfOk result (λ t. AreRows parts.now t) }
+    {
+        match Tables::assemble(alloc, parts, parameters, names, entries) {
+            Ok(tables) => Ok(tables),
+            Err(error) => Err(BuildError::Memory(error)),
+        }
+    }
+
+    /// The number of the bus of this name.
+    pub fn bus_named(&self, name: &Name) -> Option<usize>
+        ensures { result ≡ number_of self.now.keys.buses name.now }
+    {
+        self.bus_names.number_of(name)
+    }
+
+    /// The number of the router of this name.
+    pub fn router_named(&self, name: &Name) -> Option<usize>
+        ensures { result ≡ number_of self.now.keys.routers name.now }
+    {
+        self.router_names.number_of(name)
+    }
+
+    /// The number of the output of this name.
+    pub fn output_named(&self, name: &Name) -> Option<usize>
+        ensures { result ≡ number_of self.now.keys.outputs name.now }
+    {
+        self.output_names.number_of(name)
+    }
+
+    /// The tables meet their rules.
+    pub fn valid(&self)
+        ensures { AreValid self.now }
+    {
+        let _ = &self.tick_us;
+    }
+
+    /// The length of a tick in microseconds, 100 to 10,000.
+    pub fn tick_us(&self) -> u32
+        ensures { result ≡ self.now.tick_us }
+    {
+        self.tick_us
+    }
+
+    pub fn bus_count(&self) -> usize
+        ensures { result ≡ length self.now.buses }
+    {
+        self.buses.len()
+    }
+
+    pub fn stream_count(&self) -> usize
+        ensures { result ≡ length self.now.streams }
+    {
+        self.streams.len()
+    }
+
+    pub fn router_count(&self) -> usize
+        ensures { result ≡ length self.now.routers }
+    {
+        self.routers.len()
+    }
+
+    pub fn output_count(&self) -> usize
+        ensures { result ≡ length self.now.outputs }
+    {
+        self.outputs.len()
+    }
+
+    pub fn label_count(&self) -> usize
+        ensures { result ≡ length self.now.labels }
+    {
+        self.labels.len()
+    }
+
+    pub fn bus(&self, bus: usize) -> &Bus
+        requires { bus < length self.now.buses }
+        ensures { result.now ≡ bus_row self.now bus }
+    {
+        &self.buses[bus]
+    }
+
+    pub fn stream(&self, stream: usize) -> &Stream
+        requires { stream < length self.now.streams }
+        ensures { result.now ≡ stream_row self.now stream }
+    {
+        &self.streams[stream]
+    }
+
+    pub fn router(&self, router: usize) -> &Router
+        requires { router < length self.now.routers }
+        ensures { result.now ≡ router_row self.now router }
+    {
+        &self.routers[router]
+    }
+
+    pub fn output(&self, output: usize) -> &Output
+        requires { output < length self.now.outputs }
+        ensures { result.now ≡ output_row self.now output }
+    {
+        &self.outputs[output]
+    }
+
+    /// The row of a label; `label` is its number among the labels of all outputs.
+    pub fn label(&self, label: usize) -> &OutputLabel
+        requires { label < length self.now.labels }
+        ensures { result.now ≡ label_row self.now label }
+    {
+        &self.labels[label]
+    }
+
+    /// The capacity of a bus's queue, 1 to 4,096.
+    pub fn queue(&self, bus: usize) -> u32
+        requires { bus < length self.now.buses }
+        ensures { result ≡ (bus_row self.now bus).queue }
+    {
+        self.buses[bus].queue
+    }
+
+    /// The bus of a stream.
+    pub fn bus_of(&self, stream: usize) -> usize
+        requires { stream < length self.now.streams }
+        ensures bus { result ≡ (stream_row self.now stream).bus }
+        ensures there { result < length self.now.buses }
+    {
+        self.streams[stream].bus
+    }
+
+    /// The bus that the router visits at this cursor, and the cursor after it.
+    pub fn visit(&self, router: usize, cursor: usize) -> (usize, usize)
+        requires { router < length self.now.routers }
+        ensures bus { result.0 ≡ visited self.now router cursor }
+        ensures there { result.0 < length self.now.buses }
+        ensures next { result.1 ≡ (cursor % length (router_row self.now router).visits + 1) % length (router_row self.now router).visits }
+    {
+        let row = &self.routers[router];
+        let visits = row.visits.as_slice();
+        let len = visits.len();
+        let at = cursor % len;
+        let bus = visits[at];
+        (bus, (at + 1) % len)
+    }
+
+    /// The number of the stream of the bus that declares the word.
+    #[tactic(auto, unfolding(crate::specs::Declares::stream_of))]
+    pub fn stream_of(&self, bus: usize, word: Word) -> Option<usize>
+        ensures stream { result ≡ stream_of self.now bus word }
+        ensures there { IfSome result (λ s. s < length self.now.streams) }
+    {
+        self.streams
+            .iter()
+            .position(|stream| stream.declares(bus, word))
+    }
+}
+
+impl Stream {
+    /// Whether the stream is of the bus and declares the word's label and SDI.
+    pub fn declares(&self, bus: usize, word: Word) -> bool
+        ensures { result ≡ declares bus word self.now }
+    {
+        self.bus == bus
+            && self.label.number() == word.label_number()
+            && fits_sdi(self.sdi, word.sdi())
+    }
+}
+
+/// Whether a stream that declares this SDI, or any, takes words of that one.
+fn fits_sdi(declared: Option<Sdi>, sdi: u32) -> bool
+    ensures { result ≡ fits declared sdi }
+{
+    match declared {
+        None => true,
+        Some(one) => one.number() as u32 == sdi,
+    }
+}

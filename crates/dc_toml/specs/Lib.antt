@@ -1,0 +1,5 @@
+pub mod Written
+pub mod Faults
+pub mod Keys
+pub mod Reading
+pub mod Told

@@ -1,0 +1,205 @@
+-- What the text of tables says, or its first fault: table by table, and for each its keys in their order.
+use Rattle.std.specs.Prelude.{ℕ, ◌-◌, ℤ, pos, negsuc, List, [], ◌∷◌, length, codes, Bool, false, ◌&&◌, ◌==◌, nat_le, if◌then◌else◌, Option, Some, None, option_and_then, Ok}
+use Rattle.std.specs.Str.{is_utf8}
+use Rattle.toml.specs.Data.{Data, Items, no_items, item, Members, get_member, as_integer}
+use Rattle.toml.specs.Parse.{parse_document}
+use Rattle.dc_tables.specs.declared.fault.Code.TheVariants.{T01, T02}
+use Rattle.dc_tables.specs.declared.fault.Section.TheVariants.{Top, Parameter, Bus, Stream, Router, Output, Label}
+use Rattle.dc_toml.specs.declared.place.Place.{Place}
+use Rattle.dc_toml.specs.Faults.{Reading, place, refused, ◌>>=◌, wanted, found}
+use Rattle.dc_toml.specs.Written.{Written, nothing_written, and_parameter, and_bus, and_stream, and_router, and_output, and_label}
+use Rattle.dc_toml.specs.Keys.{table_of, known, present, number_at, name_at, speed_at, format_at, label_at, equipment_at, sdi_at, stream_sdi_at, names_at, offsets_at, tables_at, optional_at}
+
+-- the tables of a list in order, each behind what was read before it
+abbrev pub each_table : (Written → Data → Reading Written) → Written → Items → Reading Written
+each_table one d no_items = Ok d
+each_table one d (item v vs) = one d v >>= (λ more. each_table one more vs)
+
+-- ---- the places of the next tables
+
+abbrev pub next_parameter : Written → Place
+next_parameter d = place Parameter (length d.parameters)
+
+abbrev pub next_bus : Written → Place
+next_bus d = place Bus (length d.buses)
+
+abbrev pub next_stream : Written → Place
+next_stream d = place Stream (length d.streams)
+
+abbrev pub next_router : Written → Place
+next_router d = place Router (length d.routers)
+
+abbrev pub next_output : Written → Place
+next_output d = place Output (length d.outputs)
+
+abbrev pub next_label : Written → Place
+next_label d = place Label (length d.labels)
+
+-- ---- parameters
+
+abbrev pub parameter_keys : List (List ℕ)
+parameter_keys = codes "label" ∷ codes "equipment" ∷ codes "format" ∷ codes "min_us" ∷ codes "max_us" ∷ []
+
+unfoldable pub read_parameter : Written → Data → Reading Written
+read_parameter d v = do
+  ms ← table_of (next_parameter d) v
+  k ← known (next_parameter d) parameter_keys ms
+  p ← present (next_parameter d) parameter_keys ms
+  label ← label_at (next_parameter d) (codes "label") ms
+  equipment ← equipment_at (next_parameter d) (codes "equipment") ms
+  format ← format_at (next_parameter d) (codes "format") ms
+  min_us ← number_at (next_parameter d) (codes "min_us") 1 60000000 ms
+  max_us ← number_at (next_parameter d) (codes "max_us") 1 60000000 ms
+  Ok (and_parameter d (record { label = label; equipment = equipment; format = format; min_us = min_us; max_us = max_us }))
+
+-- ---- buses, each followed by its streams
+
+abbrev pub stream_keys : List (List ℕ)
+stream_keys = codes "name" ∷ codes "label" ∷ codes "equipment" ∷ codes "sdi" ∷ []
+
+-- a stream of the last bus
+unfoldable pub read_stream : Written → Data → Reading Written
+read_stream d v = do
+  ms ← table_of (next_stream d) v
+  k ← known (next_stream d) stream_keys ms
+  p ← present (next_stream d) stream_keys ms
+  name ← name_at (next_stream d) (codes "name") ms
+  label ← label_at (next_stream d) (codes "label") ms
+  equipment ← equipment_at (next_stream d) (codes "equipment") ms
+  sdi ← stream_sdi_at (next_stream d) (codes "sdi") ms
+  Ok (and_stream d (record { bus = length d.buses - 1; name = name; label = label; equipment = equipment; sdi = sdi }))
+
+abbrev pub bus_keys : List (List ℕ)
+bus_keys = codes "name" ∷ codes "speed" ∷ codes "queue" ∷ codes "stream" ∷ []
+
+unfoldable pub read_bus : Written → Data → Reading Written
+read_bus d v = do
+  ms ← table_of (next_bus d) v
+  k ← known (next_bus d) bus_keys ms
+  p ← present (next_bus d) bus_keys ms
+  name ← name_at (next_bus d) (codes "name") ms
+  speed ← speed_at (next_bus d) (codes "speed") ms
+  queue ← number_at (next_bus d) (codes "queue") 1 4096 ms
+  streams ← tables_at (next_bus d) (codes "stream") 1 256 ms
+  each_table read_stream (and_bus d (record { name = name; speed = speed; queue = queue })) streams
+
+-- ---- routers
+
+abbrev pub router_keys : List (List ℕ)
+router_keys = codes "name" ∷ codes "steps" ∷ codes "within" ∷ codes "most" ∷ codes "visits" ∷ []
+
+unfoldable pub read_router : Written → Data → Reading Written
+read_router d v = do
+  ms ← table_of (next_router d) v
+  k ← known (next_router d) router_keys ms
+  p ← present (next_router d) router_keys ms
+  name ← name_at (next_router d) (codes "name") ms
+  steps ← number_at (next_router d) (codes "steps") 1 1000 ms
+  within ← number_at (next_router d) (codes "within") 1 1000 ms
+  most ← number_at (next_router d) (codes "most") 1 1000 ms
+  visits ← names_at (next_router d) (codes "visits") 1 256 ms
+  Ok (and_router d (record { name = name; steps = steps; within = within; most = most; visits = visits }))
+
+-- ---- outputs, each followed by its labels
+
+abbrev pub label_keys : List (List ℕ)
+label_keys = codes "name" ∷ codes "label" ∷ codes "equipment" ∷ codes "sdi" ∷ codes "sources" ∷ codes "stale" ∷ codes "age" ∷ codes "offsets" ∷ []
+
+-- a label of the last output
+unfoldable pub read_label : Written → Data → Reading Written
+read_label d v = do
+  ms ← table_of (next_label d) v
+  k ← known (next_label d) label_keys ms
+  p ← present (next_label d) label_keys ms
+  name ← name_at (next_label d) (codes "name") ms
+  label ← label_at (next_label d) (codes "label") ms
+  equipment ← equipment_at (next_label d) (codes "equipment") ms
+  sdi ← sdi_at (next_label d) (codes "sdi") ms
+  sources ← names_at (next_label d) (codes "sources") 1 8 ms
+  stale ← number_at (next_label d) (codes "stale") 1 1000000 ms
+  age ← number_at (next_label d) (codes "age") 1 2000000 ms
+  offsets ← offsets_at (next_label d) (codes "offsets") 1 256 ms
+  Ok (and_label d (record { output = length d.outputs - 1; name = name; label = label; equipment = equipment; sdi = sdi; sources = sources; stale = stale; age = age; offsets = offsets }))
+
+abbrev pub output_keys : List (List ℕ)
+output_keys = codes "name" ∷ codes "speed" ∷ codes "steps" ∷ codes "within" ∷ codes "frame" ∷ codes "label" ∷ []
+
+unfoldable pub read_output : Written → Data → Reading Written
+read_output d v = do
+  ms ← table_of (next_output d) v
+  k ← known (next_output d) output_keys ms
+  p ← present (next_output d) output_keys ms
+  name ← name_at (next_output d) (codes "name") ms
+  speed ← speed_at (next_output d) (codes "speed") ms
+  steps ← number_at (next_output d) (codes "steps") 1 1000 ms
+  within ← number_at (next_output d) (codes "within") 1 1000 ms
+  frame ← number_at (next_output d) (codes "frame") 1 100000 ms
+  labels ← tables_at (next_output d) (codes "label") 1 256 ms
+  each_table read_label (and_output d (record { name = name; speed = speed; steps = steps; within = within; frame = frame })) labels
+
+-- ---- the whole text
+
+abbrev pub top : Place
+top = place Top 0
+
+-- the number 1 at `version`, else T02
+abbrev pub is_one : Option ℤ → Bool
+is_one None = false
+is_one (Some (negsuc n)) = false
+is_one (Some (pos n)) = n == 1
+
+abbrev pub version_of : Place → Members → Reading (Unit {0})
+version_of p ms = wanted p T02 (is_one (option_and_then as_integer (get_member (codes "version") ms)))
+
+abbrev pub wanted_keys : List (List ℕ)
+wanted_keys = codes "version" ∷ codes "tick_us" ∷ []
+
+abbrev pub top_keys : List (List ℕ)
+top_keys = codes "version" ∷ codes "tick_us" ∷ codes "parameter" ∷ codes "bus" ∷ codes "router" ∷ codes "output" ∷ []
+
+-- the length of a tick, where the top's keys are right
+unfoldable pub head_of : Place → Members → Reading ℕ
+head_of t ms = do
+  version ← version_of t ms
+  k ← known t top_keys ms
+  p ← present t wanted_keys ms
+  number_at t (codes "tick_us") 100 10000 ms
+
+-- the lists of tables at the top
+pub record TopItems : Type 0 where
+  pub parameters : Items
+  pub buses : Items
+  pub routers : Items
+  pub outputs : Items
+
+-- of at most so many tables, before these are looked at
+unfoldable pub lists_of : Place → Members → Reading TopItems
+lists_of t ms = do
+  parameters ← optional_at t (codes "parameter") 2048 ms
+  buses ← optional_at t (codes "bus") 64 ms
+  routers ← optional_at t (codes "router") 64 ms
+  outputs ← optional_at t (codes "output") 32 ms
+  Ok (record { parameters = parameters; buses = buses; routers = routers; outputs = outputs })
+
+-- and then all of them
+unfoldable pub members_of : Written → TopItems → Reading Written
+members_of d lists = do
+  a ← each_table read_parameter d lists.parameters
+  b ← each_table read_bus a lists.buses
+  c ← each_table read_router b lists.routers
+  each_table read_output c lists.outputs
+
+-- the tables that a document says
+unfoldable pub tables_in : Members → Reading Written
+tables_in ms = do
+  tick_us ← head_of top ms
+  lists ← lists_of top ms
+  members_of (nothing_written tick_us) lists
+
+-- the TOML document that a text is: within 1,048,576 bytes, in UTF-8, by the reading of `toml`, else T01
+unfoldable pub document_of : List ℕ → Reading Members
+document_of text = if nat_le (length text) 1048576 && is_utf8 text then found top T01 (parse_document text) else refused top T01
+
+-- the tables of a text
+abbrev pub tables_of : List ℕ → Reading Written
+tables_of text = document_of text >>= tables_in

@@ -1,0 +1,16 @@
+//! The text of tables: what a TOML document says, exactly, or its first fault.
+//!
+//! `toml` reads the text as an untyped tree; this crate looks at the tree table by table and key by key, and puts what
+//! it finds into `Parts`.
+#![tactic(auto)]
+
+mod keys;
+mod lists;
+mod place;
+mod read;
+mod sections;
+mod spellings;
+#[cfg(test)]
+mod tests;
+
+pub use read::{TEXT_LIMIT, read_parts, read_tables};

@@ -1,0 +1,33 @@
+//! Where a text is wrong.
+ghost use Rattle.std.specs.Prelude.{◌≡◌};
+ghost use Rattle.dc_toml.specs.Faults.{fault_at};
+ghost use Rattle.dc_toml.specs.Faults.{place as section_place};
+
+use dc_tables::{Code, Section, TableFault};
+
+/// A table of the text: its section, and its index there.
+#[derive(Clone, Copy, Debug, PartialEq)]
+pub struct Place {
+    pub section: Section,
+    pub index: usize,
+}
+
+impl Place {
+    /// The table of this section with this index.
+    pub fn new(section: Section, index: usize) -> Place
+        ensures { result ≡ section_place section index }
+    {
+        Place { section, index }
+    }
+
+    /// The fault with this code here.
+    pub fn fault(self, code: Code) -> TableFault
+        ensures { result ≡ fault_at self code }
+    {
+        TableFault {
+            code,
+            section: self.section,
+            index: self.index,
+        }
+    }
+}

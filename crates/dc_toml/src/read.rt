@@ -1,0 +1,146 @@
+//! From a text to the parts that it says, or its first fault.
+ghost use Rattle.std.specs.Prelude.{◌≡◌};
+ghost use Rattle.toml.specs.View.{table_view, items_view};
+ghost use Rattle.dc_toml.specs.Faults.{seen, Gives, Leaves};
+ghost use Rattle.dc_toml.specs.Told.{TellsTables};
+ghost use Rattle.dc_toml.specs.Written.{written};
+ghost use Rattle.dc_toml.specs.Reading.{document_of, head_of, lists_of, members_of, tables_in, tables_of};
+
+use crate::keys::{known, number, present, version};
+use crate::lists::optional_tables;
+use crate::place::Place;
+use crate::sections::read_tables_of;
+use dc_tables::{
+    BuildError, BusPart, Code, OutputPart, ParameterPart, Parts, RouterPart, Section, TableFault,
+    Tables,
+};
+use std::alloc::{AllocError, Global};
+use toml::{Table, Value};
+
+/// The longest text that is read, in bytes.
+pub const TEXT_LIMIT: usize = 1_048_576;
+
+// The length of a tick, where the top's keys are right.
+#[tactic(auto, unfolding(crate::specs::Reading::head_of))]
+fn head(document: &Table, top: Place) -> Result<u32, TableFault>
+    ensures { result ≡ head_of top (table_view document.now) }
+{
+    version(document, top)?;
+    known(
+        document,
+        &["version", "tick_us", "parameter", "bus", "router", "output"],
+        top,
+    )?;
+    present(document, &["version", "tick_us"], top)?;
+    number(document, "tick_us", 100, 10_000, top)
+}
+
+// The four lists of tables at the top.
+#[derive(Clone, Copy)]
+struct TopLists<'a> {
+    parameters: &'a [Value],
+    buses: &'a [Value],
+    routers: &'a [Value],
+    outputs: &'a [Value],
+}
+
+// The four lists of tables at the top, before their members are looked at.
+#[tactic(auto, unfolding(crate::specs::Reading::lists_of))]
+fn lists<'a>(document: &'a Table, top: Place) -> Result<TopLists<'a>, TableFault>
+    ensures { seen (λ l. record { parameters = items_view l.parameters.now; buses = items_view l.buses.now; routers = items_view l.routers.now; outputs = items_view l.outputs.now }) result ≡ lists_of top (table_view document.now) }
+{
+    let parameters = optional_tables(document, "parameter", 2048, top)?;
+    let buses = optional_tables(document, "bus", 64, top)?;
+    let routers = optional_tables(document, "router", 64, top)?;
+    let outputs = optional_tables(document, "output", 32, top)?;
+    Ok(TopLists {
+        parameters,
+        buses,
+        routers,
+        outputs,
+    })
+}
+
+// Puts the tables of the four lists behind what was read before them.
+#[tactic(auto, unfolding(crate::specs::Reading::members_of))]
+fn members(
+    alloc: Global,
+    parts: &mut Parts,
+    parameters: &[Value],
+    buses: &[Value],
+    routers: &[Value],
+    outputs: &[Value],
+) -> Result<(), BuildError>
+    ensures { Leaves (written parts.new) result (members_of (written parts.old) (record { parameters = items_view parameters.now; buses = items_view buses.now; routers = items_view routers.now; outputs = items_view outputs.now })) }
+{
+    read_tables_of::<ParameterPart>(alloc, parts, parameters)?;
+    read_tables_of::<BusPart>(alloc, parts, buses)?;
+    read_tables_of::<RouterPart>(alloc, parts, routers)?;
+    read_tables_of::<OutputPart>(alloc, parts, outputs)
+}
+
+// The parts that a document says.
+#[tactic(auto, unfolding(crate::specs::Reading::tables_in))]
+fn parts(alloc: Global, document: &Table) -> Result<Parts, BuildError>
+    ensures { Gives written result (tables_in (table_view document.now)) }
+{
+    let top = Place::new(Section::Top, 0);
+    let tick_us = head(document, top)?;
+    let lists = lists(document, top)?;
+    let mut parts = Parts::new(alloc, tick_us);
+    members(
+        alloc,
+        &mut parts,
+        lists.parameters,
+        lists.buses,
+        lists.routers,
+        lists.outputs,
+    )?;
+    Ok(parts)
+}
+
+// The TOML document that a text is.
+#[tactic(auto, unfolding(crate::specs::Reading::document_of))]
+fn document(alloc: Global, text: &[u8]) -> Result<Table, BuildError>
+    ensures { Gives table_view result (document_of text.now) }
+{
+    let refused = Place::new(Section::Top, 0).fault(Code::T01);
+    if text.len() > TEXT_LIMIT {
+        return Err(BuildError::Refused(refused));
+    }
+    match toml::table_from_slice(alloc, text) {
+        Ok(table) => Ok(table),
+        Err(error) => {
+            if error.is_memory() {
+                return Err(BuildError::Memory(AllocError));
+            }
+            Err(BuildError::Refused(refused))
+        }
+    }
+}
+
+/// The parts that a text says: tables in TOML, of at most 1,048,576 bytes, whose rules are not tested yet.
+///
+/// # Errors
+///
+/// `Refused` with the first fault of the text (T01 to T08), by the definition that the contract names; `Memory` where
+/// an allocation failed.
+pub fn read_parts(alloc: Global, text: &[u8]) -> Result<Parts, BuildError>
+    ensures { Gives written result (tables_of text.now) }
+{
+    let table = document(alloc, text)?;
+    parts(alloc, &table)
+}
+
+/// The tables that a TOML text of at most 1,048,576 bytes says, valid by all rules.
+///
+/// # Errors
+///
+/// `Refused` with the first fault of the text: T01 to T08 of its shape first, then the totals and T09 to T24 as
+/// `Tables::build` tells them; `Memory` where an allocation failed.
+pub fn read_tables(alloc: Global, text: &[u8]) -> Result<Tables, BuildError>
+    ensures { TellsTables (tables_of text.now) result }
+{
+    let parts = read_parts(alloc, text)?;
+    Tables::build(alloc, parts)
+}

@@ -1,0 +1,279 @@
+//! The kinds of tables: which keys each has, and what stands at them.
+ghost use Rattle.std.specs.Prelude.{◌≡◌, ◌+◌, ◌≤◌, length, Result, OnOk};
+ghost use Rattle.toml.specs.Data.{Data};
+ghost use Rattle.toml.specs.View.{view, items_view};
+ghost use Rattle.dc_tables.specs.declared.fault.TableFault.{TableFault as SpecFault};
+ghost use Rattle.dc_toml.specs.Faults.{Leaves};
+ghost use Rattle.dc_toml.specs.Written.{Written, written, router_text, label_text, and_bus, and_router, and_label, and_output};
+ghost use Rattle.dc_toml.specs.Reading.{next_router, next_label, each_table, read_parameter, read_bus, read_stream as stream_reading, read_router, read_output, read_label as label_reading};
+
+use crate::keys::{
+    equipment, format, known, label, name, number, present, sdi, speed, stream_sdi, table,
+};
+use crate::lists::{names, offsets, tables};
+use crate::place::Place;
+use dc_tables::{
+    BuildError, BusPart, LabelPart, OutputPart, ParameterPart, Parts, RouterPart, Section,
+    StreamPart,
+};
+use std::alloc::{AllocError, Global};
+use toml::Value;
+
+/// A kind of table in a list at the top.
+pub trait TopTable {
+    // What stands after one more of these, or its first fault.
+    ghost reading: { Written → Data → Result Written SpecFault };
+
+    /// Puts the table that a value is behind what was read before it.
+    fn read(alloc: Global, parts: &mut Parts, value: &Value) -> Result<(), BuildError>
+        ensures { Leaves (written parts.new) result (reading (written parts.old) (view value.now)) };
+}
+
+/// The tables of a list at the top, in order.
+pub fn read_tables_of<T: TopTable>(
+    alloc: Global,
+    parts: &mut Parts,
+    values: &[Value],
+) -> Result<(), BuildError>
+    ensures { Leaves (written parts.new) result (each_table T.reading (written parts.old) (items_view values.now)) }
+{
+    for value in values {
+        match T::read(alloc, parts, value) {
+            Ok(()) => {}
+            Err(error) => return Err(error),
+        }
+    }
+    Ok(())
+}
+
+// The place of the next router.
+fn router_place(parts: &Parts) -> Place
+    ensures { result ≡ next_router (written parts.now) }
+{
+    Place::new(Section::Router, parts.router_count())
+}
+
+// The place of the next label.
+fn label_place(parts: &Parts) -> Place
+    ensures { result ≡ next_label (written parts.now) }
+{
+    Place::new(Section::Label, parts.label_count())
+}
+
+// One more router.
+fn add_router(parts: &mut Parts, router: RouterPart) -> Result<(), AllocError>
+    ensures { OnOk result (written parts.new ≡ and_router (written parts.old) (router_text router)) }
+{
+    parts.push_router(router)
+}
+
+// One more label of the last output.
+fn add_label(parts: &mut Parts, label: LabelPart) -> Result<(), AllocError>
+    requires { label.output + 1 ≡ length parts.old.outputs }
+    ensures { OnOk result (written parts.new ≡ and_label (written parts.old) (label_text label)) }
+{
+    parts.push_label(label)
+}
+
+impl TopTable for ParameterPart {
+    ghost reading = { read_parameter };
+
+    #[tactic(auto, unfolding(crate::specs::Reading::read_parameter))]
+    fn read(alloc: Global, parts: &mut Parts, value: &Value) -> Result<(), BuildError> {
+        let place = Place::new(Section::Parameter, parts.parameter_count());
+        let table = table(value, place)?;
+        let keys = &["label", "equipment", "format", "min_us", "max_us"];
+        known(table, keys, place)?;
+        present(table, keys, place)?;
+        let label = label(table, "label", place)?;
+        let equipment = equipment(table, "equipment", place)?;
+        let format = format(table, "format", place)?;
+        let min_us = number(table, "min_us", 1, 60_000_000, place)?;
+        let max_us = number(table, "max_us", 1, 60_000_000, place)?;
+        parts.push_parameter(ParameterPart {
+            label,
+            equipment,
+            format,
+            min_us,
+            max_us,
+        })?;
+        Ok(())
+    }
+}
+
+// Puts a stream of the last bus behind what was read before it.
+#[tactic(auto, unfolding(crate::specs::Reading::read_stream))]
+fn read_stream(parts: &mut Parts, value: &Value) -> Result<(), BuildError>
+    requires { 1 ≤ length parts.old.buses }
+    ensures reading { Leaves (written parts.new) result (stream_reading (written parts.old) (view value.now)) }
+    ensures buses { OnOk result (parts.new.buses ≡ parts.old.buses) }
+{
+    let place = Place::new(Section::Stream, parts.stream_count());
+    let bus = parts.bus_count() - 1;
+    let table = table(value, place)?;
+    let keys = &["name", "label", "equipment", "sdi"];
+    known(table, keys, place)?;
+    present(table, keys, place)?;
+    let name = name(table, "name", place)?;
+    let label = label(table, "label", place)?;
+    let equipment = equipment(table, "equipment", place)?;
+    let sdi = stream_sdi(table, "sdi", place)?;
+    parts.push_stream(StreamPart {
+        bus,
+        name,
+        label,
+        equipment,
+        sdi,
+    })?;
+    Ok(())
+}
+
+// The streams of the last bus, in order.
+fn read_streams(parts: &mut Parts, values: &[Value]) -> Result<(), BuildError>
+    requires { 1 ≤ length parts.old.buses }
+    ensures { Leaves (written parts.new) result (each_table stream_reading (written parts.old) (items_view values.now)) }
+{
+    for value in values {
+        match read_stream(parts, value) {
+            Ok(()) => {}
+            Err(error) => return Err(error),
+        }
+    }
+    Ok(())
+}
+
+impl TopTable for BusPart {
+    ghost reading = { read_bus };
+
+    #[tactic(auto, unfolding(crate::specs::Reading::read_bus))]
+    fn read(alloc: Global, parts: &mut Parts, value: &Value) -> Result<(), BuildError> {
+        let place = Place::new(Section::Bus, parts.bus_count());
+        let table = table(value, place)?;
+        let keys = &["name", "speed", "queue", "stream"];
+        known(table, keys, place)?;
+        present(table, keys, place)?;
+        let name = name(table, "name", place)?;
+        let speed = speed(table, "speed", place)?;
+        let queue = number(table, "queue", 1, 4096, place)?;
+        let streams = tables(table, "stream", 1, 256, place)?;
+        parts.push_bus(BusPart { name, speed, queue })?;
+        read_streams(parts, streams)
+    }
+}
+
+impl TopTable for RouterPart {
+    ghost reading = { read_router };
+
+    #[tactic(auto, unfolding(crate::specs::Reading::read_router))]
+    fn read(alloc: Global, parts: &mut Parts, value: &Value) -> Result<(), BuildError> {
+        let place = router_place(parts);
+        let table = table(value, place)?;
+        let keys = &["name", "steps", "within", "most", "visits"];
+        known(table, keys, place)?;
+        present(table, keys, place)?;
+        let name = name(table, "name", place)?;
+        let steps = number(table, "steps", 1, 1000, place)?;
+        let within = number(table, "within", 1, 1000, place)?;
+        let most = number(table, "most", 1, 1000, place)?;
+        let visits = names(alloc, table, "visits", 1, 256, place)?;
+        add_router(
+            parts,
+            RouterPart {
+                name,
+                steps,
+                within,
+                most,
+                visits,
+            },
+        )?;
+        Ok(())
+    }
+}
+
+// The label of the output with this index that a value is.
+#[tactic(auto, unfolding(crate::specs::Reading::read_label))]
+fn read_label(alloc: Global, parts: &mut Parts, value: &Value) -> Result<(), BuildError>
+    requires { 1 ≤ length parts.old.outputs }
+    ensures reading { Leaves (written parts.new) result (label_reading (written parts.old) (view value.now)) }
+    ensures outputs { OnOk result (parts.new.outputs ≡ parts.old.outputs) }
+{
+    let place = label_place(parts);
+    let output = parts.output_count() - 1;
+    let table = table(value, place)?;
+    let keys = &[
+        "name",
+        "label",
+        "equipment",
+        "sdi",
+        "sources",
+        "stale",
+        "age",
+        "offsets",
+    ];
+    known(table, keys, place)?;
+    present(table, keys, place)?;
+    let name = name(table, "name", place)?;
+    let label = label(table, "label", place)?;
+    let equipment = equipment(table, "equipment", place)?;
+    let sdi = sdi(table, "sdi", place)?;
+    let sources = names(alloc, table, "sources", 1, 8, place)?;
+    let stale = number(table, "stale", 1, 1_000_000, place)?;
+    let age = number(table, "age", 1, 2_000_000, place)?;
+    let offsets = offsets(alloc, table, "offsets", 1, 256, place)?;
+    add_label(
+        parts,
+        LabelPart {
+            output,
+            name,
+            label,
+            equipment,
+            sdi,
+            sources,
+            stale,
+            age,
+            offsets,
+        },
+    )?;
+    Ok(())
+}
+
+// The labels of the last output, in order.
+fn read_labels(alloc: Global, parts: &mut Parts, values: &[Value]) -> Result<(), BuildError>
+    requires { 1 ≤ length parts.old.outputs }
+    ensures { Leaves (written parts.new) result (each_table label_reading (written parts.old) (items_view values.now)) }
+{
+    for value in values {
+        match read_label(alloc, parts, value) {
+            Ok(()) => {}
+            Err(error) => return Err(error),
+        }
+    }
+    Ok(())
+}
+
+impl TopTable for OutputPart {
+    ghost reading = { read_output };
+
+    #[tactic(auto, unfolding(crate::specs::Reading::read_output))]
+    fn read(alloc: Global, parts: &mut Parts, value: &Value) -> Result<(), BuildError> {
+        let place = Place::new(Section::Output, parts.output_count());
+        let table = table(value, place)?;
+        let keys = &["name", "speed", "steps", "within", "frame", "label"];
+        known(table, keys, place)?;
+        present(table, keys, place)?;
+        let name = name(table, "name", place)?;
+        let speed = speed(table, "speed", place)?;
+        let steps = number(table, "steps", 1, 1000, place)?;
+        let within = number(table, "within", 1, 1000, place)?;
+        let frame = number(table, "frame", 1, 100_000, place)?;
+        let labels = tables(table, "label", 1, 256, place)?;
+        parts.push_output(OutputPart {
+            name,
+            speed,
+            steps,
+            within,
+            frame,
+        })?;
+        read_labels(alloc, parts, labels)
+    }
+}

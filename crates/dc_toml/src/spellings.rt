@@ -1,0 +1,119 @@
+//! Texts that stand for a word, a label or a code.
+ghost use Rattle.std.specs.Prelude.{◌≡◌, ℕ, ◌<◌, IfSome};
+ghost use Rattle.toml.specs.Data.{same_key};
+ghost use Rattle.dc_toml.specs.Keys.{digit_value as value_of_digit, digit as digit_in, three_digits as three_digits_of, label_in, label_of, equipment_of, speed_of, format_of};
+
+use dc_tables::Speed;
+use dc_word::{Format, Label};
+
+/// Whether two texts are the same.
+pub fn is_same(one: &str, other: &str) -> bool
+    ensures { result ≡ same_key one.now other.now }
+{
+    one.cmp(other).is_eq()
+}
+
+/// The speed that a text names.
+pub fn speed(text: &str) -> Option<Speed>
+    ensures { result ≡ speed_of text.now }
+{
+    if is_same(text, "high") {
+        Some(Speed::High)
+    } else if is_same(text, "low") {
+        Some(Speed::Low)
+    } else {
+        None
+    }
+}
+
+/// The format that a text names.
+pub fn format(text: &str) -> Option<Format>
+    ensures { result ≡ format_of text.now }
+{
+    if is_same(text, "bnr") {
+        Some(Format::Bnr)
+    } else if is_same(text, "bcd") {
+        Some(Format::Bcd)
+    } else if is_same(text, "disc") {
+        Some(Format::Disc)
+    } else {
+        None
+    }
+}
+
+// The value of a digit in a base of at most 16, in either case.
+fn digit_value(byte: u8) -> Option<u32>
+    ensures value { result ≡ value_of_digit byte }
+{
+    if b'0' <= byte && byte <= b'9' {
+        Some((byte - 48) as u32)
+    } else if b'A' <= byte && byte <= b'F' {
+        Some((byte - 55) as u32)
+    } else if b'a' <= byte && byte <= b'f' {
+        Some((byte - 87) as u32)
+    } else {
+        None
+    }
+}
+
+// The value of a digit in this base.
+fn digit(base: u32, byte: u8) -> Option<u32>
+    ensures value { result ≡ digit_in base byte }
+    ensures below { IfSome result (λ n. n < base) }
+{
+    let Some(value) = digit_value(byte) else {
+        return None;
+    };
+    if value < base { Some(value) } else { None }
+}
+
+// The values of three digits.
+fn three_digits(base: u32, text: &[u8]) -> Option<(u32, u32, u32)>
+    ensures value { result ≡ three_digits_of base text.now }
+    ensures below { IfSome result (λ d. (d.0 < base) × (d.1 < base) × (d.2 < base)) }
+{
+    if text.len() != 3 {
+        return None;
+    }
+    let Some(high) = digit(base, text[0]) else {
+        return None;
+    };
+    let Some(middle) = digit(base, text[1]) else {
+        return None;
+    };
+    let Some(low) = digit(base, text[2]) else {
+        return None;
+    };
+    Some((high, middle, low))
+}
+
+// The label with this number.
+fn label_of_number(number: u32) -> Option<Label>
+    ensures { result ≡ label_in number }
+{
+    if number >= 1 && number <= 255 {
+        Label::new(number as u8)
+    } else {
+        None
+    }
+}
+
+/// The label that three octal digits write, 001 to 377.
+pub fn label(text: &str) -> Option<Label>
+    ensures { result ≡ label_of text.now }
+{
+    let Some((high, middle, low)) = three_digits(8, text.as_bytes()) else {
+        return None;
+    };
+    label_of_number(64 * high + 8 * middle + low)
+}
+
+/// The equipment code that three hexadecimal digits write, in either case.
+pub fn equipment(text: &str) -> Option<u16>
+    ensures { result ≡ equipment_of text.now }
+{
+    let Some((high, middle, low)) = three_digits(16, text.as_bytes()) else {
+        return None;
+    };
+    Some((256 * high + 16 * middle + low) as u16)
+}

@@ -1,0 +1,3 @@
+pub mod GapLaws
+mod Scan
+mod Counting

@@ -1,0 +1,54 @@
+-- The transmit schedule of an output: a frame that comes again and again, and the entries of the frame in order of offset.
+use Rattle.std.specs.Prelude.{ℕ, ◌%◌, ◌≤◌, Bool, ◌==◌, List, length, slice_index_or}
+use Rattle.dc_bound.specs.Dues.{due_in, due_by, IsFrame}
+use Rattle.dc_tables.specs.TableRows.{TableRows, output_row}
+use Rattle.dc_tables.specs.declared.rows.Entry.{Entry}
+use Rattle.dc_transmit.specs.Gaps.{gaps, least_gap, greatest_gap}
+
+-- what a clause sees of a schedule
+pub record ScheduleData : Type 0 where
+  pub frame : ℕ
+  pub entries : List Entry
+
+-- the schedule of the tables' output of this number
+abbrev pub schedule_of : TableRows → ℕ → ScheduleData
+schedule_of t o = record { frame = (output_row t o).frame; entries = (output_row t o).entries }
+
+abbrev pub off : Entry → ℕ
+off e = e.offset
+
+abbrev pub no_entry : Entry
+no_entry = record { offset = 0; label = 0 }
+
+-- the label of entry number n, from 0, of the frames one after another
+abbrev pub label_at : ScheduleData → ℕ → ℕ
+label_at s n = (slice_index_or s.entries (n % length s.entries) no_entry).label
+
+-- the tick in which that entry is due
+abbrev pub due_at : ScheduleData → ℕ → ℕ
+due_at s n = due_in off no_entry s.frame s.entries n
+
+-- how many entries are due at a tick or before it
+abbrev pub due_count : ScheduleData → ℕ → ℕ
+due_count s tick = due_by (due_at s) tick
+
+-- whether an entry is the label's
+abbrev pub is_of : ℕ → Entry → Bool
+is_of x e = e.label == x
+
+-- the gaps between neighbouring entries of the label, round the frame; the frame alone where it has one entry
+abbrev pub label_gaps : ScheduleData → ℕ → List ℕ
+label_gaps s x = gaps off (is_of x) s.frame s.entries
+
+-- the least and the greatest of these; the frame, and 0, where the label has no entry
+abbrev pub least_label_gap : ScheduleData → ℕ → ℕ
+least_label_gap s x = least_gap off (is_of x) s.frame s.entries
+
+abbrev pub greatest_label_gap : ScheduleData → ℕ → ℕ
+greatest_label_gap s x = greatest_gap off (is_of x) s.frame s.entries
+
+-- offsets ascend below the frame; there are 1 to 1,024 entries, and the frame is at most 100,000 ticks
+pub record IsSchedule (frame : ℕ) (entries : List Entry) : Type 0 where
+  pub framed : IsFrame off no_entry frame entries
+  pub few : length entries ≤ 1024
+  pub short : frame ≤ 100000

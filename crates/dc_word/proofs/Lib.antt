@@ -1,0 +1,3 @@
+pub mod Parity
+pub mod Fields
+pub mod Vectors

@@ -1,0 +1,87 @@
+ghost use Rattle.std.specs.Prelude.{◌≡◌, ◌<◌};
+ghost use Rattle.dc_word.specs.Format.{status_of, is_usable_ssm};
+
+/// How the data of a word is written.
+#[derive(Clone, Copy, Debug, PartialEq, Eq, Hash)]
+pub enum Format {
+    /// Two's complement.
+    Bnr,
+    /// Five decimal digits.
+    Bcd,
+    /// Discretes: a plain number of 19 bits.
+    Disc,
+}
+
+/// What the SSM of a word says of its data.
+#[derive(Clone, Copy, Debug, PartialEq, Eq, Hash)]
+pub enum Status {
+    FailureWarning,
+    NoComputedData,
+    FunctionalTest,
+    Normal,
+    Plus,
+    Minus,
+    Verified,
+}
+
+impl Format {
+    /// What an SSM of 0 to 3 says in this format.
+    pub fn status(self, ssm: u32) -> Status
+        requires { ssm < 4 }
+        ensures { result ≡ status_of self ssm }
+    {
+        if ssm == 1 {
+            Status::NoComputedData
+        } else if ssm == 2 {
+            Status::FunctionalTest
+        } else {
+            match (self, ssm) {
+                (Format::Bnr, 0) => Status::FailureWarning,
+                (Format::Bnr, _) => Status::Normal,
+                (Format::Bcd, 0) => Status::Plus,
+                (Format::Bcd, _) => Status::Minus,
+                (Format::Disc, 0) => Status::Verified,
+                (Format::Disc, _) => Status::FailureWarning,
+            }
+        }
+    }
+
+    /// Whether a word with an SSM of 0 to 3 is usable in this format.
+    pub fn is_usable(self, ssm: u32) -> bool
+        ensures { result ≡ is_usable_ssm self ssm }
+    {
+        match self {
+            Format::Bnr => ssm == 3,
+            Format::Bcd => ssm == 0 || ssm == 3,
+            Format::Disc => ssm == 0,
+        }
+    }
+}
+
+#[cfg(test)]
+mod tests {
+    use super::*;
+
+    #[test]
+    fn table_of_the_sign_status_matrix(rt: HostRuntime) {
+        let table = [
+            (Format::Bnr, 0, Status::FailureWarning, false),
+            (Format::Bnr, 1, Status::NoComputedData, false),
+            (Format::Bnr, 2, Status::FunctionalTest, false),
+            (Format::Bnr, 3, Status::Normal, true),
+            (Format::Bcd, 0, Status::Plus, true),
+            (Format::Bcd, 1, Status::NoComputedData, false),
+            (Format::Bcd, 2, Status::FunctionalTest, false),
+            (Format::Bcd, 3, Status::Minus, true),
+            (Format::Disc, 0, Status::Verified, true),
+            (Format::Disc, 1, Status::NoComputedData, false),
+            (Format::Disc, 2, Status::FunctionalTest, false),
+            (Format::Disc, 3, Status::FailureWarning, false),
+        ];
+        for (format, ssm, status, usable) in table {
+            assert!(rt; ssm < 4);
+            assert_eq!(rt; format.status(ssm), status, "{format:?} {ssm}");
+            assert_eq!(rt; format.is_usable(ssm), usable, "{format:?} {ssm}");
+        }
+    }
+}

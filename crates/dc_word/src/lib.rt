@@ -1,0 +1,10 @@
+//! The ARINC 429 word: 32 bits that hold a label, an SDI, 19 bits of data, an SSM and a parity bit.
+#![tactic(auto)]
+
+mod field;
+mod format;
+mod word;
+
+pub use field::{Label, Sdi};
+pub use format::{Format, Status};
+pub use word::{Place, Word};
