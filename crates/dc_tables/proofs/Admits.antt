@@ -1,11 +1,11 @@
 -- What a shape that is well says of the tick and the parameters.
-use Rattle.std.proofs.Common.{◌≡◌, ℕ, ◌≤◌, ◌||◌, Ok, List, length, get_or, arith}
+use Rattle.std.proofs.Common.{◌≡◌, ◌≤◌, Ok, get_or, arith}
 use Rattle.std.specs.List.{All}
 use Rattle.dc_tables.specs.Document.{Document}
 use Rattle.dc_tables.specs.Rules.{outside, parameter_out, then_told, shape, totals, quantities, first_rules}
 use Rattle.dc_tables.specs.declared.parts.ParameterPart.{ParameterPart}
 use Rattle.dc_tables.proofs.Picks.{each_fails, not_outside, or_none}
-use Rattle.dc_tables.proofs.Obeys.{both, ShapeObeys, shape_obeys}
+use Rattle.dc_tables.proofs.Obeys.{both, shape_obeys}
 
 pub tick_some : (d : Document) → shape d ≡ Ok tt → 1 ≤ d.tick_us
 tick_some d h = omega (arith, (not_outside 100 10000 d.tick_us (shape_obeys d h).top.tick).0)

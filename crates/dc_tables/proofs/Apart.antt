@@ -1,12 +1,12 @@
 -- Lists without doubled items, and counts.
-use Rattle.std.proofs.Common.{◌≡◌, ℕ, zero, suc, ◌+◌, ◌-◌, ◌<◌, ◌≤◌, ◌⊎◌, inl, inr, Bool, true, false, cond, ◌&&◌, ◌==◌, nat_eq, Option, Some, None, List, [], ◌∷◌, ◌++◌, length, get_or, take, map, refl, sym, ap, ◌∙◌, arith, add-one, subst, append_assoc}
-use Rattle.std.specs.List.{count_by, list_any, slice_get}
-use Rattle.std.proofs.lemmas.List.{length-take, length-append, append-nil, get_or-take, get_or_append_left, get_or-append-add}
+use Rattle.std.proofs.Common.{◌≡◌, ℕ, zero, suc, ◌<◌, ◌≤◌, inl, inr, Bool, true, false, cond, ◌==◌, Option, Some, None, List, [], ◌∷◌, ◌++◌, length, get_or, take, refl, ◌∙◌, arith, subst, append_assoc}
+use Rattle.std.specs.List.{count_by, list_any}
+use Rattle.std.proofs.lemmas.List.{length-take, length-append, append-nil, get_or-take, get_or_append_left}
 use Rattle.std.proofs.Math.Seq.{get_or-append_seam}
 use Rattle.std.proofs.lemmas.Bool.{cases_lt}
 use Rattle.dc_tables.specs.Rules.{doubled_from, doubled, counts}
 use Rattle.dc_tables.proofs.Picks.{any_fails}
-use Rattle.dc_tables.proofs.Owners.{one, counted, one_true, one_false, count_none, count_some, bool_cases}
+use Rattle.dc_tables.proofs.Owners.{counted, one_true, one_false, count_none, count_some, bool_cases}
 
 cond_none : (b : Bool) (i : ℕ) (r : Option ℕ) → cond b (Some i) r ≡ None → (b ≡ false) × (r ≡ None)
 cond_none true i r h = absurd (cc h)

@@ -1,11 +1,11 @@
 -- Intervals in ticks.
-use Rattle.std.proofs.Common.{◌≡◌, ℕ, zero, suc, ◌+◌, ◌-◌, ◌*◌, ◌/◌, ◌<◌, ◌≤◌, Bool, true, false, Option, Some, None, is_none, List, [], ◌∷◌, length, get_or, map, refl, arith, subst}
+use Rattle.std.proofs.Common.{◌≡◌, ℕ, zero, suc, ◌+◌, ◌-◌, ◌*◌, ◌/◌, ◌<◌, ◌≤◌, false, Option, Some, None, is_none, List, [], ◌∷◌, length, get_or, map, refl, arith, subst}
 use Rattle.std.specs.Option.{option_map_or}
 use Rattle.std.specs.Prelude.{option_and_then}
 use Rattle.std.specs.List.{slice_get, position}
-use Rattle.std.proofs.Math.Nat.{div-lt_iff_lt-mul, lt-div-mul-add, div-le_of_le-mul}
-use Rattle.dc_tables.specs.Ticks.{ticks_up, input_minimum, input_maximum, output_minimum, output_maximum, output_gap, output_spacing, input_spacing}
-use Rattle.dc_tables.specs.Rules.{parameter_of, parameter_key, same_parameter, too_quick, no_interval, outside}
+use Rattle.std.proofs.Math.Nat.{div-lt_iff_lt-mul, lt-div-mul-add}
+use Rattle.dc_tables.specs.Ticks.{input_minimum, input_maximum, output_minimum, output_maximum, output_gap, input_spacing}
+use Rattle.dc_tables.specs.Rules.{parameter_of, parameter_key, same_parameter, too_quick, no_interval}
 use Rattle.dc_tables.specs.declared.keys.ParameterKey.{ParameterKey}
 use Rattle.dc_tables.specs.declared.parts.ParameterPart.{ParameterPart}
 use Rattle.dc_tables.specs.declared.rows.Speed.{Speed}

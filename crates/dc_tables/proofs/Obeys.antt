@@ -1,9 +1,9 @@
 -- What a verdict that all is well says of each rule.
-use Rattle.std.proofs.Common.{◌≡◌, ℕ, Bool, true, false, cond, nat_lt, Option, Some, None, Result, Ok, Err, List, length, refl, sym, ap}
-use Rattle.std.specs.Prelude.{option_map, map}
+use Rattle.std.proofs.Common.{◌≡◌, ℕ, Bool, true, false, cond, nat_lt, Option, Some, None, Ok, Err, List, length, refl}
+use Rattle.std.specs.Prelude.{option_map}
 use Rattle.std.specs.List.{slice_get, position}
 use Rattle.dc_tables.specs.Document.{Document, stream_owners, label_owners}
-use Rattle.dc_tables.specs.Rules.{Verdict, told, then_told, breach, earlier, at_owner, breach_told, outside, at_top, counts, doubled, parameter_out, first_bus_out, first_count_out, first_router_out, first_visits_out, first_output_out, first_label_out, first_sources_out, first_offsets_out, bus_shapes, router_shapes, output_shapes, label_shapes, top_shape, shape, entries_from, entry_owners, first_overfull, totals, same_parameter, parameter_key, first_inverted, first_quick, first_narrow, later_quantities, first_unknown_stream, first_unknown_label, overlap, bus_names, stream_names, first_lost_router, first_lost_label, first_unserved, first_doubled_source, references, first_different, first_late, first_doubled_offset, first_doubled_label, first_unable_router, first_unable_output, schedules}
+use Rattle.dc_tables.specs.Rules.{Verdict, told, then_told, breach, earlier, at_owner, breach_told, outside, at_top, counts, doubled, parameter_out, first_bus_out, first_count_out, first_router_out, first_visits_out, first_output_out, first_label_out, first_sources_out, first_offsets_out, bus_shapes, router_shapes, output_shapes, label_shapes, top_shape, shape, entries_from, entry_owners, first_overfull, totals, first_inverted, first_quick, first_narrow, later_quantities, first_unknown_stream, first_unknown_label, overlap, bus_names, stream_names, first_lost_router, first_lost_label, first_unserved, first_doubled_source, references, first_different, first_late, first_doubled_offset, first_doubled_label, first_unable_router, first_unable_output, schedules}
 use Rattle.dc_tables.specs.declared.fault.Code.{Code}
 use Rattle.dc_tables.specs.declared.fault.Code.TheVariants.{T06, T08, T10, T11, T12, T14, T15, T16, T17, T18, T19, T20, T21, T22, T23, T24}
 use Rattle.dc_tables.specs.declared.fault.Section.{Section}

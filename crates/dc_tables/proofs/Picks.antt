@@ -1,6 +1,6 @@
 -- What it says that no item of a list, or a first one, passes a test.
-use Rattle.std.proofs.Common.{◌≡◌, ℕ, zero, suc, ◌+◌, ◌-◌, ◌<◌, ◌≤◌, Bool, true, false, cond, ◌||◌, ◌&&◌, not, nat_lt, nat_le, nat_eq, Option, Some, None, is_none, is_some, List, [], ◌∷◌, length, get_or, map, refl, sym, ap, ◌∙◌, arith, subst, inl, inr, ◌⊎◌}
-use Rattle.std.specs.List.{position, position_from, position_or_len, list_any, slice_get}
+use Rattle.std.proofs.Common.{◌≡◌, ℕ, zero, suc, ◌+◌, ◌-◌, ◌<◌, ◌≤◌, Bool, true, false, cond, ◌||◌, ◌&&◌, not, nat_lt, nat_le, Option, Some, None, is_none, List, [], ◌∷◌, length, get_or, map, refl, sym, ◌∙◌, arith, subst, inl, inr, ◌⊎◌}
+use Rattle.std.specs.List.{position, position_from, list_any, slice_get}
 use Rattle.std.specs.Prelude.{unwrap_or}
 use Rattle.std.proofs.lemmas.Iterator.Adapters.{position_from-zero}
 use Rattle.std.proofs.lemmas.Bool.Decides.{nat_tests}

@@ -1,7 +1,7 @@
 -- One more member of the last owner.
-use Rattle.std.proofs.Common.{◌≡◌, ℕ, zero, suc, refl, ◌+◌, ◌<◌, ◌≤◌, List, [], ◌∷◌, ◌++◌, length, map, get_or, sym, ◌∙◌, arith, subst, inl, inr}
+use Rattle.std.proofs.Common.{◌≡◌, ℕ, zero, suc, refl, ◌+◌, ◌<◌, ◌≤◌, List, [], ◌∷◌, ◌++◌, length, map, get_or, sym, arith, subst, inl, inr}
 use Rattle.std.proofs.lemmas.Bool.{cases_lt}
-use Rattle.std.proofs.lemmas.List.{get_or_append_left, get_or-append_right, map-append}
+use Rattle.std.proofs.lemmas.List.{get_or_append_left, map-append}
 use Rattle.dc_tables.specs.Document.{AreOwned}
 
 front_is : (xs : List ℕ) (o i : ℕ) → i < length xs → get_or (xs ++ o ∷ []) i 0 ≡ get_or xs i 0

@@ -1,5 +1,5 @@
 -- Verdicts one after another.
-use Rattle.std.proofs.Common.{◌≡◌, refl, sym, ap, ◌∙◌, Option, Some, None, Result, Ok, Err}
+use Rattle.std.proofs.Common.{◌≡◌, sym, ap, Option, Some, Ok, Err}
 use Rattle.dc_tables.specs.Rules.{Verdict, then_told, TellsFault}
 use Rattle.dc_tables.specs.declared.fault.BuildError.{BuildError}
 use Rattle.dc_tables.specs.declared.fault.BuildError.TheVariants.{Refused, Memory}

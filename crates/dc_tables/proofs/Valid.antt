@@ -1,15 +1,17 @@
 -- Tables that break no rule are valid.
-use Rattle.std.proofs.Common.{◌≡◌, ℕ, ◌+◌, ◌<◌, ◌≤◌, Option, Some, None, Ok, List, [], length, map, get_or, refl, arith}
+use Rattle.std.proofs.Common.{◌≡◌, ℕ, ◌<◌, Option, Some, None, Ok, List, [], length, map, refl, sym, ap, ◌∙◌, arith}
 use Rattle.std.specs.Prelude.{option_map}
 use Rattle.std.specs.List.{All, slice_get}
+use Rattle.std.proofs.lemmas.List.{length-map}
 use Rattle.dc_word.specs.declared.format.Format.TheVariants.{Bnr}
 use Rattle.dc_tables.specs.Document.{Document, IsInOrder}
 use Rattle.dc_tables.specs.RowsOf.{AreRows}
 use Rattle.dc_tables.specs.TableRows.{TableRows, AreValid}
 use Rattle.dc_tables.specs.TableKeys.{TableKeys}
+use Rattle.dc_tables.specs.Keyed.{AreKeyed}
 use Rattle.dc_tables.specs.declared.rows.OutputLabel.{OutputLabel}
 use Rattle.dc_tables.proofs.Picks.{no_item, not_below}
-use Rattle.dc_tables.specs.Rules.{Verdict, told, then_told, shape, totals, quantities, later_quantities, names, references, schedules, first_rules, later_rules, doubled, same_parameter, parameter_key}
+use Rattle.dc_tables.specs.Rules.{told, then_told, shape, totals, quantities, later_quantities, names, references, schedules, first_rules, later_rules, doubled, same_parameter, parameter_key}
 use Rattle.dc_tables.specs.declared.fault.Code.TheVariants.{T09}
 use Rattle.dc_tables.specs.declared.fault.Section.TheVariants.{Parameter}
 use Rattle.dc_tables.proofs.Obeys.{both, shape_obeys, totals_obey, quantities_obey, references_obey, schedules_obey, ShapeObeys, TotalsObey, QuantitiesObey, ReferencesObey, SchedulesObey}
@@ -94,3 +96,13 @@ valid_rows d t order rows fit first later =
 pub keys_same : {a b e f g a2 b2 e2 f2 g2 : List (List ℕ)} → a ≡ a2 → b ≡ b2 → e ≡ e2 → f ≡ f2 → g ≡ g2
     → ◌≡◌ {A = TableKeys} (record { buses = a; streams = b; routers = e; outputs = f; labels = g }) (record { buses = a2; streams = b2; routers = e2; outputs = f2; labels = g2 })
 keys_same p q r s u = λ i. record { buses = p i; streams = q i; routers = r i; outputs = s i; labels = u i }
+
+-- each row has a name
+pub keyed_rows : (d : Document) (t : TableRows) → AreRows d t → AreKeyed t
+keyed_rows d t rows = record {
+  buses = ap (λ (k : TableKeys). length k.buses) rows.keys ∙ length-map d.buses (λ b. b.name) ∙ sym (buses.bus_count d t rows);
+  streams = ap (λ (k : TableKeys). length k.streams) rows.keys ∙ length-map d.streams (λ s. s.name) ∙ sym (buses.stream_count d t rows);
+  routers = ap (λ (k : TableKeys). length k.routers) rows.keys ∙ length-map d.routers (λ r. r.name) ∙ sym (routers.router_count d t rows);
+  outputs = ap (λ (k : TableKeys). length k.outputs) rows.keys ∙ length-map d.outputs (λ o. o.name) ∙ sym rows.outputs_there;
+  labels = ap (λ (k : TableKeys). length k.labels) rows.keys ∙ length-map d.labels (λ x. x.name) ∙ sym (labels.label_count d t rows);
+}

@@ -1,10 +1,9 @@
 -- The buses and streams of tables that break no rule.
-use Rattle.std.proofs.Common.{◌≡◌, ℕ, zero, suc, ◌+◌, ◌-◌, ◌<◌, ◌≤◌, Bool, true, false, nat_lt, ◌==◌, Option, Some, None, List, [], ◌∷◌, length, get_or, map, refl, sym, ap, ◌∙◌, arith, subst}
-use Rattle.std.specs.List.{count_by, position}
-use Rattle.std.specs.Prelude.{unwrap_or, is_none}
+use Rattle.std.proofs.Common.{◌≡◌, ℕ, zero, suc, ◌+◌, ◌<◌, ◌≤◌, nat_lt, None, List, [], ◌∷◌, length, get_or, refl, sym, ap, ◌∙◌, arith, subst}
+use Rattle.std.specs.Prelude.{is_none}
 use Rattle.std.proofs.lemmas.List.{get_or-map, length-map}
-use Rattle.dc_tables.specs.Document.{Document, stream_owners, IsInOrder, AreOwned}
-use Rattle.dc_tables.specs.Rules.{parameter_of, stream_key, too_quick, outside, visits_bus, parameter_out}
+use Rattle.dc_tables.specs.Document.{Document, stream_owners, IsInOrder}
+use Rattle.dc_tables.specs.Rules.{parameter_of, stream_key, too_quick, outside, parameter_out}
 use Rattle.dc_tables.specs.RowsOf.{bus_row_of, bus_rows_from, stream_row_of, AreRows}
 use Rattle.dc_tables.specs.TableRows.{TableRows, bus_row, stream_row}
 use Rattle.dc_tables.specs.declared.rows.Bus.{Bus}
@@ -13,8 +12,8 @@ use Rattle.dc_tables.specs.declared.parts.BusPart.{BusPart}
 use Rattle.dc_tables.specs.declared.parts.StreamPart.{StreamPart}
 use Rattle.dc_tables.specs.declared.parts.RouterPart.{RouterPart}
 use Rattle.dc_tables.specs.declared.parts.ParameterPart.{ParameterPart}
-use Rattle.dc_tables.proofs.Picks.{rows_each, each_fails, not_outside, or_none, not_below, not_false}
-use Rattle.dc_tables.proofs.Owners.{owners_fit, placed, IsPlaced, Ascends, counted_there}
+use Rattle.dc_tables.proofs.Picks.{rows_each, each_fails, not_outside, or_none, not_below}
+use Rattle.dc_tables.proofs.Owners.{owners_fit, placed, IsPlaced}
 use Rattle.dc_tables.proofs.Intervals.{found_holds, minimum_some, maximum_after, maximum_small, spacing_some}
 use Rattle.dc_tables.proofs.Obeys.{ShapeObeys, ReferencesObey, QuantitiesObey}
 

@@ -1,32 +1,15 @@
 -- The entries of tables that break no rule.
-use Rattle.std.proofs.Common.{◌≡◌, ℕ, zero, suc, ◌+◌, ◌-◌, ◌*◌, ◌<◌, ◌≤◌, ◌⊎◌, inl, inr, Bool, true, false, cond, ◌&&◌, ◌||◌, ◌==◌, nat_lt, nat_le, nat_eq, Option, Some, None, is_none, List, [], ◌∷◌, ◌++◌, length, get_or, map, filter, refl, sym, ap, ◌∙◌, arith, subst}
-use Rattle.std.specs.List.{All, Contains, count_by, position, list_any, slice_get}
-use Rattle.std.specs.Prelude.{option_map, option_and_then}
-use Rattle.std.specs.Option.{option_map_or}
+use Rattle.std.proofs.Common.{◌≡◌, ℕ, zero, suc, ◌+◌, ◌<◌, ◌≤◌, inl, inr, Bool, true, false, ◌&&◌, ◌==◌, List, [], ◌∷◌, length, get_or, map, refl, sym, ap, ◌∙◌, arith, subst}
+use Rattle.std.specs.List.{All, Contains, count_by}
 use Rattle.std.proofs.lemmas.List.{length-map, get_or-map}
 use Rattle.std.proofs.lemmas.List.Elements.{All-nil, All-cons, All-append, All-map, Contains-append_left, Contains-append_right}
-use Rattle.std.proofs.lemmas.List.Sorted.{All-permutation, Contains-permutation, sum_by-IsPermutation, length_permutation}
-use Rattle.std.proofs.lemmas.Bool.{cases_lt}
 use Rattle.std.proofs.lemmas.Bool.Decides.{nat_tests}
-use Rattle.dc_tables.specs.Document.{Document, label_owners}
-use Rattle.dc_tables.specs.Ticks.{output_gap}
-use Rattle.dc_tables.specs.Rules.{outside, output_out, counts, doubled, doubled_from, first_count_out, first_overfull, same_offset, offset_of, label_entries, entries_from, entry_owners, frame_of, first_doubled_offset}
-use Rattle.dc_tables.specs.RowsOf.{entry_of, own_entries, IsFrameOf, IsOutputRow, AreRows}
-use Rattle.dc_tables.specs.TableRows.{TableRows, output_row, label_row, entry_row}
-use Rattle.dc_tables.specs.declared.rows.Speed.TheVariants.{High}
+use Rattle.dc_tables.specs.Rules.{label_entries, entries_from}
+use Rattle.dc_tables.specs.RowsOf.{entry_of, own_entries}
 use Rattle.dc_tables.specs.declared.rows.Entry.{Entry}
-use Rattle.dc_tables.specs.declared.rows.Output.{Output}
 use Rattle.dc_tables.specs.declared.keys.PlacedEntry.{PlacedEntry}
-use Rattle.dc_tables.specs.declared.keys.PlacedOffset.{PlacedOffset}
-use Rattle.dc_tables.specs.declared.parts.OutputPart.{OutputPart}
 use Rattle.dc_tables.specs.declared.parts.LabelPart.{LabelPart}
-use Rattle.dc_tables.proofs.Picks.{each_fails, any_fails, not_outside, or_none, not_below, not_le, first_passes, and_some}
-use Rattle.dc_tables.proofs.Owners.{one, counted, one_true, one_false, bool_cases, counted_there}
-use Rattle.dc_tables.proofs.Apart.{apart, one_at_most, two_at_least, counts_length, counts_at, no_true}
-use Rattle.dc_tables.proofs.Intervals.{gap_some}
-use Rattle.dc_tables.proofs.ValidBuses.{tick_in}
-use Rattle.dc_tables.proofs.ValidLabels.{label_count, output_of, each_label}
-use Rattle.dc_tables.proofs.Obeys.{ShapeObeys, TotalsObey, SchedulesObey}
+use Rattle.dc_tables.proofs.Owners.{one, counted, one_true, one_false, bool_cases}
 
 pub is_same : (a b : ℕ) → (a == b) ≡ true → a ≡ b
 is_same a b h = grind (arith, nat_tests)

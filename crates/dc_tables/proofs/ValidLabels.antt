@@ -1,6 +1,5 @@
 -- The labels of tables that break no rule.
-use Rattle.std.proofs.Common.{◌≡◌, ℕ, zero, suc, ◌+◌, ◌-◌, ◌<◌, ◌≤◌, Bool, true, false, ◌||◌, Option, Some, None, is_none, List, [], ◌∷◌, length, get_or, map, refl, sym, ap, ◌∙◌, arith, subst}
-use Rattle.std.specs.List.{All}
+use Rattle.std.proofs.Common.{◌≡◌, ℕ, ◌+◌, ◌<◌, ◌≤◌, ◌||◌, is_none, List, [], length, get_or, map, sym, ap, ◌∙◌, arith, subst}
 use Rattle.std.proofs.lemmas.List.{length-map, get_or-map}
 use Rattle.dc_word.specs.declared.format.Format.TheVariants.{Bnr}
 use Rattle.dc_tables.specs.Document.{Document, label_owners, IsInOrder}
@@ -10,7 +9,7 @@ use Rattle.dc_tables.specs.TableRows.{TableRows, label_row}
 use Rattle.dc_tables.specs.declared.rows.OutputLabel.{OutputLabel}
 use Rattle.dc_tables.specs.declared.parts.LabelPart.{LabelPart}
 use Rattle.dc_tables.specs.declared.parts.StreamPart.{StreamPart}
-use Rattle.dc_tables.proofs.Picks.{map_each, rows_each, each_fails, not_outside, or_none}
+use Rattle.dc_tables.proofs.Picks.{rows_each, each_fails, not_outside, or_none}
 use Rattle.dc_tables.proofs.Intervals.{found_holds, interval_there, interval_small}
 use Rattle.dc_tables.proofs.ValidBuses.{stream_count, tick_in, max_in}
 use Rattle.dc_tables.proofs.ValidRouters.{numbers_always, map_from}

@@ -1,6 +1,6 @@
 -- The outputs of tables that break no rule, and their frames.
-use Rattle.std.proofs.Common.{◌≡◌, ℕ, zero, suc, ◌+◌, ◌-◌, ◌*◌, ◌<◌, ◌≤◌, ◌⊎◌, inl, inr, Bool, true, false, cond, ◌&&◌, ◌||◌, ◌==◌, nat_lt, nat_le, nat_eq, Option, Some, None, is_none, List, [], ◌∷◌, ◌++◌, length, get_or, map, refl, sym, ap, ◌∙◌, arith, subst}
-use Rattle.std.specs.List.{All, Contains, count_by, position, list_any, slice_get}
+use Rattle.std.proofs.Common.{◌≡◌, ℕ, zero, suc, ◌+◌, ◌*◌, ◌<◌, ◌≤◌, inl, inr, Bool, true, false, cond, ◌&&◌, ◌||◌, ◌==◌, nat_lt, nat_le, Option, Some, None, is_none, List, [], ◌∷◌, ◌++◌, length, get_or, map, refl, sym, ap, ◌∙◌, arith, subst}
+use Rattle.std.specs.List.{All, count_by, position, list_any, slice_get}
 use Rattle.std.specs.Prelude.{option_map, option_and_then}
 use Rattle.std.proofs.lemmas.List.{length-map, get_or-map}
 use Rattle.std.proofs.lemmas.List.Sorted.{All-permutation, Contains-permutation, sum_by-IsPermutation, length_permutation}
@@ -8,21 +8,20 @@ use Rattle.std.proofs.lemmas.Bool.{cases_lt}
 use Rattle.dc_tables.specs.Document.{Document, label_owners, IsInOrder}
 use Rattle.dc_tables.specs.Ticks.{output_gap}
 use Rattle.dc_tables.specs.Rules.{outside, output_out, counts, doubled, doubled_from, same_offset, offset_of, entries_from, entry_owners, frame_of}
-use Rattle.dc_tables.specs.RowsOf.{entry_of, own_entries, IsFrameOf, IsOutputRow, AreRows, label_row_of}
+use Rattle.dc_tables.specs.RowsOf.{entry_of, own_entries, IsOutputRow, AreRows}
 use Rattle.dc_tables.specs.TableRows.{TableRows, output_row, label_row, entry_row}
 use Rattle.dc_tables.specs.declared.rows.Speed.TheVariants.{High}
 use Rattle.dc_tables.specs.declared.rows.Entry.{Entry}
-use Rattle.dc_tables.specs.declared.rows.Output.{Output}
 use Rattle.dc_tables.specs.declared.keys.PlacedEntry.{PlacedEntry}
 use Rattle.dc_tables.specs.declared.keys.PlacedOffset.{PlacedOffset}
 use Rattle.dc_tables.specs.declared.parts.OutputPart.{OutputPart}
 use Rattle.dc_tables.specs.declared.parts.LabelPart.{LabelPart}
 use Rattle.dc_tables.proofs.Picks.{each_fails, any_fails, not_outside, or_none, not_below, not_le, first_passes, and_some}
 use Rattle.dc_tables.proofs.Owners.{bool_cases, counted_there}
-use Rattle.dc_tables.proofs.Apart.{apart, one_at_most, two_at_least, counts_length, counts_at, no_true}
+use Rattle.dc_tables.proofs.Apart.{apart, one_at_most, two_at_least, counts_length, counts_at}
 use Rattle.dc_tables.proofs.Intervals.{gap_some}
 use Rattle.dc_tables.proofs.ValidBuses.{tick_in}
-use Rattle.dc_tables.proofs.ValidLabels.{label_count, output_of, each_label, each_label_at, labels_on_outputs}
+use Rattle.dc_tables.proofs.ValidLabels.{label_count, output_of, each_label_at}
 use Rattle.dc_tables.proofs.ValidEntries.{is_same, same_is, both_true, all_entries, entry_there, own_all, own_length, own_count, own_contains}
 use Rattle.dc_tables.proofs.Obeys.{ShapeObeys, TotalsObey, SchedulesObey}
 

@@ -1,5 +1,5 @@
 -- The routers of tables that break no rule, and what they visit.
-use Rattle.std.proofs.Common.{◌≡◌, ℕ, zero, suc, ◌+◌, ◌-◌, ◌*◌, ◌%◌, ◌<◌, ◌≤◌, Bool, true, false, ◌||◌, not, nat_lt, nat_eq, ◌==◌, ◌⊎◌, inl, inr, Option, Some, None, is_none, List, [], ◌∷◌, length, get_or, map, refl, sym, ap, ◌∙◌, arith, subst}
+use Rattle.std.proofs.Common.{◌≡◌, ℕ, zero, suc, ◌+◌, ◌*◌, ◌%◌, ◌<◌, ◌≤◌, Bool, true, false, ◌||◌, not, nat_lt, ◌==◌, inl, inr, Option, Some, None, is_none, List, [], ◌∷◌, length, get_or, map, refl, sym, ap, ◌∙◌, arith, subst}
 use Rattle.std.specs.List.{count_by, position, list_any}
 use Rattle.std.specs.Prelude.{unwrap_or}
 use Rattle.std.specs.Str.{bytes_eq}
@@ -9,11 +9,10 @@ use Rattle.std.proofs.lemmas.List.{length-map, get_or-map}
 use Rattle.std.proofs.lemmas.Bool.{cases_lt}
 use Rattle.std.proofs.lemmas.Bool.Decides.{nat_tests}
 use Rattle.std.proofs.lemmas.Slice.Eq.{bytes_eq-Decides}
-use Rattle.dc_tables.specs.Document.{Document, stream_owners}
+use Rattle.dc_tables.specs.Document.{Document}
 use Rattle.dc_tables.specs.Rules.{outside, router_out, visits_bus, number_of, has_unknown, bus_names}
-use Rattle.dc_tables.specs.RowsOf.{bus_row_of, number_in, router_row_of, AreRows}
+use Rattle.dc_tables.specs.RowsOf.{number_in, router_row_of, AreRows}
 use Rattle.dc_tables.specs.TableRows.{TableRows, bus_row, router_row, visited}
-use Rattle.dc_tables.specs.declared.rows.Bus.{Bus}
 use Rattle.dc_tables.specs.declared.rows.Router.{Router}
 use Rattle.dc_tables.specs.declared.parts.BusPart.{BusPart}
 use Rattle.dc_tables.specs.declared.parts.RouterPart.{RouterPart}

@@ -1,5 +1,5 @@
 -- Tables as they are written, before any rule is tested.
-use Rattle.std.specs.Prelude.{◌≡◌, ℕ, ◌+◌, ◌<◌, ◌≤◌, List, [], ◌∷◌, ◌++◌, length, map, slice_index}
+use Rattle.std.specs.Prelude.{ℕ, ◌<◌, ◌≤◌, List, [], ◌∷◌, ◌++◌, length, map, slice_index}
 use Rattle.dc_tables.specs.declared.parts.ParameterPart.{ParameterPart}
 use Rattle.dc_tables.specs.declared.parts.BusPart.{BusPart}
 use Rattle.dc_tables.specs.declared.parts.StreamPart.{StreamPart}

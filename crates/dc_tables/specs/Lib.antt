@@ -4,5 +4,7 @@ pub mod Ticks
 pub mod Rules
 pub mod TableKeys
 pub mod TableRows
+pub mod Keyed
 pub mod RowsOf
 pub mod Declares
+pub mod FaultText

@@ -1,5 +1,5 @@
 -- The rows of a document's tables.
-use Rattle.std.specs.Prelude.{◌≡◌, ℕ, suc, ◌<◌, ◌≤◌, Bool, ◌==◌, nat_lt, Option, unwrap_or, List, [], ◌∷◌, length, map, filter, count_by, position, slice_index_or}
+use Rattle.std.specs.Prelude.{◌≡◌, ℕ, suc, ◌<◌, ◌==◌, nat_lt, unwrap_or, List, [], ◌∷◌, length, map, filter, count_by, position, slice_index_or}
 use Rattle.std.specs.Option.{option_map_or}
 use Rattle.std.specs.List.Sorted.{IsPermutation, IsNonDecreasingBy}
 use Rattle.dc_word.specs.declared.format.Format.TheVariants.{Bnr}

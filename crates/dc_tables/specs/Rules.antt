@@ -1,5 +1,5 @@
 -- The rules of tables in the order in which they are tested, and the first that is broken.
-use Rattle.std.specs.Prelude.{◌≡◌, ℕ, zero, suc, ◌+◌, ◌-◌, ◌*◌, ◌/◌, Bool, true, false, ◌==◌, ◌&&◌, ◌||◌, not, nat_lt, nat_le, if◌then◌else◌, Option, Some, None, is_some, is_none, option_map, option_and_then, Result, Ok, Err, List, [], ◌∷◌, ◌++◌, length, map, filter, count_by, position, slice_get, slice_index}
+use Rattle.std.specs.Prelude.{◌≡◌, ℕ, zero, suc, ◌+◌, ◌*◌, ◌/◌, Bool, true, false, ◌==◌, ◌&&◌, ◌||◌, not, nat_lt, nat_le, if◌then◌else◌, Option, Some, None, is_some, is_none, option_map, option_and_then, Result, Ok, Err, List, [], ◌∷◌, ◌++◌, length, map, count_by, position, slice_get, slice_index}
 use Rattle.std.specs.List.{list_any}
 use Rattle.std.specs.Option.{option_map_or}
 use Rattle.std.specs.Str.{bytes_eq}
@@ -9,7 +9,6 @@ use Rattle.dc_tables.specs.declared.fault.Code.{Code}
 use Rattle.dc_tables.specs.declared.fault.Code.TheVariants.{T06, T08, T09, T10, T11, T12, T13, T14, T15, T16, T17, T18, T19, T20, T21, T22, T23, T24}
 use Rattle.dc_tables.specs.declared.fault.Section.{Section}
 use Rattle.dc_tables.specs.declared.fault.Section.TheVariants.{Top, Parameter, Bus, Stream, Router, Output, Label}
-use Rattle.dc_tables.specs.declared.fault.TableFault.{TableFault}
 use Rattle.dc_tables.specs.declared.fault.BuildError.{BuildError}
 use Rattle.dc_tables.specs.declared.fault.BuildError.TheVariants.{Refused, Memory}
 use Rattle.dc_tables.specs.declared.fault.Breach.{Breach}

@@ -1,6 +1,7 @@
-ghost use Rattle.std.specs.Prelude.{◌≡◌};
+ghost use Rattle.std.specs.Prelude.{◌≡◌, ◌≤◌, length};
 ghost use Rattle.dc_tables.specs.declared.fault.BuildError.TheVariants.{Refused, Memory};
 ghost use Rattle.dc_tables.specs.Rules.{told, breach, earlier, breach_told};
+ghost use Rattle.dc_tables.specs.FaultText.{code_text, section_text};
 
 use std::alloc::AllocError;
 use std::fmt;
@@ -82,6 +83,39 @@ impl From<AllocError> for BuildError {
 }
 
 impl Code {
+    /// The code as it is printed, as `T16`.
+    pub fn text(self) -> &'static str
+        ensures text { result.now ≡ code_text self }
+        ensures short { length result.now ≤ 3 }
+    {
+        match self {
+            Code::T01 => "T01",
+            Code::T02 => "T02",
+            Code::T03 => "T03",
+            Code::T04 => "T04",
+            Code::T05 => "T05",
+            Code::T06 => "T06",
+            Code::T07 => "T07",
+            Code::T08 => "T08",
+            Code::T09 => "T09",
+            Code::T10 => "T10",
+            Code::T11 => "T11",
+            Code::T12 => "T12",
+            Code::T13 => "T13",
+            Code::T14 => "T14",
+            Code::T15 => "T15",
+            Code::T16 => "T16",
+            Code::T17 => "T17",
+            Code::T18 => "T18",
+            Code::T19 => "T19",
+            Code::T20 => "T20",
+            Code::T21 => "T21",
+            Code::T22 => "T22",
+            Code::T23 => "T23",
+            Code::T24 => "T24",
+        }
+    }
+
     /// What the rule says, in words.
     pub fn explanation(self) -> &'static str {
         match self {
@@ -121,17 +155,28 @@ impl Code {
     }
 }
 
+impl Section {
+    /// The kind of table as it is printed, as `router`.
+    pub fn text(self) -> &'static str
+        ensures text { result.now ≡ section_text self }
+        ensures short { length result.now ≤ 9 }
+    {
+        match self {
+            Section::Top => "top",
+            Section::Parameter => "parameter",
+            Section::Bus => "bus",
+            Section::Stream => "stream",
+            Section::Router => "router",
+            Section::Output => "output",
+            Section::Label => "label",
+        }
+    }
+}
+
 impl fmt::Display for Section {
     fn fmt<W: fmt::Write>(&self, f: &mut fmt::Formatter<W>) -> fmt::Result {
-        match self {
-            Section::Top => write!(f, "top"),
-            Section::Parameter => write!(f, "parameter"),
-            Section::Bus => write!(f, "bus"),
-            Section::Stream => write!(f, "stream"),
-            Section::Router => write!(f, "router"),
-            Section::Output => write!(f, "output"),
-            Section::Label => write!(f, "label"),
-        }
+        let text = self.text();
+        write!(f, "{text}")
     }
 }
 

@@ -1,5 +1,5 @@
 //! Keys that are looked up by their value.
-ghost use Rattle.std.specs.Prelude.{◌≡◌, ◌≤◌, None, map, IfOk, IfSome, All};
+ghost use Rattle.std.specs.Prelude.{◌≡◌, ◌≤◌, ◌<◌, None, map, IfOk, IfSome, All, [], length, slice_index_or};
 ghost use Rattle.dc_tables.specs.Rules.{doubled, doubled_name, number_of, parameter_of, parameter_key, same_parameter, told, Tells};
 
 use crate::fault::{BuildError, Code, Section, refuse};
@@ -56,6 +56,14 @@ impl NameIndex {
         let (known, found) = distinct(alloc, names).map_err(BuildError::Memory)?;
         refuse(Code::T13, section, found)?;
         Ok(NameIndex { names: known })
+    }
+
+    /// The name of this number.
+    pub(crate) fn name(&self, number: usize) -> &Name
+        requires { number < length self.now }
+        ensures { result.now ≡ slice_index_or self.now number [] }
+    {
+        &self.names.as_slice()[number]
     }
 
     /// The number of this name.

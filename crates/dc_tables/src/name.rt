@@ -1,6 +1,6 @@
 ghost use Rattle.std.specs.Prelude.{◌≡◌, length};
-ghost use Rattle.std.specs.List.{list_all};
-ghost use Rattle.dc_tables.specs.Names.{is_name_byte as is_spelling_byte, is_spelled as is_spelled_name, name_of};
+ghost use Rattle.std.specs.List.{list_all, prefix_len};
+ghost use Rattle.dc_tables.specs.Names.{is_name_byte as is_spelling_byte, is_spelled as is_spelled_name, IsSpelled, name_of, text_of};
 
 use std::marker::Model;
 
@@ -42,6 +42,13 @@ fn is_spelled(text: &[u8]) -> bool
     !text.is_empty() && text.len() <= 16 && are_name_bytes(text)
 }
 
+// How many bytes from the front on may stand in a name.
+fn text_len(bytes: &[u8]) -> usize
+    ensures { result ≡ prefix_len is_spelling_byte bytes.now }
+{
+    bytes.iter().take_while(|byte| is_name_byte(**byte)).count()
+}
+
 impl Name {
     /// The name with this text, if it is spelled as one.
     pub fn new(text: &[u8]) -> Option<Name>
@@ -53,5 +60,14 @@ impl Name {
         let mut bytes = [0; 16];
         bytes[..text.len()].copy_from_slice(text);
         Some(Name(bytes))
+    }
+
+    /// The name's text, 1 to 16 bytes.
+    pub fn text(&self) -> &[u8]
+        ensures text { result.now ≡ text_of self.now }
+        ensures spelled { IsSpelled result.now }
+    {
+        let len = text_len(&self.0);
+        &self.0[..len]
     }
 }

@@ -31,18 +31,20 @@ pub struct Tables {
 }
 
 impl Model for Tables {
-    ghost use Rattle.dc_tables.specs.TableRows.{TableRows, AreValid};
+    ghost use Rattle.dc_tables.specs.TableRows.{TableRows};
+    ghost use Rattle.dc_tables.specs.Keyed.{AreSound};
 
     ghost Value = { TableRows };
 
     ghost view = { λ t. record { tick_us = t.tick_us; buses = t.buses.items; streams = t.streams.items; routers = t.routers.items; outputs = t.outputs.items; labels = t.labels.items; keys = record { buses = t.bus_names; streams = t.stream_names; routers = t.router_names; outputs = t.output_names; labels = t.label_names } } };
 
-    ghost invariant = { λ t. AreValid (record { tick_us = t.tick_us; buses = t.buses.items; streams = t.streams.items; routers = t.routers.items; outputs = t.outputs.items; labels = t.labels.items; keys = record { buses = t.bus_names; streams = t.stream_names; routers = t.router_names; outputs = t.output_names; labels = t.label_names } }) };
+    ghost invariant = { λ t. AreSound (record { tick_us = t.tick_us; buses = t.buses.items; streams = t.streams.items; routers = t.routers.items; outputs = t.outputs.items; labels = t.labels.items; keys = record { buses = t.bus_names; streams = t.stream_names; routers = t.router_names; outputs = t.output_names; labels = t.label_names } }) };
 }
 
 impl Tables {
     ghost use Rattle.dc_tables.specs.TableRows.{AreValid, stream_row, output_row, label_row};
-    ghost use Rattle.std.specs.Prelude.{◌≤◌, Ok, IfOk, vec_len};
+    ghost use Rattle.std.specs.Prelude.{◌≤◌, Ok, IfOk, vec_len, [], slice_index_or};
+    ghost use Rattle.dc_tables.specs.Keyed.{AreKeyed};
     ghost use Rattle.dc_tables.specs.RowsOf.{AreRows};
     ghost use Rattle.dc_tables.specs.Rules.{Tells, verdict_of, first_rules, later_rules, entries_from, bus_names, stream_names, router_names, output_names, label_names, number_of};
 
@@ -144,6 +146,67 @@ impl Tables {
         ensures { result ≡ number_of self.now.keys.outputs name.now }
     {
         self.output_names.number_of(name)
+    }
+
+    /// The number of the stream of this name.
+    pub fn stream_named(&self, name: &Name) -> Option<usize>
+        ensures { result ≡ number_of self.now.keys.streams name.now }
+    {
+        self.stream_names.number_of(name)
+    }
+
+    /// The number of the label of this name.
+    pub fn label_named(&self, name: &Name) -> Option<usize>
+        ensures { result ≡ number_of self.now.keys.labels name.now }
+    {
+        self.label_names.number_of(name)
+    }
+
+    /// The name of a bus.
+    pub fn bus_name(&self, bus: usize) -> &Name
+        requires { bus < length self.now.buses }
+        ensures { result.now ≡ slice_index_or self.now.keys.buses bus [] }
+    {
+        self.bus_names.name(bus)
+    }
+
+    /// The name of a stream.
+    pub fn stream_name(&self, stream: usize) -> &Name
+        requires { stream < length self.now.streams }
+        ensures { result.now ≡ slice_index_or self.now.keys.streams stream [] }
+    {
+        self.stream_names.name(stream)
+    }
+
+    /// The name of a router.
+    pub fn router_name(&self, router: usize) -> &Name
+        requires { router < length self.now.routers }
+        ensures { result.now ≡ slice_index_or self.now.keys.routers router [] }
+    {
+        self.router_names.name(router)
+    }
+
+    /// The name of an output.
+    pub fn output_name(&self, output: usize) -> &Name
+        requires { output < length self.now.outputs }
+        ensures { result.now ≡ slice_index_or self.now.keys.outputs output [] }
+    {
+        self.output_names.name(output)
+    }
+
+    /// The name of a label, of its number among the labels of all outputs.
+    pub fn label_name(&self, label: usize) -> &Name
+        requires { label < length self.now.labels }
+        ensures { result.now ≡ slice_index_or self.now.keys.labels label [] }
+    {
+        self.label_names.name(label)
+    }
+
+    /// Each row has its name.
+    pub fn keyed(&self)
+        ensures { AreKeyed self.now }
+    {
+        let _ = &self.tick_us;
     }
 
     /// The tables meet their rules.

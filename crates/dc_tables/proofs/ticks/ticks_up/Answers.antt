@@ -1,4 +1,4 @@
-use Rattle.std.proofs.Common.{◌≡◌, ℕ, ◌+◌, ◌-◌, ◌/◌, ◌≤◌, arith}
+use Rattle.std.proofs.Common.{◌≤◌, arith}
 use Rattle.dc_bound.specs.Counts.{ceil_le}
 use Rattle.dc_tables.proofs.ticks.ticks_up.Goals as goal
 

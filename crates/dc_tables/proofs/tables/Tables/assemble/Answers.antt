@@ -1,8 +1,5 @@
-use Rattle.std.proofs.Common.{◌≡◌}
-use Rattle.dc_tables.specs.RowsOf.{AreRows, keys_of}
-use Rattle.dc_tables.specs.TableRows.{TableRows}
-use Rattle.dc_tables.specs.TableKeys.{TableKeys}
-use Rattle.dc_tables.proofs.Valid.{valid_rows, keys_same}
+use Rattle.dc_tables.specs.RowsOf.{AreRows}
+use Rattle.dc_tables.proofs.Valid.{valid_rows, keyed_rows, keys_same}
 use Rattle.dc_tables.proofs.tables.Tables.assemble.Goals as goal
 
 pub returns : goal.returns
@@ -30,4 +27,7 @@ invariant_of-result c =
       labels = c.in_ok-labels.ensures.rows;
       keys = keys_same c.requires.buses c.requires.streams c.requires.routers c.requires.outputs c.requires.labels;
     } in
-    valid_rows d _ c.in_order.ensures rows c.in_ok-labels.ensures.fit c.requires.first c.requires.later
+    record {
+      valid = valid_rows d _ c.in_order.ensures rows c.in_ok-labels.ensures.fit c.requires.first c.requires.later;
+      keyed = keyed_rows d _ rows;
+    }
