@@ -64,7 +64,7 @@ fn changed(alloc: Global, first: usize, count: usize, words: &str) -> Result<Str
             text.push_str(words)?;
             text.push_str("\n")?;
         }
-        if number < first || number >= first + count {
+        if number < first || number - first >= count {
             text.push_str(line)?;
             text.push_str("\n")?;
         }
