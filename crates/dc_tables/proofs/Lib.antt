@@ -15,3 +15,4 @@ pub mod Valid
 pub mod Admits
 pub mod Pushed
 pub mod Spelling
+pub mod BoundsMade

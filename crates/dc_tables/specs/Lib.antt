@@ -5,6 +5,7 @@ pub mod Rules
 pub mod TableKeys
 pub mod TableRows
 pub mod Keyed
+pub mod Bounds
 pub mod RowsOf
 pub mod Declares
 pub mod FaultText

@@ -2,6 +2,7 @@
 #![tactic(auto)]
 
 mod assemble;
+mod bounds;
 mod fault;
 mod index;
 mod judge;

@@ -2,6 +2,7 @@ ghost use Rattle.std.specs.Prelude.{◌≡◌, ◌+◌, ◌%◌, ◌<◌, length
 ghost use Rattle.dc_tables.specs.TableRows.{visited, bus_row, router_row};
 ghost use Rattle.dc_tables.specs.Declares.{declares, stream_of, fits};
 
+use crate::bounds::{FrameOffsets, output_offsets, part, stream_bounds};
 use crate::fault::BuildError;
 use crate::index::{NameIndex, Parameters};
 use crate::judge::{Names, check_first, check_later};
@@ -10,6 +11,7 @@ use crate::made::{make_buses, make_labels, make_outputs, make_routers, make_stre
 use crate::name::Name;
 use crate::parts::Parts;
 use crate::rows::{Bus, Output, OutputLabel, Router, Stream};
+use dc_bound::{ArrivalBound, Both, Cyclic, Paced, ServiceBound, Sporadic, SumOf, Visits, Wire};
 use dc_word::{Sdi, Word};
 use std::alloc::{AllocError, Global};
 use std::marker::Model;
@@ -23,6 +25,8 @@ pub struct Tables {
     routers: Vec<Router>,
     outputs: Vec<Output>,
     labels: Vec<OutputLabel>,
+    minimums: Vec<Sporadic>,
+    offsets: Vec<FrameOffsets>,
     bus_names: NameIndex,
     stream_names: NameIndex,
     router_names: NameIndex,
@@ -31,19 +35,21 @@ pub struct Tables {
 }
 
 impl Model for Tables {
+    ghost use Rattle.std.specs.Prelude.{◌≡◌};
     ghost use Rattle.dc_tables.specs.TableRows.{TableRows};
+    ghost use Rattle.dc_tables.specs.Bounds.{AreBounds, frame_offsets};
     ghost use Rattle.dc_tables.specs.Keyed.{AreSound};
 
     ghost Value = { TableRows };
 
     ghost view = { λ t. record { tick_us = t.tick_us; buses = t.buses.items; streams = t.streams.items; routers = t.routers.items; outputs = t.outputs.items; labels = t.labels.items; keys = record { buses = t.bus_names; streams = t.stream_names; routers = t.router_names; outputs = t.output_names; labels = t.label_names } } };
 
-    ghost invariant = { λ t. AreSound (record { tick_us = t.tick_us; buses = t.buses.items; streams = t.streams.items; routers = t.routers.items; outputs = t.outputs.items; labels = t.labels.items; keys = record { buses = t.bus_names; streams = t.stream_names; routers = t.router_names; outputs = t.output_names; labels = t.label_names } }) };
+    ghost invariant = { λ t. AreBounds t.minimums.items t.streams.items × (t.offsets.items ≡ frame_offsets t.outputs.items) × AreSound (record { tick_us = t.tick_us; buses = t.buses.items; streams = t.streams.items; routers = t.routers.items; outputs = t.outputs.items; labels = t.labels.items; keys = record { buses = t.bus_names; streams = t.stream_names; routers = t.router_names; outputs = t.output_names; labels = t.label_names } }) };
 }
 
 impl Tables {
-    ghost use Rattle.dc_tables.specs.TableRows.{AreValid, stream_row, output_row, label_row};
-    ghost use Rattle.std.specs.Prelude.{◌≤◌, Ok, IfOk, vec_len, [], slice_index_or};
+    ghost use Rattle.dc_tables.specs.TableRows.{AreValid, stream_row, output_row, label_row, bus_cap, bus_floor, output_cap, output_floor};
+    ghost use Rattle.std.specs.Prelude.{ℕ, ◌≤◌, Ok, IfOk, vec_len, [], slice_index_or};
     ghost use Rattle.dc_tables.specs.Keyed.{AreKeyed};
     ghost use Rattle.dc_tables.specs.RowsOf.{AreRows};
     ghost use Rattle.dc_tables.specs.Rules.{Tells, verdict_of, first_rules, later_rules, entries_from, bus_names, stream_names, router_names, output_names, label_names, number_of};
@@ -84,6 +90,8 @@ impl Tables {
         let routers = make_routers(alloc, parts, &names.buses)?;
         let outputs = make_outputs(alloc, parts, entries)?;
         let labels = make_labels(alloc, parts, parameters, &names.streams)?;
+        let minimums = stream_bounds(alloc, &streams)?;
+        let offsets = output_offsets(alloc, &outputs)?;
         let tick_us = parts.tick_us();
         Ok(Tables {
             tick_us,
@@ -92,6 +100,8 @@ impl Tables {
             routers,
             outputs,
             labels,
+            minimums,
+            offsets,
             bus_names: names.buses,
             stream_names: names.streams,
             router_names: names.routers,
@@ -304,6 +314,47 @@ impl Tables {
         ensures there { result < length self.now.buses }
     {
         self.streams[stream].bus
+    }
+
+    /// What a bus may bring: the lesser of its streams' and its wire's.
+    pub fn bus_bound(&self, bus: usize) -> Both<SumOf<'_, Sporadic>, Wire>
+        requires { bus < length self.now.buses }
+        ensures { (d : ℕ) → ⟦<Both<SumOf<'static, Sporadic>, Wire> as ArrivalBound>⟧.cap result d ≡ bus_cap self.now bus d }
+    {
+        let row = &self.buses[bus];
+        let minimums = part(&self.minimums, row.first, row.streams);
+        let streams = SumOf::new(row.first, minimums);
+        let wire = Wire::new(self.tick_us, row.spacing);
+        Both::new(streams, wire)
+    }
+
+    /// How a bus is served: the visits of it by its router.
+    pub fn bus_service(&self, bus: usize) -> Visits<'_>
+        requires { bus < length self.now.buses }
+        ensures { (d : ℕ) → ⟦<Visits<'static> as ServiceBound>⟧.floor result d ≡ bus_floor self.now bus d }
+    {
+        let row = &self.routers[self.buses[bus].router];
+        let pace = Paced::new(row.steps, row.within);
+        Visits::new(pace, row.visits.as_slice(), bus)
+    }
+
+    /// What falls due at an output: the entries of its frame, again and again.
+    pub fn output_bound(&self, output: usize) -> Cyclic<'_>
+        requires { output < length self.now.outputs }
+        ensures { (d : ℕ) → ⟦<Cyclic<'static> as ArrivalBound>⟧.cap result d ≡ output_cap self.now output d }
+    {
+        let row = &self.outputs[output];
+        let own = &self.offsets[output];
+        Cyclic::new(row.frame, own.as_slice())
+    }
+
+    /// How an output sends: its fewest steps in so many whole ticks.
+    pub fn output_service(&self, output: usize) -> Paced
+        requires { output < length self.now.outputs }
+        ensures { (d : ℕ) → ⟦<Paced as ServiceBound>⟧.floor result d ≡ output_floor self.now output d }
+    {
+        let row = &self.outputs[output];
+        Paced::new(row.steps, row.within)
     }
 
     /// The bus that the router visits at this cursor, and the cursor after it.

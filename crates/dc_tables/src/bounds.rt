@@ -1,0 +1,76 @@
+//! What tables keep beside their rows: the bounds of the streams, and the offsets of the outputs' entries.
+ghost use Rattle.std.specs.Prelude.{All, ◌≡◌, ◌+◌, ◌≤◌, map, take, drop, length, IfOk};
+ghost use Rattle.dc_tables.specs.Bounds.{AreBounds, frame_offsets};
+
+use crate::rows::{Entry, Output, Stream};
+use dc_bound::Sporadic;
+use std::alloc::{AllocError, Global};
+use std::marker::Model;
+
+/// The offsets of an output's entries, in order.
+#[derive(Debug, Drop)]
+pub struct FrameOffsets {
+    items: Vec<u32>,
+}
+
+impl Model for FrameOffsets {
+    ghost use Rattle.std.specs.Prelude.{ℕ, List};
+
+    ghost Value = { List ℕ };
+
+    ghost view = { λ o. o.items.items };
+}
+
+impl FrameOffsets {
+    /// The offsets of these entries.
+    fn of(alloc: Global, entries: &[Entry]) -> Result<FrameOffsets, AllocError>
+        ensures { IfOk result (λ o. o ≡ map (λ e. e.offset) entries.now) }
+    {
+        let items = entries.iter().map(|e| e.offset).collect(alloc)?;
+        Ok(FrameOffsets { items })
+    }
+
+    /// The offsets, in order.
+    pub fn as_slice(&self) -> &[u32]
+        ensures { result.now ≡ self.now }
+    {
+        self.items.as_slice()
+    }
+}
+
+/// The bound of each stream.
+#[tactic(auto, using(crate::proofs::BoundsMade::bounds_more))]
+pub(crate) fn stream_bounds(alloc: Global, streams: &[Stream]) -> Result<Vec<Sporadic>, AllocError>
+    requires { All (λ s. 1 ≤ s.minimum) streams.now }
+    ensures { IfOk result (λ v. AreBounds v.items streams.now) }
+{
+    let mut bounds = Vec::new(alloc);
+    for stream in streams {
+        bounds.push(Sporadic::new(stream.minimum))?;
+    }
+    Ok(bounds)
+}
+
+/// The offsets of each output's entries.
+pub(crate) fn output_offsets(
+    alloc: Global,
+    outputs: &[Output],
+) -> Result<Vec<FrameOffsets>, AllocError>
+    ensures { IfOk result (λ v. v.items ≡ frame_offsets outputs.now) }
+{
+    let mut rows = Vec::new(alloc);
+    for output in outputs {
+        rows.push(FrameOffsets::of(alloc, output.entries.as_slice())?)?;
+    }
+    Ok(rows)
+}
+
+/// So many of the bounds, from this one on.
+pub(crate) fn part(bounds: &[Sporadic], first: usize, count: usize) -> &[Sporadic]
+    requires inside { first + count ≤ length bounds.now }
+    requires small { length bounds.now ≤ 1024 }
+    ensures { result.now ≡ take count (drop first bounds.now) }
+{
+    let rest = &bounds[first..];
+    &rest[..count]
+}
