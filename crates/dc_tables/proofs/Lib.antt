@@ -16,3 +16,4 @@ pub mod Admits
 pub mod Pushed
 pub mod Spelling
 pub mod BoundsMade
+pub mod Parted

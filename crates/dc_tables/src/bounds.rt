@@ -65,12 +65,12 @@ pub(crate) fn output_offsets(
     Ok(rows)
 }
 
-/// So many of the bounds, from this one on.
-pub(crate) fn part(bounds: &[Sporadic], first: usize, count: usize) -> &[Sporadic]
-    requires inside { first + count ≤ length bounds.now }
-    requires small { length bounds.now ≤ 1024 }
-    ensures { result.now ≡ take count (drop first bounds.now) }
+/// So many of the items, from this one on.
+pub(crate) fn part<T>(items: &[T], first: usize, count: usize) -> &[T]
+    requires inside { first + count ≤ length items.now }
+    requires small { length items.now ≤ 1024 }
+    ensures { result.now ≡ take count (drop first items.now) }
 {
-    let rest = &bounds[first..];
+    let rest = &items[first..];
     &rest[..count]
 }

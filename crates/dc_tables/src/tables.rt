@@ -1,5 +1,5 @@
-ghost use Rattle.std.specs.Prelude.{◌≡◌, ◌+◌, ◌%◌, ◌<◌, length, IfSome};
-ghost use Rattle.dc_tables.specs.TableRows.{visited, bus_row, router_row};
+ghost use Rattle.std.specs.Prelude.{◌≡◌, ◌+◌, ◌%◌, ◌<◌, length, position, IfSome};
+ghost use Rattle.dc_tables.specs.TableRows.{visited, bus_row, router_row, bus_streams};
 ghost use Rattle.dc_tables.specs.Declares.{declares, stream_of, fits};
 
 use crate::bounds::{FrameOffsets, output_offsets, part, stream_bounds};
@@ -372,16 +372,35 @@ impl Tables {
         (bus, (at + 1) % len)
     }
 
-    /// The number of the stream of the bus that declares the word.
-    #[tactic(auto, unfolding(crate::specs::Declares::stream_of))]
+    /// The streams of a bus; the first has the number `bus(bus).first`.
+    pub fn bus_streams(&self, bus: usize) -> &[Stream]
+        requires { bus < length self.now.buses }
+        ensures { result.now ≡ bus_streams self.now bus }
+    {
+        let row = &self.buses[bus];
+        part(&self.streams, row.first, row.streams)
+    }
+
+    /// The number of the stream of the bus that declares the word; a bus that is not there has none.
     pub fn stream_of(&self, bus: usize, word: Word) -> Option<usize>
         ensures stream { result ≡ stream_of self.now bus word }
         ensures there { IfSome result (λ s. s < length self.now.streams) }
     {
-        self.streams
-            .iter()
-            .position(|stream| stream.declares(bus, word))
+        self.valid();
+        if self.bus_count() <= bus {
+            return None;
+        }
+        let at = declaring(self.bus_streams(bus), bus, word)?;
+        Some(self.bus(bus).first + at)
     }
+}
+
+/// The first of the streams that is of the bus and declares the word.
+fn declaring(streams: &[Stream], bus: usize, word: Word) -> Option<usize>
+    ensures first { result ≡ position (declares bus word) streams.now }
+    ensures there { IfSome result (λ k. k < length streams.now) }
+{
+    streams.iter().position(|stream| stream.declares(bus, word))
 }
 
 impl Stream {
