@@ -138,14 +138,14 @@ module _ (f g : ℕ → ℕ) where
 same-names : (names keys : List (List ℕ)) → Decides (pointwise bytes_eq names (map text_of keys)) (names ≡ map text_of keys)
 same-names names keys = slice_eq-Decides bytes_eq-Decides names (map text_of keys) (pointwise bytes_eq names (map text_of keys)) refl
 
-named-is : (count : ℕ) (names keys : List (List ℕ)) → is_named count names keys ≡ true → IsNamed count names keys
+pub named-is : (count : ℕ) (names keys : List (List ℕ)) → is_named count names keys ≡ true → IsNamed count names keys
 named-is count names keys h =
     elim (eqb (length names) count) as (λ b. eqb (length names) count ≡ b → (b && pointwise bytes_eq names (map text_of keys)) ≡ true → IsNamed count names keys) [
       | true ↦ λ is h. record { sized = eqb-true (length names) count is; same = (same-names names keys).0 h }
       | false ↦ λ is h. absurd cc
     ] refl h
 
-is-named : (count : ℕ) (names keys : List (List ℕ)) → IsNamed count names keys → is_named count names keys ≡ true
+pub is-named : (count : ℕ) (names keys : List (List ℕ)) → IsNamed count names keys → is_named count names keys ≡ true
 is-named count names keys ok =
     ap (λ b. b && pointwise bytes_eq names (map text_of keys)) (eq-eqb (length names) count ok.sized) ∙ (same-names names keys).1 ok.same
 

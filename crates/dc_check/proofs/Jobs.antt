@@ -2,10 +2,11 @@
 use Rattle.std.proofs.Common.{◌≡◌, ℕ, zero, suc, ◌+◌, ◌-◌, ◌<◌, ◌≤◌, true, false, Option, Some, None, is_some, length, inl, inr, refl, sym, ap, ◌∙◌, arith, add-one}
 use Rattle.std.specs.Option.{option_or}
 use Rattle.std.proofs.lemmas.Bool.{cases_lt, lt-ltb, le-ltb}
-use Rattle.dc_cert.specs.Bounds.{CertificateRows, input_bound, output_bound}
+use Rattle.dc_cert.specs.Bounds.{CertificateRows, input_bound, output_bound, numbers_of}
+use Rattle.dc_cert.specs.Claims.{Claims}
 use Rattle.dc_check.proofs.Exact.{none-or}
 use Rattle.dc_check.proofs.Firsts.{at_front, nothing}
-use Rattle.dc_check.specs.Verdict.{first_of, input_rules, output_rules, label_rules, job_ranges, job_rules, job_verdict, first_job_fault}
+use Rattle.dc_check.specs.Verdict.{first_of, misnaming, input_rules, output_rules, label_rules, job_count, job_ranges, job_rules, job_verdict, first_job_fault, verdict_of}
 use Rattle.dc_check.specs.declared.fault.CheckFault.{CheckFault}
 use Rattle.dc_tables.specs.TableRows.{TableRows}
 
@@ -48,3 +49,16 @@ jobs-found f (suc n) k l before found =
           let e : n ≡ k = omega arith in
           ap f (sym e) ∙ sym (ap (λ o. option_or o (f n)) (ap (first_job_fault f) e ∙ before))
     ]
+
+-- ---- the verdict, of the names and then of the jobs
+
+module _ (t : TableRows) (claims : Claims) where
+  -- a name is wrong
+  pub verdict-names : (fault : CheckFault) → misnaming t claims ≡ Some fault → verdict_of t claims ≡ Some fault
+  unfolding verdict_of
+  verdict-names fault h = ap (λ o. option_or o (first_job_fault (job_verdict t (numbers_of claims)) (job_count t))) h
+
+  -- no name is wrong, so it is what the jobs say
+  pub verdict-jobs : (found : Option CheckFault) → misnaming t claims ≡ None → first_job_fault (job_verdict t (numbers_of claims)) (job_count t) ≡ found → verdict_of t claims ≡ found
+  unfolding verdict_of
+  verdict-jobs found h e = ap (λ o. option_or o (first_job_fault (job_verdict t (numbers_of claims)) (job_count t))) h ∙ e

@@ -19,3 +19,5 @@ pub mod Exact
 pub mod Firsts
 pub mod CertificateReads
 pub mod Jobs
+pub mod Naming
+pub mod Places

@@ -1,5 +1,6 @@
 -- When a certificate is accepted, what the verdict on it is, and what an accepted one means.
 pub mod Accepts
 pub mod Verdict
+pub mod Placed
 pub mod Certified
 pub mod Lent

@@ -2,16 +2,20 @@
 #![tactic(auto)]
 
 mod certified;
-mod check;
 mod fault;
+mod job;
+mod judge;
 mod labels;
 pub mod laws;
+mod names;
 mod queues;
 mod rules;
 #[cfg(test)]
 mod tests;
 
 pub use certified::Certified;
-pub use check::certify;
 pub use fault::{CheckFault, Code, Part};
+pub use job::{job_fault, job_fault_given, verdict};
+pub use judge::{certify, check};
+pub use names::misnamed;
 pub use rules::LONGEST;

@@ -1,0 +1,7 @@
+use Rattle.std.proofs.Common.{map}
+use Rattle.dc_cert.specs.Claims.{InputClaim, input_claim}
+use Rattle.dc_check.proofs.Naming.{AreSame}
+use Rattle.dc_check.proofs.names.are_buses.Given as goal
+
+abbrev pub invariant-loop-bus : goal.invariant-loop-bus
+invariant-loop-bus l = AreSame (map (λ (x : InputClaim). x.bus) (map input_claim l.inputs)) l.tables.keys.buses l.bus

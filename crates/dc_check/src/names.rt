@@ -1,0 +1,81 @@
+//! The rule on names: a certificate lists the tables' buses, outputs and labels, once each and in their order.
+
+ghost use Rattle.std.specs.Prelude.{◌≡◌, length, map};
+ghost use Rattle.dc_cert.specs.Claims.{claims_of, input_claim, output_claim, label_claim};
+ghost use Rattle.dc_check.specs.Verdict.{is_named, misnaming};
+
+use crate::fault::{CheckFault, Code, Part};
+use crate::rules::{fault, fault_unless, first_fault};
+use dc_cert::{Certificate, InputRow, LabelRow, OutputRow};
+use dc_tables::Tables;
+
+/// The fault of a certificate's names, if any: C01 at the inputs, the outputs or the labels.
+pub fn misnamed(tables: &Tables, certificate: &Certificate) -> Option<CheckFault>
+    ensures { result ≡ misnaming tables.now (claims_of certificate.now) }
+{
+    first_fault(&[
+        fault_unless(
+            are_buses(tables, &certificate.inputs),
+            fault(Part::Inputs, 0, Code::C01),
+        ),
+        fault_unless(
+            are_outputs(tables, &certificate.outputs),
+            fault(Part::Outputs, 0, Code::C01),
+        ),
+        fault_unless(
+            are_labels(tables, &certificate.labels),
+            fault(Part::Labels, 0, Code::C01),
+        ),
+    ])
+}
+
+/// Whether these are the tables' buses, once each and in their order.
+fn are_buses(tables: &Tables, inputs: &[InputRow]) -> bool
+    ensures { result ≡ is_named (length tables.now.buses) (map (λ i. i.bus) (map input_claim inputs.now)) tables.now.keys.buses }
+{
+    tables.keyed();
+    if inputs.len() != tables.bus_count() {
+        return false;
+    }
+    for (bus, input) in inputs.iter().enumerate() {
+        let name = tables.bus_name(bus);
+        if input.bus.as_bytes() != name.text() {
+            return false;
+        }
+    }
+    true
+}
+
+/// Whether these are the tables' outputs, once each and in their order.
+fn are_outputs(tables: &Tables, outputs: &[OutputRow]) -> bool
+    ensures { result ≡ is_named (length tables.now.outputs) (map (λ o. o.output) (map output_claim outputs.now)) tables.now.keys.outputs }
+{
+    tables.keyed();
+    if outputs.len() != tables.output_count() {
+        return false;
+    }
+    for (number, output) in outputs.iter().enumerate() {
+        let name = tables.output_name(number);
+        if output.output.as_bytes() != name.text() {
+            return false;
+        }
+    }
+    true
+}
+
+/// Whether these are the tables' labels, once each and in their order.
+fn are_labels(tables: &Tables, labels: &[LabelRow]) -> bool
+    ensures { result ≡ is_named (length tables.now.labels) (map (λ l. l.label) (map label_claim labels.now)) tables.now.keys.labels }
+{
+    tables.keyed();
+    if labels.len() != tables.label_count() {
+        return false;
+    }
+    for (number, label) in labels.iter().enumerate() {
+        let name = tables.label_name(number);
+        if label.label.as_bytes() != name.text() {
+            return false;
+        }
+    }
+    true
+}
