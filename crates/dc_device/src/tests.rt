@@ -1,6 +1,8 @@
 //! What no clause says: the devices over memory, each public call once, and calls that fail in mid-stream.
+ghost use Rattle.std.specs.Prelude.{Some};
+
 use super::*;
-use std::alloc::Global;
+use std::alloc::{AllocError, Global};
 use std::test::Fail;
 
 #[test]
@@ -109,6 +111,108 @@ fn a_text_is_read_whole_up_to_its_limit(rt: HostRuntime) -> Result<(), Fail> {
             }
             Err(unread) => assert_eq!(rt; want, Some(unread), "up to {limit}"),
         }
+    }
+    Ok(())
+}
+
+// A sink that takes one byte at a push.
+#[derive(Drop)]
+struct DripSink(MemSink);
+
+impl DripSink {
+    // Room for 100 bytes. The push of number `fails_at`, from 1 on, fails; for 0 none does.
+    fn new(alloc: Global, fails_at: u64) -> Result<Self, AllocError> {
+        Ok(DripSink(MemSink::new(alloc, 100, fails_at)?))
+    }
+}
+
+impl Sink for DripSink {
+    ghost contents = { λ s. Some s.0.bytes.items };
+
+    ghost failed = { λ s. s.0.failures };
+
+    fn push(&mut self, bytes: &[u8]) -> Result<usize, Broken> {
+        let DripSink(sink) = self;
+        sink.push(&bytes[..bytes.len().min(1)])
+    }
+
+    fn flush(&mut self) -> Result<(), Broken> {
+        let DripSink(sink) = self;
+        sink.flush()
+    }
+
+    fn failures(&self) -> u64 {
+        self.0.failures()
+    }
+}
+
+#[test]
+fn a_line_goes_out_byte_by_byte(rt: HostRuntime) -> Result<(), Fail> {
+    let mut sink = DripSink::new(rt.alloc(), 0)?;
+    let mut writer = LineWriter::new();
+    assert_eq!(rt; sink.failures(), 0);
+    writer.line(&mut sink, b"abc")?;
+    writer.line(&mut sink, b"")?;
+    writer.line(&mut sink, b"de")?;
+    writer.flush(&mut sink)?;
+    assert_eq!(rt; sink.0.bytes(), b"abc\n\nde\n".as_slice());
+    Ok(())
+}
+
+#[test]
+fn a_sink_may_fail_at_any_push_and_is_written_again(rt: HostRuntime) -> Result<(), Fail> {
+    let text = b"ab\ncd\n".as_slice();
+    for pushed in 0..text.len() {
+        let mut sink = DripSink::new(rt.alloc(), pushed as u64 + 1)?;
+        let mut writer = LineWriter::new();
+        assert_eq!(rt; sink.failures(), 0);
+        writer.line(&mut sink, b"ab")?;
+        writer.line(&mut sink, b"cd")?;
+        assert_eq!(rt;
+            writer.flush(&mut sink),
+            Err(Broken),
+            "after {pushed} bytes"
+        );
+        assert_eq!(rt; sink.failures(), 1);
+        assert_eq!(rt; sink.0.bytes(), &text[..pushed]);
+        writer.line(&mut sink, b"e")?;
+        writer.flush(&mut sink)?;
+        assert_eq!(rt; sink.failures(), 1);
+        let mut again = text[..pushed].to_vec(rt.alloc())?;
+        again.extend_from_slice(b"e\n")?;
+        assert_eq!(rt; sink.0.bytes(), again.as_slice());
+    }
+    Ok(())
+}
+
+#[test]
+fn a_source_may_fail_at_any_pull_and_is_read_on(rt: HostRuntime) -> Result<(), Fail> {
+    for fails_at in 1..7 {
+        let mut source = MemSource::new(b"ab\nc\n", 1, fails_at);
+        let mut reader = LineReader::new(100);
+        let nothing = LineWriter::new();
+        let mut line = Line::new();
+        let mut lines = Vec::new(rt.alloc());
+        let mut pulls = 0;
+        for _ in 0..20 {
+            if reader.read_on(&mut line).is_some() {
+                lines.extend_from_slice(line.as_slice())?;
+                lines.push(b'|')?;
+                line.clear();
+                continue;
+            }
+            assert!(rt; pulls < 20);
+            assert!(rt; source.failures() < 20);
+            pulls += 1;
+            match reader.fill(&mut source, &nothing) {
+                Ok(true) => {}
+                Ok(false) => break,
+                Err(Broken) => assert_eq!(rt; pulls, fails_at, "the pull that failed"),
+            }
+        }
+        assert_eq!(rt; lines.as_slice(), b"ab|c|".as_slice());
+        assert_eq!(rt; source.failures(), 1);
+        assert_eq!(rt; pulls, 7);
     }
     Ok(())
 }
