@@ -1,5 +1,5 @@
 -- How each exit of an engine ends the answer.
-use Rattle.std.proofs.Common.{◌≡◌, ◌≢◌, ℕ, ◌+◌, ◌-◌, ◌≤◌, List, [], ◌∷◌, ◌++◌, length, length-append, add-zero, refl, sym, ◌∙◌, ap, subst, append_assoc, append-nil, arith, true, false, codes, take, Option, Some, None, IfSome, Result, Ok, Err, ◌⊎◌, inl, inr}
+use Rattle.std.proofs.Common.{◌≡◌, ◌≢◌, ℕ, ◌+◌, ◌-◌, ◌<◌, ◌≤◌, List, [], ◌∷◌, ◌++◌, length, length-append, add-zero, refl, sym, ◌∙◌, ap, subst, append_assoc, append-nil, arith, true, false, codes, take, Option, Some, None, IfErr, IfOk, IfSome, Result, Ok, Err, ◌⊎◌, inl, inr}
 use Rattle.std.proofs.KnownBytes.{Appends-nil, Appends-trans}
 use Rattle.std.proofs.Math.Seq.{take-append-add}
 use Rattle.std.specs.Io.KnownBytes.{Appends, Consumes, IsAtEnd, Keeps, prepend_known}
@@ -10,11 +10,11 @@ use Rattle.dc_device.specs.Lines.{Held, NoFeed, ReadsOn, spelled}
 use Rattle.dc_device.specs.declared.reader.Part.TheVariants.{Long, Whole}
 use Rattle.dc_device.proofs.Known.{front_after, front_more}
 use Rattle.dc_device.proofs.LineLemmas.{NoFeed-append, spelled-append}
-use Rattle.dc_app.specs.Answer.{Answer, Asks, Ends, Reports, after_all, failure_text, fault}
+use Rattle.dc_app.specs.Answer.{Answer, Asks, Causes, Ends, cut_short, Reports, after_all, failed_by, failure_text, fault, sink_failures_of}
 use Rattle.dc_app.specs.Decode.{answer_end, answer_text, answer_word, word_of}
 use Rattle.dc_app.specs.Printed.{line_of}
 use Rattle.dc_app.specs.declared.answer.Failure.{Failure}
-use Rattle.dc_app.specs.declared.answer.Failure.TheVariants.{Source, Sink}
+use Rattle.dc_app.specs.declared.answer.Failure.TheVariants.{Source, Sink, Memory}
 use Rattle.dc_app.proofs.LineAnswers.{answer_cut, answer_long, answer_whole}
 use Rattle.dc_app.proofs.Says.{Says}
 
@@ -36,10 +36,12 @@ ends_after a b c waiting done answer (Ok status) (front, p, e) (q, s) =
     (subst (Appends a c) (joined front waiting done answer.lines e) (Appends-trans a b c front (waiting ++ spelled answer.lines) p q), s)
 ends_after a b c waiting done answer (Err Source) (front, p, e) (k, q) =
     (length done + k, rw (take-append-add done answer.lines k) (subst (Appends a c) (joined front waiting done (take k answer.lines) e) (Appends-trans a b c front (waiting ++ spelled (take k answer.lines)) p q)))
+ends_after a b c waiting done answer (Err Memory) (front, p, e) (k, q) =
+    (length done + k, rw (take-append-add done answer.lines k) (subst (Appends a c) (joined front waiting done (take k answer.lines) e) (Appends-trans a b c front (waiting ++ spelled (take k answer.lines)) p q)))
 ends_after a b c waiting done answer (Err Sink) (front, p, e) q =
     subst (AppendsFront a c) (joined front waiting done answer.lines e) (front_after a b c front (waiting ++ spelled answer.lines) p q)
 
-by_text : (r : Option (List ℕ)) (P : List ℕ → Type 0) → ((text : List ℕ) → r ≡ Some text → P text) → IfSome r P
+pub by_text : (r : Option (List ℕ)) (P : List ℕ → Type 0) → ((text : List ℕ) → r ≡ Some text → P text) → IfSome r P
 by_text None P f = tt
 by_text (Some text) P f = f text refl
 
@@ -91,6 +93,7 @@ long_ends format line line' old new r number a b waiting result plain (front, by
 pub ask_ends : (answer : Answer) (r s : Option (List ℕ)) (bytes : List ℕ) (a b : Option (List ℕ)) (waiting : List ℕ) (failure : Failure)
     → Asks r s bytes a b waiting (Err failure) → Ends a waiting b answer (Err failure)
 ask_ends answer r s bytes a b waiting Source p = (0, subst (Appends a b) (sym (append-nil waiting)) p)
+ask_ends answer r s bytes a b waiting Memory p = absurd p
 ask_ends answer r s bytes a b waiting Sink p = front_more a b waiting (spelled answer.lines) p
 
 -- what waited was pushed, and then the rest was written
@@ -98,6 +101,7 @@ ends_pushed : (a b c : Option (List ℕ)) (waiting : List ℕ) (answer : Answer)
     → Ends a waiting c answer result
 ends_pushed a b c waiting answer (Ok status) p (q, s) = (Appends-trans a b c waiting (spelled answer.lines) p q, s)
 ends_pushed a b c waiting answer (Err Source) p (k, q) = (k, Appends-trans a b c waiting (spelled (take k answer.lines)) p q)
+ends_pushed a b c waiting answer (Err Memory) p (k, q) = (k, Appends-trans a b c waiting (spelled (take k answer.lines)) p q)
 ends_pushed a b c waiting answer (Err Sink) p q = front_after a b c waiting (spelled answer.lines) p q
 
 at_end : (r s : Option (List ℕ)) (xs : List ℕ) → r ≡ Some xs → Keeps r s → IsAtEnd s → xs ≡ []
@@ -157,14 +161,21 @@ write_ends format line line' old new r number word a b waiting failure plain rea
 after_twice : (xs ys : List (List ℕ)) (answer : Answer) → after_all xs (after_all ys answer) ≡ after_all (xs ++ ys) answer
 after_twice xs ys answer = ap (λ ls. let r : Answer = record { lines = ls; status = answer.status } in r) (sym (append_assoc xs ys answer.lines))
 
-gathered_line : (a b c : Option (List ℕ)) (waiting waiting' : List ℕ) (done : List (List ℕ)) (line : List ℕ) → Gathered a [] b waiting (spelled done)
-    → Gathered b waiting c waiting' (line ++ 10 ∷ []) → Gathered a [] c waiting' (spelled (done ++ line ∷ []))
-gathered_line a b c waiting waiting' done line (front, p, e) (more, q, f) = (
+-- more lines behind those that were said
+pub gathered_lines : (a b c : Option (List ℕ)) (waiting waiting' : List ℕ) (done more : List (List ℕ)) → Gathered a [] b waiting (spelled done)
+    → Gathered b waiting c waiting' (spelled more) → Gathered a [] c waiting' (spelled (done ++ more))
+gathered_lines a b c waiting waiting' done lines (front, p, e) (more, q, f) = (
   front ++ more,
   Appends-trans a b c front more p q,
-  append_assoc front more waiting' ∙ ap (λ l. front ++ l) f ∙ sym (append_assoc front waiting (line ++ 10 ∷ [])) ∙ ap (λ l. l ++ (line ++ 10 ∷ [])) e
-      ∙ sym (spelled-append done (line ∷ [])),
+  append_assoc front more waiting' ∙ ap (λ l. front ++ l) f ∙ sym (append_assoc front waiting (spelled lines)) ∙ ap (λ l. l ++ spelled lines) e
+      ∙ sym (spelled-append done lines),
 )
+
+-- what waited was pushed
+pub gathered_pushed : (a b c : Option (List ℕ)) (waiting waiting' done : List ℕ) → Gathered a [] b waiting done → Appends b c waiting → waiting' ≡ []
+    → Gathered a [] c waiting' done
+gathered_pushed a b c waiting waiting' done (front, p, whole) pushed empty =
+    (front ++ waiting, Appends-trans a b c front waiting p pushed, rw empty (append-nil (front ++ waiting) ∙ whole))
 
 left_filled : (line line' held bytes : List ℕ) (r s : Option (List ℕ)) (rest : List ℕ) → line' ≡ line ++ held → Consumes r s bytes
     → prepend_known (line ++ held) r ≡ Some rest → prepend_known (line' ++ bytes) s ≡ Some rest
@@ -189,7 +200,7 @@ says_next format limit from line line' empty old new r a b c waiting waiting' nu
         done ++ line_of format word ∷ [],
         next,
         rw none left,
-        gathered_line a b c waiting waiting' done (line_of format word) before gathered,
+        gathered_lines a b c waiting waiting' done (line_of format word ∷ []) before gathered,
         rw (none, add-zero) (e ∙ ap (after_all done) one ∙ after_twice done (line_of format word ∷ []) answer),
       );
 }
@@ -201,34 +212,102 @@ pub says_filled : (format : Format) (limit : ℕ) (from : Option (List ℕ)) (li
     → Says format limit from (prepend_known (line' ++ filled.bytes) s) a c waiting' (filled.room + length line') number
 says_filled format limit from line line' old new filled r s a b c waiting waiting' number said (e, more, none, room) same (pushed, (came, some)) empty = record {
   says = λ text is.
-      let (done, rest, at, (front, p, whole), f) = said.says text is in
+      let (done, rest, at, before, f) = said.says text is in
       let fits : filled.room + length line' ≡ old.room + length line = omega (arith, ap length e, length-append line old.bytes) in (
         done,
         rest,
         left_filled line line' old.bytes filled.bytes r s rest e came at,
-        (front ++ waiting, Appends-trans a b c front waiting p pushed, rw empty (append-nil (front ++ waiting) ∙ whole)),
+        gathered_pushed a b c waiting waiting' (spelled done) before pushed empty,
         rw fits f,
       );
 }
 
--- the source failed, and its line was written, or not
-pub failed_reports : {T E : Type 0} (from a b c : Option (List ℕ)) (answer : List ℕ → Answer) (waiting : List ℕ) (result : Result T E) (n : ℕ)
-    → IfSome from (λ text. Ends a [] b (answer text) (Err Source)) → waiting ≡ [] → Writes b c (waiting ++ (failure_text ++ 10 ∷ [])) result → n ≡ failures_of result
-    → IfSome from (λ text. Reports a c n (answer text) 3)
-failed_reports None a b c answer waiting result n p empty q count = tt
-failed_reports (Some text) a b c answer waiting (Ok x) n (k, p) empty q count = record {
+-- whole lines of the answer, and then the line of what failed, or a front of that
+cut_written : (a b c : Option (List ℕ)) (answer : Answer) (failure : Failure) (waiting : List ℕ) (k : ℕ) → waiting ≡ []
+    → Appends a b (spelled (take k answer.lines)) → Appends b c (waiting ++ (failure_text failure ++ 10 ∷ [])) → Appends a c (spelled (cut_short failure k answer))
+cut_written a b c answer failure waiting k empty p q =
+    rw (spelled-append (take k answer.lines) (failure_text failure ∷ [])) (Appends-trans a b c (spelled (take k answer.lines)) (failure_text failure ++ 10 ∷ []) p (rw empty at q))
+
+cut_front : (a b c : Option (List ℕ)) (answer : Answer) (failure : Failure) (waiting : List ℕ) (k : ℕ) → waiting ≡ []
+    → Appends a b (spelled (take k answer.lines)) → AppendsFront b c (waiting ++ (failure_text failure ++ 10 ∷ [])) → AppendsFront a c (spelled (cut_short failure k answer))
+cut_front a b c answer failure waiting k empty p q =
+    rw (spelled-append (take k answer.lines) (failure_text failure ∷ [])) (front_after a b c (spelled (take k answer.lines)) (failure_text failure ++ 10 ∷ []) p (rw empty at q))
+
+-- something failed, and its line was written, or not
+pub failed_reports : {T E : Type 0} (a b c : Option (List ℕ)) (answer : Answer) (failure : Failure) (waiting : List ℕ) (result : Result T E) (before sink sink' : ℕ)
+    → failure ≢ Sink → waiting ≡ [] → Writes b c (waiting ++ (failure_text failure ++ 10 ∷ [])) result → sink ≡ before + sink_failures_of (Err failure) → sink' ≡ sink + failures_of result
+    → Ends a [] b answer (Err failure) → Reports a c failure (sink' - before) answer 3
+failed_reports a b c answer Source waiting (Ok x) before sink sink' other empty q was count (k, p) = record {
   done = λ h. absurd (omega arith);
-  source_failed = λ _ _. (k, rw (spelled-append (take k (answer text).lines) (failure_text ∷ [])) (Appends-trans a b c (spelled (take k (answer text).lines)) (failure_text ++ 10 ∷ []) p (rw empty at q)));
+  cut = λ _ _. (k, cut_written a b c answer Source waiting k empty p q);
   sink_failed = λ _ h. absurd (omega arith);
 }
-failed_reports (Some text) a b c answer waiting (Err x) n (k, p) empty q count = record {
+failed_reports a b c answer Memory waiting (Ok x) before sink sink' other empty q was count (k, p) = record {
   done = λ h. absurd (omega arith);
-  source_failed = λ _ h. absurd (omega arith);
-  sink_failed = λ _ _. inr (k, rw (spelled-append (take k (answer text).lines) (failure_text ∷ [])) (front_after a b c (spelled (take k (answer text).lines)) (failure_text ++ 10 ∷ []) p (rw empty at q)));
+  cut = λ _ _. (k, cut_written a b c answer Memory waiting k empty p q);
+  sink_failed = λ _ h. absurd (omega arith);
 }
+failed_reports a b c answer Source waiting (Err x) before sink sink' other empty q was count (k, p) = record {
+  done = λ h. absurd (omega arith);
+  cut = λ _ h. absurd (omega arith);
+  sink_failed = λ _ _. inr (k, cut_front a b c answer Source waiting k empty p q);
+}
+failed_reports a b c answer Memory waiting (Err x) before sink sink' other empty q was count (k, p) = record {
+  done = λ h. absurd (omega arith);
+  cut = λ _ h. absurd (omega arith);
+  sink_failed = λ _ _. inr (k, cut_front a b c answer Memory waiting k empty p q);
+}
+failed_reports a b c answer Sink waiting result before sink sink' other empty q was count ends = absurd (other refl)
 
 -- the text ended inside a line
 pub inside_ends : (number : ℕ) (line : List ℕ) (a b : Option (List ℕ)) (waiting : List ℕ) (result : Result ℕ Failure) → 1 ≤ length line → waiting ≡ []
     → Ends a waiting b (fault (codes "E6") number) result → Ends a [] b (answer_end number line) result
 inside_ends number [] a b waiting result some empty ends = absurd (omega arith)
 inside_ends number (x ∷ xs) a b waiting result some empty ends = rw empty at ends
+
+-- how an engine ended, as it is reported
+pub status_reports : (a b : Option (List ℕ)) (answer : Answer) (status before sink : ℕ) → status < 3 → sink ≡ before → Ends a [] b answer (Ok status)
+    → Reports a b Sink (sink - before) answer status
+status_reports a b answer status before sink low same (p, s) = record {
+  done = λ _. (p, s);
+  cut = λ h. absurd (omega arith);
+  sink_failed = λ h. absurd (omega arith);
+}
+
+pub sink_reports : (a b : Option (List ℕ)) (answer : Answer) (before sink : ℕ) → sink ≡ before + 1 → Ends a [] b answer (Err Sink) → Reports a b Sink (sink - before) answer 3
+sink_reports a b answer before sink more p = record {
+  done = λ h. absurd (omega arith);
+  cut = λ _ h. absurd (omega arith);
+  sink_failed = λ _ _. inl p;
+}
+
+pub loss_reports : {T E : Type 0} (a b c : Option (List ℕ)) (answer : Answer) (ended : Result ℕ Failure) (given failure : Failure) (waiting : List ℕ) (result : Result T E) (before sink sink' : ℕ)
+    → ended ≡ Err given → given ≡ failure → failure ≢ Sink → waiting ≡ [] → Writes b c (waiting ++ (failure_text failure ++ 10 ∷ [])) result → sink' ≡ sink + failures_of result
+    → sink ≡ before + sink_failures_of ended → Ends a [] b answer ended → Reports a c (failed_by ended) (sink' - before) answer 3
+loss_reports a b c answer ended given failure waiting result before sink sink' is this other empty q count was ends =
+    let e : ended ≡ Err failure = is ∙ ap (λ f. let r : Result ℕ Failure = Err f in r) this in
+    rw e (failed_reports a b c answer failure waiting result before sink sink' other empty q (subst (λ r. sink ≡ before + sink_failures_of r) e was) count (subst (Ends a [] b answer) e ends))
+
+-- the line of a failed device is one
+pub device_reports : (a b : Option (List ℕ)) (answer : Answer) (ended : Result ℕ Failure) (n status : ℕ) → IfErr ended (λ e. e ≢ Memory)
+    → Reports a b (failed_by ended) n answer status → Reports a b Source n answer status
+device_reports a b answer (Ok x) n status other r = record { done = r.done; cut = r.cut; sink_failed = r.sink_failed }
+device_reports a b answer (Err Source) n status other r = r
+device_reports a b answer (Err Sink) n status other r = record { done = r.done; cut = r.cut; sink_failed = r.sink_failed }
+device_reports a b answer (Err Memory) n status other r = absurd (other refl)
+
+-- a result that is not the sink's leaves room for a failure
+pub sink_of : (source source' sink sink' : ℕ) (ended : Result ℕ Failure) → Causes source source' sink sink' ended → sink' ≡ sink + sink_failures_of ended
+sink_of source source' sink sink' (Ok x) c = omega (arith, c.1)
+sink_of source source' sink sink' (Err Source) c = omega (arith, c.1)
+sink_of source source' sink sink' (Err Sink) c = c.1
+sink_of source source' sink sink' (Err Memory) c = omega (arith, c.1)
+
+pub decode_reports : (r old mid new : Option (List ℕ)) (answer : List ℕ → Answer) (ended : Result ℕ Failure) (sink sink' sink'' status : ℕ)
+    → IfSome r (λ text. Ends old [] mid (answer text) ended) → IfErr ended (λ e. e ≢ Memory) → IfOk ended (λ status. status < 3) → sink' ≡ sink + sink_failures_of ended
+    → ((old : Option (List ℕ)) (answer : Answer) (before : ℕ) → IfOk ended (λ status. status < 3) → sink' ≡ before + sink_failures_of ended → Ends old [] mid answer ended
+    → Reports old new (failed_by ended) (sink'' - before) answer status)
+    → IfSome r (λ text. Reports old new Source (sink'' - sink) (answer text) status)
+decode_reports None old mid new answer ended sink sink' sink'' status ends other low more reports = tt
+decode_reports (Some text) old mid new answer ended sink sink' sink'' status ends other low more reports =
+    device_reports old new (answer text) ended (sink'' - sink) status other (reports old (answer text) sink low more ends)

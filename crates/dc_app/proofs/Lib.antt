@@ -1,3 +1,5 @@
+pub mod Checking
 pub mod Exits
 pub mod LineAnswers
+pub mod Loading
 pub mod Says

@@ -1,18 +1,18 @@
 //! What every engine does alike: it ends with a fault, with a failure, or asks for more.
-ghost use Rattle.std.specs.Prelude.{◌≡◌, [], ◌∷◌, ◌++◌, ◌+◌, ◌^◌, ◌<◌, ◌≤◌, length, IfErr, IfOk};
+ghost use Rattle.std.specs.Prelude.{◌≡◌, ◌≢◌, ℕ, List, Option, [], ◌∷◌, ◌++◌, ◌+◌, ◌-◌, ◌^◌, ◌<◌, ◌≤◌, length, IfErr, IfOk};
 ghost use Rattle.dc_device.specs.Bytes.{Writes};
 ghost use Rattle.dc_device.specs.Device.{failures_of};
-ghost use Rattle.dc_app.specs.Answer.{Asks, Causes, Ends, fault, fault_text};
+ghost use Rattle.dc_app.specs.Answer.{Answer, Asks, Causes, Ends, Reports, failed_by, fault, fault_text, sink_failures_of, status_of};
 
-use crate::text::{Text, append};
+use crate::text::{Text, append, append_number};
 use dc_device::{Broken, LineReader, LineWriter, Sink, Source};
-use itoa::Buffer;
 
-/// Which device failed.
+/// What failed: a device, or memory was refused.
 #[derive(Clone, Copy, Debug, PartialEq, Eq)]
 pub enum Failure {
     Source,
     Sink,
+    Memory,
 }
 
 /// How many bytes a text may have that is read without an end in sight: what a gigabyte a second makes in three
@@ -24,12 +24,11 @@ fn print_fault(text: &mut Text, code: &[u8], number: u64)
     requires { length code.now ≤ 8 }
     ensures { text.new.items ≡ fault_text code.now number }
 {
-    let mut buffer = Buffer::new();
     text.clear();
     append(text, b"unreadable ");
     append(text, code);
     append(text, b" at line ");
-    append(text, buffer.format(number).as_bytes());
+    append_number(text, number);
 }
 
 /// Writes the last line, and pushes all that waits.
@@ -90,5 +89,31 @@ pub fn ask<S: Source, K: Sink>(
             Ok(more) => Ok(more),
             Err(_) => Err(Failure::Source),
         },
+    }
+}
+
+/// The exit status of an engine that ended so. Where a source failed, or memory was refused, its line is written first;
+/// where the sink failed, nothing more is.
+pub fn report<K: Sink>(ended: Result<u8, Failure>, writer: &mut LineWriter, sink: &mut K) -> u8
+    requires seen { writer.old ≡ [] }
+    requires countable { ended ≢ Err Failure.Sink → K.failed sink.old + 1 < 2 ^ 64 }
+    ensures reports { (old : Option (List ℕ)) (answer : Answer) (before : ℕ) → IfOk ended (λ status. status < 3)
+        → K.failed sink.old ≡ before + sink_failures_of ended → Ends old [] (K.contents sink.old) answer ended
+        → Reports old (K.contents sink.new) (failed_by ended) (K.failed sink.new - before) answer result }
+    ensures status { result ≡ status_of ended }
+    ensures rise { K.failed sink.old ≤ K.failed sink.new }
+    ensures quiet { IfOk ended (λ status. K.failed sink.new ≡ K.failed sink.old) }
+{
+    match ended {
+        Ok(status) => status,
+        Err(Failure::Sink) => 3,
+        Err(Failure::Source) => {
+            let _ = end_with(writer, sink, b"failed device");
+            3
+        }
+        Err(Failure::Memory) => {
+            let _ = end_with(writer, sink, b"failed memory");
+            3
+        }
     }
 }

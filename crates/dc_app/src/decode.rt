@@ -1,12 +1,12 @@
 //! `decode`: words in, their lines out.
-ghost use Rattle.std.specs.Prelude.{◌≡◌, [], ◌∷◌, ◌++◌, ◌+◌, ◌-◌, ◌^◌, ◌<◌, ◌≤◌, IfErr, IfOk, IfSome};
+ghost use Rattle.std.specs.Prelude.{◌≡◌, ◌≢◌, [], ◌∷◌, ◌++◌, ◌+◌, ◌-◌, ◌^◌, ◌<◌, ◌≤◌, IfErr, IfOk, IfSome};
 ghost use Rattle.dc_device.specs.Bytes.{Gathers};
 ghost use Rattle.dc_device.specs.Device.{failures_of};
 ghost use Rattle.dc_app.specs.Answer.{Causes, Ends, Reports};
 ghost use Rattle.dc_app.specs.Decode.{answer_end, decode_text, hex_value, word_of};
 ghost use Rattle.dc_app.specs.Printed.{line_of};
 
-use crate::answer::{Failure, LIMIT, ask, end_at, end_with};
+use crate::answer::{Failure, LIMIT, ask, end_at, report};
 use crate::print::print;
 use crate::text::Text;
 use dc_device::{Line, LineReader, LineWriter, Part, Sink, Source};
@@ -97,6 +97,7 @@ fn answer<S: Source, K: Sink>(
     ensures empty { writer.new ≡ [] }
     ensures cause { Causes (S.failed source.old) (S.failed source.new) (K.failed sink.old)
         (K.failed sink.new) result }
+    ensures device { IfErr result (λ e. e ≢ Failure.Memory) }
     ensures status { IfOk result (λ status. status < 3) }
 {
     let mut reader = LineReader::new(LIMIT);
@@ -135,7 +136,7 @@ pub fn run_decode<S: Source, K: Sink>(format: Format, source: &mut S, sink: &mut
     requires source { S.failed source.old + 1 < 2 ^ 64 }
     requires sink { K.failed sink.old + 1 < 2 ^ 64 }
     ensures reports { IfSome (S.remaining source.old) (λ text.
-        Reports (K.contents sink.old) (K.contents sink.new) (K.failed sink.new - K.failed sink.old)
+        Reports (K.contents sink.old) (K.contents sink.new) Failure.Source (K.failed sink.new - K.failed sink.old)
         (decode_text format text) result) }
     ensures cause { result ≡ 3
         → S.failed source.old + K.failed sink.old < S.failed source.new + K.failed sink.new }
@@ -144,12 +145,6 @@ pub fn run_decode<S: Source, K: Sink>(format: Format, source: &mut S, sink: &mut
     ensures status { result ≤ 3 }
 {
     let mut writer = LineWriter::new();
-    match answer(format, source, &mut writer, sink) {
-        Ok(status) => status,
-        Err(Failure::Sink) => 3,
-        Err(Failure::Source) => {
-            let _ = end_with(&mut writer, sink, b"failed device");
-            3
-        }
-    }
+    let ended = answer(format, source, &mut writer, sink);
+    report(ended, &mut writer, sink)
 }

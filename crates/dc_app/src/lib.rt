@@ -2,10 +2,16 @@
 #![tactic(auto)]
 
 mod answer;
+mod check;
+#[cfg(test)]
+mod check_tests;
 mod decode;
+mod inputs;
+mod judgement;
 mod print;
 #[cfg(test)]
 mod tests;
 mod text;
 
+pub use check::run_check;
 pub use decode::run_decode;

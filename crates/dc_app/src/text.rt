@@ -4,6 +4,7 @@ ghost use Rattle.arrayvec.specs.ArrayVec.{array_vec_len};
 ghost use Rattle.dc_app.specs.Text.{digit, eight_hex, five_decimal, five_hex, three_octal};
 
 use arrayvec::ArrayVec;
+use itoa::Buffer;
 
 /// A line that is written, without its line feed.
 pub type Text = ArrayVec<u8, 96>;
@@ -15,6 +16,16 @@ pub fn append(text: &mut Text, bytes: &[u8])
     ensures len { array_vec_len text.new ≡ array_vec_len text.old + length bytes.now }
 {
     let _ = text.try_extend_from_slice(bytes);
+}
+
+/// Puts a number in decimal at the end.
+pub fn append_number(text: &mut Text, number: u64)
+    requires { array_vec_len text.old + 20 ≤ 96 }
+    ensures items { text.new.items ≡ text.old.items ++ decimal number }
+    ensures len { array_vec_len text.new ≤ array_vec_len text.old + 20 }
+{
+    let mut buffer = Buffer::new();
+    append(text, buffer.format(number).as_bytes());
 }
 
 /// The digit of base 16 or below, in upper case.

@@ -1,0 +1,152 @@
+-- What `check` answers and reports, exit by exit.
+use Rattle.std.proofs.Common.{◌≡◌, ◌≢◌, ℕ, ◌+◌, ◌-◌, ◌<◌, ◌≤◌, ◌++◌, List, [], ◌∷◌, length, refl, sym, ◌∙◌, ap, subst, arith, true, false, codes, Option, Some, None, IfErr, IfOk, IfSome, Result, Ok, Err, inl, inr}
+use Rattle.std.specs.Prelude.{nat_le, nat_lt}
+use Rattle.std.proofs.lemmas.Bool.{lt-ltb}
+use Rattle.dc_cert.specs.Claims.{Claims}
+use Rattle.dc_cert.specs.Faults.{fault_text}
+use Rattle.dc_cert.specs.Reading.{certificate_of, document_of}
+use Rattle.dc_cert.specs.declared.fault.Fault.{Fault}
+use Rattle.dc_cert.specs.declared.fault.Code.TheVariants.{K1}
+use Rattle.dc_cert.specs.declared.fault.Place.TheVariants.{Top}
+use Rattle.dc_check.specs.Accepts.{Accepts}
+use Rattle.dc_check.specs.Certified.{AcceptedKeepTheirClaims}
+use Rattle.dc_check.specs.Verdict.{verdict_of}
+use Rattle.dc_tables.specs.FaultText.{table_fault_text}
+use Rattle.dc_tables.specs.TableRows.{TableRows}
+use Rattle.dc_tables.specs.declared.fault.TableFault.{TableFault}
+use Rattle.dc_toml.specs.Reading.{tables_of}
+use Rattle.dc_toml.specs.Told.{AreTablesOf}
+use Rattle.dc_app.specs.Answer.{Raises, Reports, failed_by, sink_failures_of, status_of}
+use Rattle.dc_tables.specs.declared.fault.BuildError.TheVariants.{Refused as RefusedTables}
+use Rattle.dc_app.specs.Check.{Certifies, CheckAnswers, Judges, JudgesTexts, ReportsCheck, accepted_text, judged_answer, one_line}
+use Rattle.dc_app.specs.Inputs.{Loads}
+use Rattle.dc_app.specs.declared.answer.Failure.{Failure}
+use Rattle.dc_app.specs.declared.answer.Failure.TheVariants.{Source, Sink, Memory}
+use Rattle.dc_app.specs.declared.inputs.Unloaded.TheVariants.{Refused}
+use Rattle.dc_app.proofs.Loading.{over}
+
+-- ---- a certificate for tables
+
+-- it is accepted
+pub accepted_judged : (t : TableRows) (claims : Claims) (line : List ℕ) → AcceptedKeepTheirClaims t → Accepts t claims → verdict_of t claims ≡ None → line ≡ accepted_text t
+    → Judges t (Ok claims) line (Ok 0)
+accepted_judged t claims line keep ok none is =
+    (rw (none, is) refl, (λ zero_is. record { claims = claims; read = refl; accepted = ok; kept = keep claims ok }))
+
+no_json : Fault
+no_json = record { code = K1; place = Top }
+
+-- a text past its limit is no certificate
+long_text : (text : List ℕ) → 1048576 < length text → certificate_of text ≡ Err (record { code = K1; place = Top })
+unfolding document_of
+long_text text h = rw (over (length text) 1048576 h) refl
+
+pub long_judged : (t : TableRows) (r : Option (List ℕ)) (line : List ℕ) (fault : Fault) → IfSome r (λ text. 1048576 < length text) → fault ≡ record { code = K1; place = Top }
+    → line ≡ codes "unreadable " ++ fault_text fault → IfSome r (λ text. Judges t (certificate_of text) line (Ok 2))
+long_judged t None line fault long at is = tt
+long_judged t (Some text) line fault long at is = (rw (long_text text long, is, at) refl, (λ e. absurd (omega arith)))
+
+-- ---- both texts
+
+judged_texts : (t : TableRows) (rows text line : List ℕ) (result : Result ℕ Failure) → AreTablesOf (tables_of rows) t → Judges t (certificate_of text) line result
+    → JudgesTexts rows text line result
+judged_texts t rows text line (Ok status) told (is, certified) = ((Ok t, told, is), (λ e. record { rows = t; read = told; certified = certified e }))
+judged_texts t rows text line (Err Source) told h = tt
+judged_texts t rows text line (Err Memory) told h = tt
+judged_texts t rows text line (Err Sink) told h = h
+
+-- the tables were read, and the certificate was judged
+pub both_judged : (t : TableRows) (r s : Option (List ℕ)) (rows text line : List ℕ) (result : Result ℕ Failure) → r ≡ Some rows → s ≡ Some text
+    → IfSome r (λ x. Loads (tables_of x) (Ok t)) → IfSome s (λ x. Judges t (certificate_of x) line result) → JudgesTexts rows text line result
+both_judged t r s rows text line result e f loads judges =
+    let told = rw e at loads in
+    let judged = rw f at judges in
+    judged_texts t rows text line result told judged
+
+-- the tables were refused
+pub refused_judged : (r : Option (List ℕ)) (rows text line : List ℕ) (fault printed : TableFault) → r ≡ Some rows → IfSome r (λ x. Loads (tables_of x) (Err (Refused fault)))
+    → printed ≡ fault → line ≡ codes "unreadable " ++ table_fault_text printed → JudgesTexts rows text line (Ok 2)
+refused_judged r rows text line fault printed e loads same is =
+    let told = rw e at loads in
+    ((Err (RefusedTables fault), told, ap (λ l. one_line l 2) (is ∙ ap (λ f. codes "unreadable " ++ table_fault_text f) same)), (λ e. absurd (omega arith)))
+
+-- failures of both sources
+pub both_raised : (a a' b b' : ℕ) (result : Result ℕ Failure) → a' ≡ a + 0 → Raises b b' result → Raises (a + b) (a' + b') result
+both_raised a a' b b' (Ok status) e h = omega arith
+both_raised a a' b b' (Err Source) e h = omega arith
+both_raised a a' b b' (Err Sink) e h = omega arith
+both_raised a a' b b' (Err Memory) e h = omega arith
+
+-- ---- the report
+
+grown : (a a' : ℕ) (result : Result ℕ Failure) → Raises a a' result → a ≤ a'
+grown a a' (Ok status) h = omega arith
+grown a a' (Err Source) h = omega arith
+grown a a' (Err Sink) h = omega arith
+grown a a' (Err Memory) h = omega arith
+
+source_not_sink : Source ≢ Sink
+source_not_sink e = cc
+
+memory_not_sink : Memory ≢ Sink
+memory_not_sink e = cc
+
+module _ (rows text line : List ℕ) (old new : Option (List ℕ)) (a a' k mid k' : ℕ) where
+  -- a line or none, which is not there whole
+  part_answers : (judged : Result ℕ Failure) → JudgesTexts rows text line judged → CheckAnswers rows text false (judged_answer line judged)
+  part_answers (Ok status) h = inl h.0
+  part_answers (Err failure) h = inr refl
+
+  reports : (judged ended : Result ℕ Failure) → JudgesTexts rows text line judged → Raises a a' judged → mid ≡ k + sink_failures_of ended → mid ≤ k'
+      → IfOk ended (λ status. status < 3) → IfOk ended (λ status. judged ≡ Ok status) → IfErr ended (λ e. e ≢ Sink → judged ≡ Err e)
+      → Reports old new (failed_by ended) (k' - k) (judged_answer line judged) (status_of ended)
+      → ReportsCheck rows text old new (a + k) (a' + k') (k' - k) (status_of ended)
+  reports judged (Ok status) says raised counted rise low same other told =
+      let here = rw same at says in
+      record {
+        answer = judged_answer line judged;
+        failure = Sink;
+        answers = rw (lt-ltb status 3 low, same) here.0;
+        reports = told;
+        counted = λ e. absurd (omega arith);
+        certified = here.1;
+      }
+  reports judged (Err Source) says raised counted rise low same other told =
+      let risen = rw (other source_not_sink) at raised in
+      record {
+        answer = judged_answer line judged;
+        failure = Source;
+        answers = part_answers judged says;
+        reports = told;
+        counted = λ e. omega (arith, risen);
+        certified = λ e. absurd (omega arith);
+      }
+  reports judged (Err Sink) says raised counted rise low same other told =
+      let risen = grown a a' judged raised in
+      record {
+        answer = judged_answer line judged;
+        failure = Sink;
+        answers = part_answers judged says;
+        reports = told;
+        counted = λ e. omega (arith, risen);
+        certified = λ e. absurd (omega arith);
+      }
+  reports judged (Err Memory) says raised counted rise low same other told =
+      record {
+        answer = judged_answer line judged;
+        failure = Memory;
+        answers = part_answers judged says;
+        reports = told;
+        counted = λ e. tt;
+        certified = λ e. absurd (omega arith);
+      }
+
+  -- what was judged was written, and what failed was told
+  pub check_reports : (judged ended : Result ℕ Failure) (status : ℕ) → JudgesTexts rows text line judged → Raises a a' judged → mid ≡ k + sink_failures_of ended → mid ≤ k'
+      → IfOk ended (λ status. status < 3) → IfOk ended (λ status. judged ≡ Ok status) → IfErr ended (λ e. e ≢ Sink → judged ≡ Err e) → status ≡ status_of ended
+      → Reports old new (failed_by ended) (k' - k) (judged_answer line judged) status
+      → ReportsCheck rows text old new (a + k) (a' + k') (k' - k) status
+  check_reports judged ended status says raised counted rise low same other is told =
+      let P : ℕ → Type 0 = λ n. Reports old new (failed_by ended) (k' - k) (judged_answer line judged) n in
+      let Q : ℕ → Type 0 = λ n. ReportsCheck rows text old new (a + k) (a' + k') (k' - k) n in
+      subst Q (sym is) (reports judged ended says raised counted rise low same other (subst P is told))

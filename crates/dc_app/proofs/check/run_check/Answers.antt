@@ -1,0 +1,13 @@
+use Rattle.std.proofs.Common.{◌≡◌}
+use Rattle.dc_app.specs.Check.{judged_answer}
+use Rattle.dc_app.proofs.Checking.{check_reports}
+use Rattle.dc_app.proofs.check.run_check.Goals as goal
+
+pub returns-clause-reports : goal.returns-clause-reports
+returns-clause-reports g c = λ rows text e f.
+    let judged = c.judge_sources-judged in
+    let said = c.say-ended.ensures in
+    let says = judged.ensures.answer rows text e f in
+    let ends = rw c.as_slice.ensures.value at said.bytes in
+    let told = c.report.ensures.reports (g.K.Sink.contents c.args.sink.now) (judged_answer judged.new.line.items judged.result) (g.K.Sink.failed c.args.sink.now) said.status said.count ends in
+    check_reports rows text judged.new.line.items _ _ _ _ _ _ _ judged.result c.say-ended.result _ says judged.ensures.source said.count c.report.ensures.rise said.status said.same said.failure c.report.ensures.status told

@@ -1,0 +1,163 @@
+-- What `check` answers to the texts of tables and of a certificate.
+use Rattle.std.specs.Prelude.{◌≡◌, ◌⊎◌, ℕ, ◌<◌, nat_lt, Bool, true, false, ◌||◌, if◌then◌else◌, Option, Some, None, List, [], ◌∷◌, ◌++◌, length, slice_index_or, Result, Ok, Err, codes, decimal}
+use Rattle.dc_cert.specs.Claims.{Claims}
+use Rattle.dc_cert.specs.Faults.{fault_text}
+use Rattle.dc_cert.specs.Reading.{Reading, certificate_of}
+use Rattle.dc_check.specs.Accepts.{Accepts}
+use Rattle.dc_check.specs.Certified.{KeepsItsClaims}
+use Rattle.dc_check.specs.Verdict.{verdict_of}
+use Rattle.dc_check.specs.declared.fault.CheckFault.{CheckFault}
+use Rattle.dc_check.specs.declared.fault.Code.{Code}
+use Rattle.dc_check.specs.declared.fault.Code.TheVariants.{C01, C02, C03, C04, C05, C06, C07, C08, C09, C10, C11, C12}
+use Rattle.dc_check.specs.declared.fault.Part.{Part}
+use Rattle.dc_check.specs.declared.fault.Part.TheVariants.{Inputs, Outputs, Labels}
+use Rattle.dc_tables.specs.FaultText.{table_fault_text}
+use Rattle.dc_tables.specs.Names.{text_of}
+use Rattle.dc_tables.specs.TableRows.{TableRows}
+use Rattle.dc_tables.specs.declared.fault.BuildError.{BuildError}
+use Rattle.dc_tables.specs.declared.fault.BuildError.TheVariants.{Refused, Memory as NoMemory}
+use Rattle.dc_toml.specs.Reading.{tables_of}
+use Rattle.dc_toml.specs.Told.{TellsTables, AreTablesOf}
+use Rattle.dc_app.specs.Answer.{Answer, IsCounted, Reports}
+use Rattle.dc_app.specs.declared.answer.Failure.{Failure}
+use Rattle.dc_app.specs.declared.answer.Failure.TheVariants.{Source, Sink, Memory}
+
+-- ---- the line of a fault
+
+-- whether it is of a list as a whole; whether it names a window
+abbrev pub is_of_a_list : Code → Bool
+is_of_a_list C01 = true
+is_of_a_list _ = false
+
+abbrev pub names_window : Code → Bool
+names_window C04 = true
+names_window C06 = true
+names_window _ = false
+
+abbrev pub verdict_code_text : Code → List ℕ
+verdict_code_text C01 = codes "C01"
+verdict_code_text C02 = codes "C02"
+verdict_code_text C03 = codes "C03"
+verdict_code_text C04 = codes "C04"
+verdict_code_text C05 = codes "C05"
+verdict_code_text C06 = codes "C06"
+verdict_code_text C07 = codes "C07"
+verdict_code_text C08 = codes "C08"
+verdict_code_text C09 = codes "C09"
+verdict_code_text C10 = codes "C10"
+verdict_code_text C11 = codes "C11"
+verdict_code_text C12 = codes "C12"
+
+-- a list; one of its members
+abbrev pub list_text : Part → List ℕ
+list_text Inputs = codes "inputs"
+list_text Outputs = codes "outputs"
+list_text Labels = codes "labels"
+
+abbrev pub member_text : Part → List ℕ
+member_text Inputs = codes "input "
+member_text Outputs = codes "output "
+member_text Labels = codes "label "
+
+-- the name of a bus, an output or a label
+abbrev pub member_name : TableRows → Part → ℕ → List ℕ
+member_name t Inputs index = text_of (slice_index_or t.keys.buses index [])
+member_name t Outputs index = text_of (slice_index_or t.keys.outputs index [])
+member_name t Labels index = text_of (slice_index_or t.keys.labels index [])
+
+abbrev pub window_text : CheckFault → List ℕ
+window_text fault = if names_window fault.code then codes " window " ++ decimal fault.window else []
+
+abbrev pub place_text : TableRows → CheckFault → List ℕ
+place_text t fault =
+    if is_of_a_list fault.code then list_text fault.part
+    else member_text fault.part ++ member_name t fault.part fault.index ++ window_text fault
+
+-- as `refused C06 input A window 1`
+unfoldable pub refused_text : TableRows → CheckFault → List ℕ
+refused_text t fault = codes "refused " ++ verdict_code_text fault.code ++ codes " " ++ place_text t fault
+
+-- as `accepted inputs 1 outputs 1 labels 1`
+unfoldable pub accepted_text : TableRows → List ℕ
+accepted_text t = codes "accepted inputs " ++ decimal (length t.buses) ++ codes " outputs " ++ decimal (length t.outputs) ++ codes " labels " ++ decimal (length t.labels)
+
+-- ---- the answer
+
+abbrev pub one_line : List ℕ → ℕ → Answer
+one_line line status = record { lines = line ∷ []; status = status }
+
+-- a text that can't be read, by its first fault
+abbrev pub unreadable : List ℕ → Answer
+unreadable fault = one_line (codes "unreadable " ++ fault) 2
+
+-- to a verdict
+abbrev pub answer_verdict : TableRows → Option CheckFault → Answer
+answer_verdict t None = one_line (accepted_text t) 0
+answer_verdict t (Some fault) = one_line (refused_text t fault) 1
+
+-- to a certificate that reads so
+abbrev pub answer_claims : TableRows → Reading Claims → Answer
+answer_claims t (Ok claims) = answer_verdict t (verdict_of t claims)
+answer_claims t (Err fault) = unreadable (fault_text fault)
+
+-- to the text of a certificate, where the tables read so: they are judged first
+abbrev pub AnswersTables : List ℕ → Answer → Result TableRows BuildError → Type 0
+AnswersTables certificate answer (Ok t) = answer ≡ answer_claims t (certificate_of certificate)
+AnswersTables certificate answer (Err (Refused fault)) = answer ≡ unreadable (table_fault_text fault)
+AnswersTables certificate answer (Err (NoMemory e)) = ⊥
+
+-- to both texts
+abbrev pub AnswersCheck : List ℕ → List ℕ → Answer → Type 0
+AnswersCheck tables certificate answer = (read : Result TableRows BuildError) × TellsTables (tables_of tables) read × AnswersTables certificate answer read
+
+-- what `check` answers: where it is not whole, that or no line
+abbrev pub CheckAnswers : List ℕ → List ℕ → Bool → Answer → Type 0
+CheckAnswers tables certificate true answer = AnswersCheck tables certificate answer
+CheckAnswers tables certificate false answer = AnswersCheck tables certificate answer ⊎ (answer.lines ≡ [])
+
+-- ---- an accepted certificate
+
+-- what was read is a certificate that is accepted for the tables, and it keeps its claims
+pub record Certifies (t : TableRows) (reading : Reading Claims) : Type 0 where
+  pub claims : Claims
+  pub read : reading ≡ Ok claims
+  pub accepted : Accepts t claims
+  pub kept : KeepsItsClaims t claims
+
+-- the texts are those of tables and of such a certificate for them
+pub record AreCertified (tables certificate : List ℕ) : Type 0 where
+  pub rows : TableRows
+  pub read : AreTablesOf (tables_of tables) rows
+  pub certified : Certifies rows (certificate_of certificate)
+
+-- ---- what is judged, before it is written
+
+-- the line and the status, with what status 0 means; or memory was refused, or the source failed
+abbrev pub Judges : TableRows → Reading Claims → List ℕ → Result ℕ Failure → Type 0
+Judges t reading line (Ok status) = (one_line line status ≡ answer_claims t reading) × (status ≡ 0 → Certifies t reading)
+Judges t reading line (Err Source) = Unit {0}
+Judges t reading line (Err Memory) = Unit {0}
+Judges t reading line (Err Sink) = ⊥
+
+abbrev pub JudgesTexts : List ℕ → List ℕ → List ℕ → Result ℕ Failure → Type 0
+JudgesTexts tables certificate line (Ok status) = AnswersCheck tables certificate (one_line line status) × (status ≡ 0 → AreCertified tables certificate)
+JudgesTexts tables certificate line (Err Source) = Unit {0}
+JudgesTexts tables certificate line (Err Memory) = Unit {0}
+JudgesTexts tables certificate line (Err Sink) = ⊥
+
+-- the answer that is to be written then
+abbrev pub judged_answer : List ℕ → Result ℕ Failure → Answer
+judged_answer line (Ok status) = one_line line status
+judged_answer line (Err failure) = record { lines = []; status = 3 }
+
+-- ---- what is reported
+
+-- What `check` reports, where so many failures of its devices were counted before and behind it; with status 0 the
+-- certificate keeps its claims.
+pub record ReportsCheck (tables certificate : List ℕ) (old new : Option (List ℕ)) (failures failures' sink_failures status : ℕ) : Type 0 where
+  pub answer : Answer
+  pub failure : Failure
+  pub answers : CheckAnswers tables certificate (nat_lt status 3) answer
+  pub reports : Reports old new failure sink_failures answer status
+  pub counted : status ≡ 3 → IsCounted failure failures failures'
+  pub certified : status ≡ 0 → AreCertified tables certificate

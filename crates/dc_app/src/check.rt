@@ -1,0 +1,166 @@
+//! `check`: the verdict on a certificate, in one line.
+ghost use Rattle.std.specs.Prelude.{◌≡◌, ◌≢◌, ℕ, List, [], ◌+◌, ◌-◌, ◌^◌, ◌<◌, ◌≤◌, IfErr, IfOk, IfSome, Some, Ok};
+ghost use Rattle.dc_cert.specs.Claims.{claims_of};
+ghost use Rattle.dc_cert.specs.Reading.{certificate_of};
+ghost use Rattle.dc_app.specs.Answer.{Ends, Raises, sink_failures_of};
+ghost use Rattle.dc_app.specs.Check.{Judges, JudgesTexts, ReportsCheck, judged_answer};
+
+use crate::answer::{Failure, end_with, report};
+use crate::inputs::{Unloaded, load};
+use crate::judgement::{print_accepted, print_cert_fault, print_refused};
+use crate::print::print_table_fault;
+use crate::text::Text;
+use dc_cert::{CertFault, Certificate, Code, Fault, Place, TEXT_LIMIT, read_cert};
+use dc_check::laws::{accepted_certificates_keep_their_claims, no_fault_is_acceptance};
+use dc_check::verdict;
+use dc_device::{LineWriter, Sink, Source, Unread, read_at_most};
+use dc_tables::Tables;
+use std::alloc::Global;
+
+// Judges a certificate, and prints the verdict. The answer is the status.
+fn judge(tables: &Tables, certificate: &Certificate, line: &mut Text) -> u8
+    ensures answer { Judges tables.now (Ok (claims_of certificate.now)) line.new.items (Ok result) }
+    ensures status { result < 3 }
+{
+    accepted_certificates_keep_their_claims(tables);
+    no_fault_is_acceptance(tables);
+    match verdict(tables, certificate) {
+        Ok(()) => {
+            print_accepted(line, tables);
+            0
+        }
+        Err(fault) => {
+            print_refused(line, tables, fault);
+            1
+        }
+    }
+}
+
+// Judges the text of a certificate.
+fn judge_text(alloc: Global, tables: &Tables, text: &[u8], line: &mut Text) -> Result<u8, Failure>
+    ensures answer { Judges tables.now (certificate_of text.now) line.new.items result }
+    ensures memory { IfErr result (λ e. e ≡ Failure.Memory) }
+    ensures status { IfOk result (λ status. status < 3) }
+{
+    match read_cert(alloc, text) {
+        Ok(certificate) => Ok(judge(tables, &certificate, line)),
+        Err(CertFault::Unreadable(fault)) => {
+            print_cert_fault(line, fault);
+            Ok(2)
+        }
+        Err(CertFault::Memory) => Err(Failure::Memory),
+    }
+}
+
+// Judges the text of a certificate that a source gives.
+fn judge_source<C: Source>(
+    alloc: Global,
+    tables: &Tables,
+    certificate: &mut C,
+    line: &mut Text,
+) -> Result<u8, Failure>
+    requires { C.failed certificate.old + 1 < 2 ^ 64 }
+    ensures answer { IfSome (C.remaining certificate.old) (λ text. Judges tables.now (certificate_of text) line.new.items result) }
+    ensures source { Raises (C.failed certificate.old) (C.failed certificate.new) result }
+    ensures sink { IfErr result (λ e. e ≢ Failure.Sink) }
+    ensures status { IfOk result (λ status. status < 3) }
+{
+    match read_at_most(alloc, certificate, TEXT_LIMIT) {
+        Ok(text) => judge_text(alloc, tables, text.as_slice(), line),
+        Err(Unread::TooLong) => {
+            print_cert_fault(
+                line,
+                Fault {
+                    code: Code::K1,
+                    place: Place::Top,
+                },
+            );
+            Ok(2)
+        }
+        Err(Unread::Memory) => Err(Failure::Memory),
+        Err(Unread::Device) => Err(Failure::Source),
+    }
+}
+
+// Judges the texts of tables and of a certificate, the tables' first.
+fn judge_sources<T: Source, C: Source>(
+    alloc: Global,
+    tables: &mut T,
+    certificate: &mut C,
+    line: &mut Text,
+) -> Result<u8, Failure>
+    requires tables { T.failed tables.old + 1 < 2 ^ 64 }
+    requires certificate { C.failed certificate.old + 1 < 2 ^ 64 }
+    ensures answer { (rows text : List ℕ) → T.remaining tables.old ≡ Some rows → C.remaining certificate.old ≡ Some text
+        → JudgesTexts rows text line.new.items result }
+    ensures source { Raises (T.failed tables.old + C.failed certificate.old) (T.failed tables.new + C.failed certificate.new) result }
+    ensures sink { IfErr result (λ e. e ≢ Failure.Sink) }
+    ensures status { IfOk result (λ status. status < 3) }
+{
+    match load(alloc, tables) {
+        Ok(tables) => judge_source(alloc, &tables, certificate, line),
+        Err(Unloaded::Refused(fault)) => {
+            print_table_fault(line, fault);
+            Ok(2)
+        }
+        Err(Unloaded::Failed(failure)) => Err(failure),
+    }
+}
+
+// Writes the line, where there is one.
+fn say<K: Sink>(
+    judged: Result<u8, Failure>,
+    line: &[u8],
+    writer: &mut LineWriter,
+    sink: &mut K,
+) -> Result<u8, Failure>
+    requires new { writer.old ≡ [] }
+    requires countable { K.failed sink.old + 1 < 2 ^ 64 }
+    requires sink { IfErr judged (λ e. e ≢ Failure.Sink) }
+    requires status { IfOk judged (λ status. status < 3) }
+    ensures bytes { Ends (K.contents sink.old) [] (K.contents sink.new) (judged_answer line.now judged) result }
+    ensures empty { writer.new ≡ [] }
+    ensures count { K.failed sink.new ≡ K.failed sink.old + sink_failures_of result }
+    ensures status { IfOk result (λ status. status < 3) }
+    ensures same { IfOk result (λ status. judged ≡ Ok status) }
+    ensures failure { IfErr result (λ e. e ≢ Failure.Sink → judged ≡ Err e) }
+{
+    match judged {
+        Ok(status) => match end_with(writer, sink, line) {
+            Ok(()) => Ok(status),
+            Err(_) => Err(Failure::Sink),
+        },
+        Err(failure) => Err(failure),
+    }
+}
+
+/// Judges a certificate for tables, both read whole from their sources, the tables first, and writes the verdict as one
+/// line onto a sink.
+///
+/// The answer is the exit status: 0 where the certificate is accepted, and then it keeps its claims in every admissible
+/// run of the tables; 1 where it is refused; 2 where a text can't be read; 3 where a device failed or memory was
+/// refused: then `failed device` or `failed memory` was written, or, where a push or flush failed, nothing more.
+pub fn run_check<T: Source, C: Source, K: Sink>(
+    alloc: Global,
+    tables: &mut T,
+    certificate: &mut C,
+    sink: &mut K,
+) -> u8
+    requires tables { T.failed tables.old + 1 < 2 ^ 64 }
+    requires certificate { C.failed certificate.old + 1 < 2 ^ 64 }
+    requires sink { K.failed sink.old + 1 < 2 ^ 64 }
+    ensures reports { (rows text : List ℕ) → T.remaining tables.old ≡ Some rows → C.remaining certificate.old ≡ Some text
+        → ReportsCheck rows text (K.contents sink.old) (K.contents sink.new)
+        (T.failed tables.old + C.failed certificate.old + K.failed sink.old)
+        (T.failed tables.new + C.failed certificate.new + K.failed sink.new)
+        (K.failed sink.new - K.failed sink.old) result }
+    ensures quiet { result < 3 → T.failed tables.new + C.failed certificate.new + K.failed sink.new
+        ≡ T.failed tables.old + C.failed certificate.old + K.failed sink.old }
+    ensures status { result ≤ 3 }
+{
+    let mut line = Text::new();
+    let judged = judge_sources(alloc, tables, certificate, &mut line);
+    let mut writer = LineWriter::new();
+    let ended = say(judged, line.as_slice(), &mut writer, sink);
+    report(ended, &mut writer, sink)
+}

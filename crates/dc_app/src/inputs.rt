@@ -1,0 +1,67 @@
+//! Tables from a source.
+ghost use Rattle.std.specs.Prelude.{◌≡◌, ◌≢◌, ◌+◌, ◌^◌, ◌<◌, IfErr, IfSome};
+ghost use Rattle.dc_toml.specs.Reading.{tables_of};
+ghost use Rattle.dc_app.specs.Inputs.{Loads, ReadsText, failed_in};
+
+use crate::answer::Failure;
+use dc_device::{Source, Unread, read_at_most};
+use dc_tables::{BuildError, Code, Section, TableFault, Tables};
+use dc_toml::{TEXT_LIMIT, read_tables};
+use std::alloc::Global;
+
+/// Why there are no tables.
+#[derive(Clone, Copy, Debug, PartialEq, Eq)]
+pub enum Unloaded {
+    /// The text's first fault.
+    Refused(TableFault),
+    /// The text was not read.
+    Failed(Failure),
+}
+
+// The text of a source within the limit of tables.
+fn read_text<S: Source>(alloc: Global, source: &mut S) -> Result<Vec<u8>, Unloaded>
+    requires { S.failed source.old + 1 < 2 ^ 64 }
+    ensures text { IfSome (S.remaining source.old) (λ text. ReadsText text result) }
+    ensures count { S.failed source.new ≡ S.failed source.old + failed_in result }
+    ensures sink { IfErr result (λ e. e ≢ Unloaded.Failed Failure.Sink) }
+{
+    match read_at_most(alloc, source, TEXT_LIMIT) {
+        Ok(text) => Ok(text),
+        Err(Unread::Device) => Err(Unloaded::Failed(Failure::Source)),
+        Err(Unread::Memory) => Err(Unloaded::Failed(Failure::Memory)),
+        Err(Unread::TooLong) => Err(Unloaded::Refused(TableFault {
+            code: Code::T01,
+            section: Section::Top,
+            index: 0,
+        })),
+    }
+}
+
+// The tables of a text.
+fn build(alloc: Global, text: &[u8]) -> Result<Tables, Unloaded>
+    ensures tables { Loads (tables_of text.now) result }
+    ensures count { failed_in result ≡ 0 }
+    ensures sink { IfErr result (λ e. e ≢ Unloaded.Failed Failure.Sink) }
+{
+    match read_tables(alloc, text) {
+        Ok(tables) => Ok(tables),
+        Err(BuildError::Refused(fault)) => Err(Unloaded::Refused(fault)),
+        Err(BuildError::Memory(_)) => Err(Unloaded::Failed(Failure::Memory)),
+    }
+}
+
+/// The tables that the text of a source says, read whole.
+///
+/// # Errors
+/// `Refused` with the text's first fault; `Failed` where the source failed or memory was refused.
+pub fn load<S: Source>(alloc: Global, source: &mut S) -> Result<Tables, Unloaded>
+    requires { S.failed source.old + 1 < 2 ^ 64 }
+    ensures tables { IfSome (S.remaining source.old) (λ text. Loads (tables_of text) result) }
+    ensures count { S.failed source.new ≡ S.failed source.old + failed_in result }
+    ensures sink { IfErr result (λ e. e ≢ Unloaded.Failed Failure.Sink) }
+{
+    match read_text(alloc, source) {
+        Ok(text) => build(alloc, text.as_slice()),
+        Err(unloaded) => Err(unloaded),
+    }
+}

@@ -1,0 +1,147 @@
+//! The printed line of a verdict.
+ghost use Rattle.std.specs.Prelude.{◌≡◌, ◌++◌, ◌+◌, ◌<◌, ◌≤◌, length};
+ghost use Rattle.arrayvec.specs.ArrayVec.{array_vec_len};
+ghost use Rattle.dc_cert.specs.Faults.{fault_text};
+ghost use Rattle.dc_check.specs.Placed.{IsPlaced, part_count};
+ghost use Rattle.dc_app.specs.Check.{accepted_text, is_of_a_list, list_text, member_name, member_text, names_window, place_text, refused_text, verdict_code_text, window_text};
+ghost use Rattle.std.specs.Prelude.{codes};
+
+use crate::text::{Text, append, append_number};
+use dc_cert::Fault;
+use dc_check::{CheckFault, Code, Part};
+use dc_tables::Tables;
+
+// Whether a code is of a list as a whole.
+fn is_list_code(code: Code) -> bool
+    ensures { result ≡ is_of_a_list code }
+{
+    matches!(code, Code::C01)
+}
+
+// Whether a code names a window.
+fn has_window(code: Code) -> bool
+    ensures { result ≡ names_window code }
+{
+    matches!(code, Code::C04 | Code::C06)
+}
+
+// The code as it is printed.
+fn code(code: Code) -> &'static [u8]
+    ensures text { result.now ≡ verdict_code_text code }
+    ensures short { length result.now ≤ 3 }
+{
+    match code {
+        Code::C01 => b"C01",
+        Code::C02 => b"C02",
+        Code::C03 => b"C03",
+        Code::C04 => b"C04",
+        Code::C05 => b"C05",
+        Code::C06 => b"C06",
+        Code::C07 => b"C07",
+        Code::C08 => b"C08",
+        Code::C09 => b"C09",
+        Code::C10 => b"C10",
+        Code::C11 => b"C11",
+        Code::C12 => b"C12",
+    }
+}
+
+// The name of a list.
+fn list(part: Part) -> &'static [u8]
+    ensures text { result.now ≡ list_text part }
+    ensures short { length result.now ≤ 7 }
+{
+    match part {
+        Part::Inputs => b"inputs",
+        Part::Outputs => b"outputs",
+        Part::Labels => b"labels",
+    }
+}
+
+// What a member of a list is called, and a space.
+fn member(part: Part) -> &'static [u8]
+    ensures text { result.now ≡ member_text part }
+    ensures short { length result.now ≤ 7 }
+{
+    match part {
+        Part::Inputs => b"input ",
+        Part::Outputs => b"output ",
+        Part::Labels => b"label ",
+    }
+}
+
+// The name of a bus, an output or a label.
+fn name(tables: &Tables, part: Part, index: usize) -> &[u8]
+    requires { index < part_count tables.now part }
+    ensures text { result.now ≡ member_name tables.now part index }
+    ensures short { length result.now ≤ 16 }
+{
+    match part {
+        Part::Inputs => tables.bus_name(index).text(),
+        Part::Outputs => tables.output_name(index).text(),
+        Part::Labels => tables.label_name(index).text(),
+    }
+}
+
+// Puts the window at the end, where the code names one.
+fn append_window(text: &mut Text, fault: CheckFault)
+    requires { array_vec_len text.old ≤ 60 }
+    ensures { text.new.items ≡ text.old.items ++ window_text fault }
+{
+    if has_window(fault.code) {
+        append(text, b" window ");
+        append_number(text, u64::from(fault.window));
+    }
+}
+
+// Puts the place of a fault at the end.
+fn append_place(text: &mut Text, tables: &Tables, fault: CheckFault)
+    requires room { array_vec_len text.old ≤ 20 }
+    requires place { IsPlaced tables.now fault }
+    ensures { text.new.items ≡ text.old.items ++ place_text tables.now fault }
+{
+    if is_list_code(fault.code) {
+        append(text, list(fault.part));
+        return;
+    }
+    append(text, member(fault.part));
+    append(text, name(tables, fault.part, fault.index));
+    append_window(text, fault);
+}
+
+/// The line of a refused certificate.
+#[tactic(auto, unfolding(crate::specs::Check::refused_text))]
+pub fn print_refused(text: &mut Text, tables: &Tables, fault: CheckFault)
+    requires { IsPlaced tables.now fault }
+    ensures { text.new.items ≡ refused_text tables.now fault }
+{
+    text.clear();
+    append(text, b"refused ");
+    append(text, code(fault.code));
+    append(text, b" ");
+    append_place(text, tables, fault);
+}
+
+/// The line of an accepted certificate.
+#[tactic(auto, unfolding(crate::specs::Check::accepted_text))]
+pub fn print_accepted(text: &mut Text, tables: &Tables)
+    ensures { text.new.items ≡ accepted_text tables.now }
+{
+    text.clear();
+    append(text, b"accepted inputs ");
+    append_number(text, tables.bus_count() as u64);
+    append(text, b" outputs ");
+    append_number(text, tables.output_count() as u64);
+    append(text, b" labels ");
+    append_number(text, tables.label_count() as u64);
+}
+
+/// The line of a certificate's text that can't be read.
+pub fn print_cert_fault(text: &mut Text, fault: Fault)
+    ensures { text.new.items ≡ codes "unreadable " ++ fault_text fault }
+{
+    text.clear();
+    append(text, b"unreadable ");
+    let short = fault.short_text();
+    append(text, short.as_slice());
+}
