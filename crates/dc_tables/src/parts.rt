@@ -121,7 +121,8 @@ impl Parts {
     pub fn tick_us(&self) -> u32
         ensures { result ≡ self.now.tick_us }
     {
-        self.tick_us
+        let tick_us = &self.tick_us;
+        *tick_us
     }
 
     /// Adds a parameter behind the others. Where memory is out, nothing changes.

@@ -132,20 +132,20 @@ impl Entries {
     pub fn len(&self) -> usize
         ensures { result ≡ length self.now }
     {
-        self.items.len()
+        self.as_slice().len()
     }
 
     /// Whether there are none.
     pub fn is_empty(&self) -> bool
         ensures { IsTrue result ↔ (self.now ≡ []) }
     {
-        self.items.is_empty()
+        self.as_slice().is_empty()
     }
 
     /// The entries, in order.
     pub fn as_slice(&self) -> &[Entry]
         ensures { result.now ≡ self.now }
     {
-        self.items.as_slice()
+        &self.items
     }
 }

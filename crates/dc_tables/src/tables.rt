@@ -230,7 +230,8 @@ impl Tables {
     pub fn tick_us(&self) -> u32
         ensures { result ≡ self.now.tick_us }
     {
-        self.tick_us
+        let Tables { tick_us, .. } = self;
+        *tick_us
     }
 
     pub fn bus_count(&self) -> usize
@@ -267,7 +268,8 @@ impl Tables {
         requires { bus < length self.now.buses }
         ensures { result.now ≡ bus_row self.now bus }
     {
-        &self.buses[bus]
+        let Tables { buses, .. } = self;
+        &buses[bus]
     }
 
     pub fn stream(&self, stream: usize) -> &Stream
@@ -281,14 +283,16 @@ impl Tables {
         requires { router < length self.now.routers }
         ensures { result.now ≡ router_row self.now router }
     {
-        &self.routers[router]
+        let Tables { routers, .. } = self;
+        &routers[router]
     }
 
     pub fn output(&self, output: usize) -> &Output
         requires { output < length self.now.outputs }
         ensures { result.now ≡ output_row self.now output }
     {
-        &self.outputs[output]
+        let Tables { outputs, .. } = self;
+        &outputs[output]
     }
 
     /// The row of a label; `label` is its number among the labels of all outputs.
@@ -353,8 +357,8 @@ impl Tables {
         requires { output < length self.now.outputs }
         ensures { (d : ℕ) → ⟦<Paced as ServiceBound>⟧.floor result d ≡ output_floor self.now output d }
     {
-        let row = &self.outputs[output];
-        Paced::new(row.steps, row.within)
+        let own = &self.outputs[output];
+        Paced::new(own.steps, own.within)
     }
 
     /// The bus that the router visits at this cursor, and the cursor after it.
