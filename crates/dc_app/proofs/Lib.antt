@@ -2,4 +2,8 @@ pub mod Checking
 pub mod Exits
 pub mod LineAnswers
 pub mod Loading
+pub mod ReplayExits
+pub mod ReplayReports
+pub mod Said
 pub mod Says
+pub mod StepLemmas

@@ -3,4 +3,7 @@ pub mod Check
 pub mod Decode
 pub mod Inputs
 pub mod Printed
+pub mod Refusals
+pub mod Replay
+pub mod Steps
 pub mod Text

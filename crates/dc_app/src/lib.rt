@@ -9,9 +9,15 @@ mod decode;
 mod inputs;
 mod judgement;
 mod print;
+mod replay;
+#[cfg(test)]
+mod replay_tests;
+mod replies;
+mod steps;
 #[cfg(test)]
 mod tests;
 mod text;
 
 pub use check::run_check;
 pub use decode::run_decode;
+pub use replay::run_replay;

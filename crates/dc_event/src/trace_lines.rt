@@ -1,5 +1,5 @@
 //! The events of a trace, in the bytes that are held of it.
-ghost use Rattle.std.specs.Prelude.{◌≡◌, ◌≢◌, ℕ, List, Option, [], ◌+◌, ◌^◌, ◌<◌, Some, None, IfSome, MatchOption};
+ghost use Rattle.std.specs.Prelude.{◌≡◌, ◌≢◌, ℕ, List, Option, [], ◌+◌, ◌^◌, ◌<◌, Some, None, IfSome, IfOk, MatchOption};
 ghost use Rattle.dc_event.specs.TraceText.{trace_of};
 ghost use Rattle.dc_event.specs.Reading.{IsOfLine, NeedsMore, Stays, Tells, ahead, at_start, failures_at, stop_behind, stop_of};
 
@@ -74,6 +74,7 @@ impl<'t> TraceLines<'t> {
             MatchOption result (Stays (ahead self.old coming) (ahead self.new coming)) (λ told. Tells (ahead self.old coming) (ahead self.new coming) told) }
         ensures more { MatchOption result (NeedsMore self.old self.new) (λ told. self.new.stopped ≡ stop_of told) }
         ensures again { IfSome self.old.stopped (λ stop. (result ≡ Some (Err stop)) × (self.new ≡ self.old)) }
+        ensures shorter { IfSome result (λ told. IfOk told (λ e. self.new.room < self.old.room)) }
         ensures line { self.old.stopped ≡ None → IfSome result (λ told. IsOfLine told) }
         ensures tables { self.new.tables ≡ self.old.tables }
     {

@@ -1,0 +1,67 @@
+use Rattle.std.proofs.Common.{◌∙◌, ap, arith, refl}
+use Rattle.dc_event.specs.Reading.{Reading, failures_at}
+use Rattle.dc_app.proofs.ReplayExits.{at_tick_0, flush_ends, not_stopped, refused_ends, said_first, said_next, said_pulled, say_ends, step_count, step_early, stop_ends}
+use Rattle.dc_app.proofs.replay.answer.Goals as goal
+
+pub loop-writer-init : goal.loop-writer-init
+loop-writer-init g c =
+    let start = c.new-lines.ensures.start in
+    record {
+      said = said_first _ _ (g.S.Source.remaining c.args.trace.now) _ _ _ _ c.requires.stands c.requires.new (λ text is. rw is (c.new-lines.ensures.whole text));
+      rows = c.requires.rows;
+      early = omega (arith, at_tick_0 c.args.progress.now c.requires.stands);
+      within = omega (arith, c.requires.stands.count, ap (λ (r : Reading). r.room) start);
+      source = omega (arith, ap (λ (r : Reading). failures_at r.stopped) start);
+      sink = refl;
+    }
+
+pub returns-in-Err-clause-answer : goal.returns-in-Err-clause-answer
+returns-in-Err-clause-answer g c =
+    flush_ends _ _ _ _ _ _ _ (g.K.Sink.contents c.flush.new.sink) _ c.in-Err.field-0 c.loop-writer.invariant.said c.in-Err.ensures.bytes
+
+pub loop-writer-preserved-in-Ok : goal.loop-writer-preserved-in-Ok
+loop-writer-preserved-in-Ok g c =
+    let before = c.loop-writer.invariant in
+    let (ran, runs, none, fewer) = c.in-None.ensures.more in
+    record {
+      said = said_pulled _ _ _ _ _ _ _ _ _ _ _ _ before.said (c.in-None.ensures.told (g.S.Source.remaining c.loop-writer.trace)) c.pull.ensures.kept c.in-Ok.ensures.bytes c.in-Ok.ensures.empty;
+      rows = before.rows;
+      early = before.early;
+      within = omega (arith, before.within, c.pull.ensures.room, fewer);
+      source = omega (arith, before.source, c.pull.ensures.count, ap failures_at ran);
+      sink = omega (arith, before.sink, c.in-Ok.ensures.count);
+    }
+
+pub returns-in-Some-Err-clause-answer : goal.returns-in-Some-Err-clause-answer
+returns-in-Some-Err-clause-answer g c =
+    let told = rw c.in-Some-Err.field-0-is at (c.in-Some-Err.ensures.told (g.S.Source.remaining c.loop-writer.trace)) in
+    stop_ends _ _ _ _ _ _ _ _ _ _ c.in-Some-Err.stop c.end_by.result c.loop-writer.invariant.said told c.end_by.ensures.stops c.end_by.ensures.bytes
+
+pub returns-in-Err-step-clause-answer : goal.returns-in-Err-step-clause-answer
+returns-in-Err-step-clause-answer g c =
+    let told = rw c.in-Some-Ok.field-0-is at (c.in-Some-Ok.ensures.told (g.S.Source.remaining c.loop-writer.trace)) in
+    refused_ends _ _ _ _ _ _ _ c.step.new.self _ _ _ _ c.in-Some-Ok.event c.in-Err-step.refusal c.end_refused.result
+    c.loop-writer.invariant.rows c.loop-writer.invariant.said told c.in-Err-step.ensures.step c.end_refused.ensures.bytes
+
+pub returns-in-Err-say-clause-answer : goal.returns-in-Err-say-clause-answer
+returns-in-Err-say-clause-answer g c =
+    let told = rw c.in-Some-Ok.field-0-is at (c.in-Some-Ok.ensures.told (g.S.Source.remaining c.loop-writer.trace)) in
+    say_ends _ _ _ _ _ _ _ c.step.new.self _ _ _ _ c.say.new.writer c.in-Some-Ok.event c.in-Ok-step.step c.in-Err-say.failure
+    c.loop-writer.invariant.rows c.loop-writer.invariant.said told c.in-Ok-step.ensures.step c.in-Err-say.ensures.bytes.0 c.in-Err-say.ensures.sink
+
+pub loop-writer-preserved : goal.loop-writer-preserved
+loop-writer-preserved g c =
+    let before = c.loop-writer.invariant in
+    let told = rw c.in-Some-Ok.field-0-is at (c.in-Some-Ok.ensures.told (g.S.Source.remaining c.loop-writer.trace)) in
+    let runs = rw c.in-Some-Ok.field-0-is at c.in-Some-Ok.ensures.more in
+    let shorter = rw c.in-Some-Ok.field-0-is at c.in-Some-Ok.ensures.shorter in
+    let ran = not_stopped _ _ c.in-Some-Ok.event _ _ c.in-Some-Ok.field-0-is c.in-Some-Ok.ensures.again in
+    let steps = c.in-Ok-step.ensures.step before.said.done before.said.at in
+    record {
+      said = said_next _ _ _ _ _ _ _ _ _ _ _ _ _ c.in-Some-Ok.event c.in-Ok-step.step before.rows before.said told c.in-Ok-step.ensures.step c.in-Ok-say.ensures.bytes;
+      rows = c.in-Ok-step.ensures.rows ∙ before.rows;
+      early = step_early _ _ _ _ _ steps;
+      within = omega (arith, before.within, shorter, step_count _ _ _ _ _ _ before.said.at steps);
+      source = omega (arith, before.source, ap failures_at ran, ap failures_at runs);
+      sink = omega (arith, before.sink, c.in-Ok-say.ensures.count);
+    }

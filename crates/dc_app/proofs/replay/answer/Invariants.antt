@@ -1,0 +1,19 @@
+use Rattle.std.proofs.Common.{◌≡◌, ◌+◌, ◌*◌, ◌^◌, ◌≤◌}
+use Rattle.dc_core.specs.CoreSteps.{rows_of}
+use Rattle.dc_event.specs.Reading.{ahead, failures_at, waits}
+use Rattle.dc_app.proofs.Said.{Said, steps}
+use Rattle.dc_app.proofs.replay.answer.Given as goal
+
+abbrev pub invariant-loop-writer : goal.invariant-loop-writer
+invariant-loop-writer g l =
+    record {
+      said : Said l.tables l.all (g.S.Source.remaining l.fn.trace) (ahead l.lines (g.S.Source.remaining l.trace)) l.progress (g.K.Sink.contents l.fn.sink) (g.K.Sink.contents l.sink) l.writer;
+      rows : rows_of l.progress.core ≡ l.tables;
+      early : l.progress.tick ≤ 2 ^ 40;
+      within : l.progress.number + l.lines.room ≤ 1073741825;
+      source : g.S.Source.failed l.trace ≡ g.S.Source.failed l.fn.trace + failures_at l.lines.stopped;
+      sink : g.K.Sink.failed l.sink ≡ g.K.Sink.failed l.fn.sink;
+    }
+
+abbrev pub decreases-loop-writer : goal.decreases-loop-writer
+decreases-loop-writer g l = steps l.lines.stopped (2 * l.lines.room + waits l.lines.held)

@@ -1,0 +1,8 @@
+use Rattle.dc_app.proofs.ReplayReports.{replay_reports}
+use Rattle.dc_app.proofs.replay.run_replay.Goals as goal
+
+pub returns-clause-reports : goal.returns-clause-reports
+returns-clause-reports g c =
+    let ended = c.replay-ended.ensures in
+    let report = c.report.ensures in
+    replay_reports _ _ _ _ _ _ c.replay-ended.result _ _ _ _ _ c.report.result ended.answer ended.status ended.source ended.sink report.rise report.status report.reports

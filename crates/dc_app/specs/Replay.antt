@@ -1,0 +1,76 @@
+-- What `replay` answers to the texts of tables and of a trace.
+use Rattle.std.specs.Prelude.{◌≡◌, ◌⊎◌, ℕ, ◌+◌, nat_lt, Bool, true, false, Option, List, [], ◌∷◌, ◌++◌, length, Result, Ok, Err}
+use Rattle.dc_tables.specs.TableRows.{TableRows}
+use Rattle.dc_tables.specs.declared.fault.BuildError.{BuildError}
+use Rattle.dc_tables.specs.declared.fault.BuildError.TheVariants.{Refused, Memory}
+use Rattle.dc_toml.specs.Reading.{tables_of}
+use Rattle.dc_toml.specs.Told.{TellsTables}
+use Rattle.dc_event.specs.ReplyText.{run_lines}
+use Rattle.dc_event.specs.TraceText.{Trace, trace_of}
+use Rattle.dc_event.specs.declared.event.Event.{Event}
+use Rattle.dc_event.specs.declared.trace.TraceFault.{TraceFault}
+use Rattle.dc_core.specs.Standing.{IsFault, MayFollow}
+use Rattle.dc_core.specs.declared.fault.StepFault.{StepFault}
+use Rattle.dc_app.specs.declared.answer.Failure.{Failure}
+use Rattle.dc_app.specs.Answer.{Answer, Ends, IsCounted, Reports, after_all, is_whole}
+use Rattle.dc_app.specs.Refusals.{refused, tables_end, trace_end}
+
+-- each event may follow those before it, where `past` stands before the first
+abbrev pub AllFollow : TableRows → List Event → List Event → Type 0
+AllFollow t past [] = Unit {0}
+AllFollow t past (e ∷ rest) = MayFollow t past e × AllFollow t (past ++ e ∷ []) rest
+
+-- How a replay ends that has carried out `done`: by the end of the trace or its fault; or by the refusal of the next
+-- event, which may not follow. Its line is the one behind those of `done`.
+abbrev pub EndsBy : TableRows → List Event → List Event → Option TraceFault → Answer → Type 0
+EndsBy t done [] fault last = last ≡ trace_end fault
+EndsBy t done (e ∷ rest) fault last = (f : StepFault) × (¬ MayFollow t done e) × IsFault t done e f × (last ≡ refused t e f (length done + 1))
+
+-- the end, where the replay got to it; else it or no line more
+abbrev pub GoesOn : Bool → TableRows → List Event → List Event → Option TraceFault → Answer → Type 0
+GoesOn true t done rest fault last = EndsBy t done rest fault last
+GoesOn false t done rest fault last = EndsBy t done rest fault last ⊎ (last.lines ≡ [])
+
+-- The answer to a trace: the lines of the events that were carried out, as many as may follow one another, and the end.
+-- Where it is not whole, a beginning of that.
+pub record Replays (t : TableRows) (all : Bool) (trace : Trace) (whole : Bool) (answer : Answer) : Type 0 where
+  pub done : List Event
+  pub rest : List Event
+  pub last : Answer
+  pub events : trace.events ≡ done ++ rest
+  pub follow : AllFollow t [] done
+  pub goes_on : GoesOn whole t done rest trace.fault last
+  pub said : answer ≡ after_all (run_lines t all done) last
+
+-- the answer to the text of a trace of at most 2^30 bytes, where the tables read so
+abbrev pub AnswersTrace : Bool → List ℕ → Bool → Answer → Result TableRows BuildError → Type 0
+AnswersTrace all text whole answer (Ok t) = Replays t all (trace_of t 1073741824 text) whole answer
+AnswersTrace all text whole answer (Err (Refused f)) = answer ≡ tables_end f
+AnswersTrace all text whole answer (Err (Memory e)) = ⊥
+
+-- the answer to the texts of tables and of a trace
+abbrev pub AnswersTexts : Bool → List ℕ → List ℕ → Bool → Answer → Type 0
+AnswersTexts all tables text whole answer = (read : Result TableRows BuildError) × TellsTables (tables_of tables) read × AnswersTrace all text whole answer read
+
+-- what `replay` answers: where it is not whole, a beginning of that, or no line
+abbrev pub ReplayAnswers : Bool → List ℕ → List ℕ → Bool → Answer → Type 0
+ReplayAnswers all tables text true answer = AnswersTexts all tables text true answer
+ReplayAnswers all tables text false answer = AnswersTexts all tables text false answer ⊎ (answer.lines ≡ [])
+
+-- ---- what is written
+
+-- until something fails: what is written of the answer to a trace
+abbrev pub WritesTrace : TableRows → Bool → List ℕ → Option (List ℕ) → Option (List ℕ) → Result ℕ Failure → Type 0
+WritesTrace t all text old new result = (answer : Answer) × Replays t all (trace_of t 1073741824 text) (is_whole result) answer × Ends old [] new answer result
+
+-- and of the answer to both texts
+abbrev pub WritesReplay : Bool → List ℕ → List ℕ → Option (List ℕ) → Option (List ℕ) → Result ℕ Failure → Type 0
+WritesReplay all tables text old new result = (answer : Answer) × ReplayAnswers all tables text (is_whole result) answer × Ends old [] new answer result
+
+-- What `replay` reports, where so many failures of its devices were counted before and behind it
+pub record ReportsReplay (all : Bool) (tables text : List ℕ) (old new : Option (List ℕ)) (failures failures' sink_failures status : ℕ) : Type 0 where
+  pub answer : Answer
+  pub failure : Failure
+  pub answers : ReplayAnswers all tables text (nat_lt status 3) answer
+  pub reports : Reports old new failure sink_failures answer status
+  pub counted : status ≡ 3 → IsCounted failure failures failures'

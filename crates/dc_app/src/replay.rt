@@ -1,0 +1,262 @@
+//! `replay`: a recorded trace through the concentrator.
+ghost use Rattle.std.specs.Prelude.{◌≡◌, ◌≢◌, [], ◌∷◌, ◌++◌, ◌+◌, ◌-◌, ◌^◌, ◌<◌, ◌≤◌, ◌||◌, cond, length, IfErr, IfOk, IfSome};
+ghost use Rattle.dc_device.specs.Bytes.{Gathers};
+ghost use Rattle.dc_device.specs.Device.{failures_of};
+ghost use Rattle.dc_device.specs.Lines.{spelled};
+ghost use Rattle.dc_core.specs.CoreSteps.{rows_of};
+ghost use Rattle.dc_event.specs.ReplyText.{is_told, reply_line};
+ghost use Rattle.dc_app.specs.Answer.{Ends, Raises, is_whole, sink_failures_of};
+ghost use Rattle.dc_app.specs.Refusals.{StopsBy, refused, stop_end, tables_end, trace_code_text};
+ghost use Rattle.dc_app.specs.Replay.{ReportsReplay, WritesReplay, WritesTrace};
+ghost use Rattle.dc_app.specs.Steps.{StandsAt};
+
+use crate::answer::{Failure, end_at, end_with, report};
+use crate::inputs::{Unloaded, load};
+use crate::print::print_table_fault;
+use crate::replies::{is_printed, print_refused, print_step};
+use crate::steps::{Progress, Refusal, Step};
+use crate::text::Text;
+use dc_core::Core;
+use dc_device::{LineWriter, Sink, Source};
+use dc_event::{TRACE_LIMIT, TraceCode, TraceLines, TraceStop};
+use dc_tables::{TableFault, Tables};
+use std::alloc::Global;
+use std::sync::Arc;
+
+// The code of a fault of a trace.
+fn code_text(code: TraceCode) -> &'static [u8]
+    ensures text { result.now ≡ trace_code_text code }
+    ensures short { length result.now ≤ 8 }
+{
+    match code {
+        TraceCode::E1 => b"E1",
+        TraceCode::E2 => b"E2",
+        TraceCode::E3 => b"E3",
+        TraceCode::E4 => b"E4",
+        TraceCode::E5 => b"E5",
+        TraceCode::E6 => b"E6",
+    }
+}
+
+// Pushes what waits, where the trace tells no more events.
+fn end_by<K: Sink>(stop: TraceStop, writer: &mut LineWriter, sink: &mut K) -> Result<u8, Failure>
+    requires { K.failed sink.old + 1 < 2 ^ 64 }
+    ensures bytes { Ends (K.contents sink.old) writer.old (K.contents sink.new) (stop_end stop) result }
+    ensures empty { writer.new ≡ [] }
+    ensures count { K.failed sink.new ≡ K.failed sink.old + sink_failures_of result }
+    ensures stops { StopsBy stop result }
+{
+    if let TraceStop::Fault(fault) = stop {
+        return end_at(writer, sink, code_text(fault.code), fault.line);
+    }
+    match writer.flush(sink) {
+        Err(_) => Err(Failure::Sink),
+        Ok(()) => match stop {
+            TraceStop::Broken => Err(Failure::Source),
+            _ => Ok(0),
+        },
+    }
+}
+
+// Ends with the refusal of an event.
+fn end_refused<K: Sink>(
+    tables: &Tables,
+    refusal: Refusal,
+    writer: &mut LineWriter,
+    sink: &mut K,
+) -> Result<u8, Failure>
+    requires { K.failed sink.old + 1 < 2 ^ 64 }
+    ensures bytes { Ends (K.contents sink.old) writer.old (K.contents sink.new) (refused tables.now refusal.event refusal.fault refusal.number) result }
+    ensures empty { writer.new ≡ [] }
+    ensures count { K.failed sink.new ≡ K.failed sink.old + failures_of result }
+    ensures sink { IfErr result (λ e. e ≡ Failure.Sink) }
+    ensures status { IfOk result (λ status. status < 3) }
+{
+    let mut text = Text::new();
+    print_refused(&mut text, tables, refusal);
+    match end_with(writer, sink, text.as_slice()) {
+        Ok(()) => Ok(1),
+        Err(_) => Err(Failure::Sink),
+    }
+}
+
+// Ends with the first fault of the tables' text.
+fn end_unloaded<K: Sink>(
+    fault: TableFault,
+    writer: &mut LineWriter,
+    sink: &mut K,
+) -> Result<u8, Failure>
+    requires { K.failed sink.old + 1 < 2 ^ 64 }
+    ensures bytes { Ends (K.contents sink.old) writer.old (K.contents sink.new) (tables_end fault) result }
+    ensures empty { writer.new ≡ [] }
+    ensures count { K.failed sink.new ≡ K.failed sink.old + failures_of result }
+    ensures sink { IfErr result (λ e. e ≡ Failure.Sink) }
+    ensures status { IfOk result (λ status. status < 3) }
+{
+    let mut text = Text::new();
+    print_table_fault(&mut text, fault);
+    match end_with(writer, sink, text.as_slice()) {
+        Ok(()) => Ok(2),
+        Err(_) => Err(Failure::Sink),
+    }
+}
+
+// Writes the line of a step, if it is printed.
+fn say<K: Sink>(
+    writer: &mut LineWriter,
+    sink: &mut K,
+    tables: &Tables,
+    all: bool,
+    step: Step,
+) -> Result<(), Failure>
+    requires { K.failed sink.old + 1 < 2 ^ 64 }
+    ensures bytes { Gathers (K.contents sink.old) writer.old (K.contents sink.new) writer.new
+        (spelled (cond (all || is_told step.reply) (reply_line tables.now step.tick step.event step.reply ∷ []) [])) result }
+    ensures count { K.failed sink.new ≡ K.failed sink.old + failures_of result }
+    ensures sink { IfErr result (λ e. e ≡ Failure.Sink) }
+{
+    if !is_printed(all, step.reply) {
+        return Ok(());
+    }
+    let mut text = Text::new();
+    print_step(&mut text, tables, step);
+    match writer.line(sink, text.as_slice()) {
+        Ok(()) => Ok(()),
+        Err(_) => Err(Failure::Sink),
+    }
+}
+
+// Answers a trace, until its source or the sink fails.
+fn answer<S: Source, K: Sink>(
+    tables: &Tables,
+    progress: &mut Progress,
+    all: bool,
+    trace: &mut S,
+    writer: &mut LineWriter,
+    sink: &mut K,
+) -> Result<u8, Failure>
+    requires new { writer.old ≡ [] }
+    requires rows { rows_of progress.old.core ≡ tables.now }
+    requires stands { StandsAt progress.old [] }
+    requires source { S.failed trace.old + 1 < 2 ^ 64 }
+    requires sink { K.failed sink.old + 1 < 2 ^ 64 }
+    ensures answer { IfSome (S.remaining trace.old) (λ text.
+        WritesTrace tables.now all text (K.contents sink.old) (K.contents sink.new) result) }
+    ensures empty { writer.new ≡ [] }
+    ensures source { Raises (S.failed trace.old) (S.failed trace.new) result }
+    ensures sink { K.failed sink.new ≡ K.failed sink.old + sink_failures_of result }
+    ensures status { IfOk result (λ status. status < 3) }
+{
+    let mut lines = TraceLines::new(tables, TRACE_LIMIT);
+    loop {
+        match lines.advance() {
+            None => match writer.flush(sink) {
+                Err(_) => return Err(Failure::Sink),
+                Ok(()) => lines.pull(trace, writer),
+            },
+            Some(Err(stop)) => return end_by(stop, writer, sink),
+            Some(Ok(event)) => match progress.step(event) {
+                Err(refusal) => return end_refused(tables, refusal, writer, sink),
+                Ok(step) => match say(writer, sink, tables, all, step) {
+                    Err(failure) => return Err(failure),
+                    Ok(()) => {}
+                },
+            },
+        }
+    }
+}
+
+// Answers a trace with the concentrator of these tables.
+fn answer_on<S: Source, K: Sink>(
+    alloc: Global,
+    tables: Tables,
+    all: bool,
+    trace: &mut S,
+    writer: &mut LineWriter,
+    sink: &mut K,
+) -> Result<u8, Failure>
+    requires new { writer.old ≡ [] }
+    requires source { S.failed trace.old + 1 < 2 ^ 64 }
+    requires sink { K.failed sink.old + 1 < 2 ^ 64 }
+    ensures answer { IfSome (S.remaining trace.old) (λ text.
+        WritesTrace tables all text (K.contents sink.old) (K.contents sink.new) result) }
+    ensures empty { writer.new ≡ [] }
+    ensures source { Raises (S.failed trace.old) (S.failed trace.new) result }
+    ensures sink { K.failed sink.new ≡ K.failed sink.old + sink_failures_of result }
+    ensures status { IfOk result (λ status. status < 3) }
+{
+    let Ok(tables) = Arc::new(alloc, tables) else {
+        return Err(Failure::Memory);
+    };
+    let Ok(shared) = Arc::try_clone(&tables) else {
+        return Err(Failure::Memory);
+    };
+    let Ok(core) = Core::new(alloc, shared) else {
+        return Err(Failure::Memory);
+    };
+    let mut progress = Progress {
+        core,
+        tick: 0,
+        number: 1,
+    };
+    answer(&tables, &mut progress, all, trace, writer, sink)
+}
+
+// Answers the texts of tables and a trace, until something fails.
+fn replay<T: Source, S: Source, K: Sink>(
+    alloc: Global,
+    all: bool,
+    tables: &mut T,
+    trace: &mut S,
+    writer: &mut LineWriter,
+    sink: &mut K,
+) -> Result<u8, Failure>
+    requires new { writer.old ≡ [] }
+    requires tables { T.failed tables.old + 1 < 2 ^ 64 }
+    requires source { S.failed trace.old + 1 < 2 ^ 64 }
+    requires sink { K.failed sink.old + 1 < 2 ^ 64 }
+    ensures answer { IfSome (T.remaining tables.old) (λ rows. IfSome (S.remaining trace.old) (λ text.
+        WritesReplay all rows text (K.contents sink.old) (K.contents sink.new) result)) }
+    ensures empty { writer.new ≡ [] }
+    ensures source { Raises (T.failed tables.old + S.failed trace.old) (T.failed tables.new + S.failed trace.new) result }
+    ensures sink { K.failed sink.new ≡ K.failed sink.old + sink_failures_of result }
+    ensures status { IfOk result (λ status. status < 3) }
+{
+    let tables = match load(alloc, tables) {
+        Ok(tables) => tables,
+        Err(Unloaded::Refused(fault)) => return end_unloaded(fault, writer, sink),
+        Err(Unloaded::Failed(failure)) => return Err(failure),
+    };
+    answer_on(alloc, tables, all, trace, writer, sink)
+}
+
+/// Replays a recorded trace through the concentrator of a tables' text, onto a sink: each reply as a line, or only those
+/// that tell of a word that is sent or lost. Each line that is due stands on the sink before the trace is asked for more.
+///
+/// The answer is the exit status: 0 at the end of the trace; 1 at the first event that may not follow, 2 at the first
+/// fault of the tables or of the trace, whose line was written behind the lines before it; 3 where a device failed or
+/// memory was refused. After a failed pull whole lines of the answer and then `failed device` or `failed memory` were
+/// written; after a failed push or flush nothing more was.
+pub fn run_replay<T: Source, S: Source, K: Sink>(
+    alloc: Global,
+    all: bool,
+    tables: &mut T,
+    trace: &mut S,
+    sink: &mut K,
+) -> u8
+    requires tables { T.failed tables.old + 1 < 2 ^ 64 }
+    requires source { S.failed trace.old + 1 < 2 ^ 64 }
+    requires sink { K.failed sink.old + 1 < 2 ^ 64 }
+    ensures reports { IfSome (T.remaining tables.old) (λ rows. IfSome (S.remaining trace.old) (λ text.
+        ReportsReplay all rows text (K.contents sink.old) (K.contents sink.new)
+        (T.failed tables.old + S.failed trace.old + K.failed sink.old)
+        (T.failed tables.new + S.failed trace.new + K.failed sink.new)
+        (K.failed sink.new - K.failed sink.old) result)) }
+    ensures quiet { result < 3 → T.failed tables.new + S.failed trace.new + K.failed sink.new
+        ≡ T.failed tables.old + S.failed trace.old + K.failed sink.old }
+    ensures status { result ≤ 3 }
+{
+    let mut writer = LineWriter::new();
+    let ended = replay(alloc, all, tables, trace, &mut writer, sink);
+    report(ended, &mut writer, sink)
+}

@@ -1,0 +1,75 @@
+//! The events of a trace, carried out one after the other.
+ghost use Rattle.std.specs.Prelude.{◌≡◌, List, ◌+◌, ◌≤◌, ◌<◌, ◌^◌};
+ghost use Rattle.dc_core.specs.CoreSteps.{rows_of};
+ghost use Rattle.dc_event.specs.Time.{ends};
+ghost use Rattle.dc_event.specs.declared.event.Event.{Event};
+ghost use Rattle.dc_app.specs.Steps.{StandsAt, Steps};
+
+use dc_core::{Core, StepFault};
+use dc_event::{Event, Reply};
+
+/// A concentrator, its running tick, up to 2^40, and the number of the trace's next line.
+#[derive(Drop)]
+pub struct Progress {
+    pub core: Core,
+    pub tick: u64,
+    pub number: u64,
+}
+
+/// An event that was carried out, its reply, and its tick: for a Tick the new one.
+#[derive(Clone, Copy, Debug, PartialEq, Eq)]
+pub struct Step {
+    pub tick: u64,
+    pub event: Event,
+    pub reply: Reply,
+}
+
+/// An event that was refused, and the number of its line.
+#[derive(Clone, Copy, Debug, PartialEq, Eq)]
+pub struct Refusal {
+    pub event: Event,
+    pub fault: StepFault,
+    pub number: u64,
+}
+
+// The tick behind an event.
+fn tick_behind(tick: u64, event: &Event) -> u64
+    requires { tick + 1 < 2 ^ 64 }
+    ensures { result ≡ tick + ends event.now }
+{
+    match event {
+        Event::Tick => tick + 1,
+        _ => tick,
+    }
+}
+
+impl Progress {
+    /// Carries out the event of the next line.
+    ///
+    /// # Errors
+    /// Just where it may not follow the events before it.
+    pub fn step(&mut self, event: Event) -> Result<Step, Refusal>
+        requires early { self.old.tick ≤ 2 ^ 40 }
+        requires number { self.old.number + 1 < 2 ^ 64 }
+        ensures rows { rows_of self.new.core ≡ rows_of self.old.core }
+        ensures step { (done : List Event) → StandsAt self.old done → Steps (rows_of self.old.core) self.new done event result }
+    {
+        let next_tick = tick_behind(self.tick, &event);
+        match self.core.apply(event) {
+            Ok(reply) => {
+                self.tick = next_tick;
+                self.number += 1;
+                Ok(Step {
+                    tick: self.tick,
+                    event,
+                    reply,
+                })
+            }
+            Err(fault) => Err(Refusal {
+                event,
+                fault,
+                number: self.number,
+            }),
+        }
+    }
+}
