@@ -1,3 +1,6 @@
+mod rules;
+mod sweep;
+
 use crate::{TEXT_LIMIT, read_parts, read_tables};
 use dc_tables::{BuildError, Code, Section, TableFault};
 use std::alloc::{AllocError, Global};
@@ -360,6 +363,14 @@ fn members_after_their_list_and_buses_before_routers(rt: HostRuntime) -> Result<
     Ok(())
 }
 
+// The fault of a text, rules and all.
+fn broken(alloc: Global, text: &[u8]) -> Option<(Code, Section, usize)> {
+    match read_tables(alloc, text) {
+        Ok(_) | Err(BuildError::Memory(_)) => None,
+        Err(BuildError::Refused(fault)) => Some((fault.code, fault.section, fault.index)),
+    }
+}
+
 // The fault of the smallest tables with one line in other words, rules and all.
 fn broken_with(
     alloc: Global,
@@ -367,10 +378,7 @@ fn broken_with(
     words: &str,
 ) -> Result<Option<(Code, Section, usize)>, AllocError> {
     let text = changed(alloc, line, 1, words)?;
-    match read_tables(alloc, text.as_bytes()) {
-        Ok(_) | Err(BuildError::Memory(_)) => Ok(None),
-        Err(BuildError::Refused(fault)) => Ok(Some((fault.code, fault.section, fault.index))),
-    }
+    Ok(broken(alloc, text.as_bytes()))
 }
 
 #[test]
