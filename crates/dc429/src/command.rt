@@ -6,9 +6,21 @@ use std::alloc::Global;
 
 /// What is asked.
 #[derive(Clone, Copy, Debug)]
-pub enum Order {
+pub enum Order<'a> {
     /// Decode words in this format.
     Decode(Format),
+    /// Judge the certificate in a file for the tables in another.
+    Check {
+        /// The path of the tables.
+        tables: &'a str,
+        /// The path of the certificate.
+        certificate: &'a str,
+    },
+}
+
+// A file that is read.
+fn file<'a>(alloc: Global, name: &'a str, help: &'a str) -> Arg<'a> {
+    Arg::new(alloc, name).help(help).required(true)
 }
 
 // The command with its subcommands.
@@ -20,17 +32,22 @@ fn make<'a>(alloc: Global) -> Result<Command<'a>, Error> {
     let decode = Command::new(alloc, "decode")
         .about("Decodes ARINC 429 words from standard input, one a line")
         .arg(format)?;
+    let check = Command::new(alloc, "check")
+        .about("Judges a certificate for tables, and prints the verdict")
+        .arg(file(alloc, "TABLES", "The tables, in TOML"))?
+        .arg(file(alloc, "CERT", "The certificate, in JSON"))?;
     Ok(
         Command::new(alloc, "dc429")
             .about("An ARINC 429 concentrator that is certified before it flies")
             .version("0.1.0")
             .subcommand_required(true)
-            .subcommand(decode)?,
+            .subcommand(decode)?
+            .subcommand(check)?,
     )
 }
 
 // What the matches ask, where they have what is required.
-fn order_in<'a>(matches: &ArgMatches<'a>) -> Option<Order> {
+fn order_in<'a>(matches: &ArgMatches<'a>) -> Option<Order<'a>> {
     let (name, matches) = matches.subcommand()?;
     match name {
         "decode" => match matches.get_str("format")? {
@@ -39,12 +56,16 @@ fn order_in<'a>(matches: &ArgMatches<'a>) -> Option<Order> {
             "disc" => Some(Order::Decode(Format::Disc)),
             _ => None,
         },
+        "check" => Some(Order::Check {
+            tables: matches.get_str("TABLES")?,
+            certificate: matches.get_str("CERT")?,
+        }),
         _ => None,
     }
 }
 
 /// What the words ask, of which the first is the program's name.
-pub fn parse<'a>(alloc: Global, words: &'a [String]) -> Result<Order, Error> {
+pub fn parse<'a>(alloc: Global, words: &'a [String]) -> Result<Order<'a>, Error> {
     let mut command = make(alloc)?;
     let matches = command.try_get_matches_from_mut(words)?;
     match order_in(&matches) {

@@ -4,12 +4,12 @@
 mod command;
 
 use command::{Order, parse};
-use dc_app::run_decode;
+use dc_app::{run_check, run_decode};
 use dc_device::{ReadSource, WriteSink};
 use std::alloc::AllocError;
 use std::process::ExitCode;
-use std::rt::Env;
-use std::{env, fmt, io};
+use std::rt::{Env, Files};
+use std::{env, fmt, fs, io};
 
 // What keeps the program from its work.
 #[derive(Debug, Drop)]
@@ -43,22 +43,33 @@ impl From<io::Error> for Failure {
     }
 }
 
-// Carries out what was asked. The answer is the exit status.
-fn carry_out<R: Input + Print>(rt: &R, order: Order) -> u8 {
+// Carries out what was asked: files are opened before anything is read. The answer is the exit status.
+fn carry_out<R: AllocGlobal + Files + Input + Print>(
+    rt: &R,
+    order: Order<'_>,
+) -> Result<u8, Failure> {
+    let mut sink = WriteSink::new(io::writer(rt));
     match order {
         Order::Decode(format) => {
             let mut source = ReadSource::new(rt.reader());
-            let mut sink = WriteSink::new(io::writer(rt));
-            run_decode(format, &mut source, &mut sink)
+            Ok(run_decode(format, &mut source, &mut sink))
+        }
+        Order::Check {
+            tables,
+            certificate,
+        } => {
+            let mut tables = ReadSource::new(fs::open(rt, tables)?);
+            let mut certificate = ReadSource::new(fs::open(rt, certificate)?);
+            Ok(run_check(rt.alloc(), &mut tables, &mut certificate, &mut sink))
         }
     }
 }
 
 // Reads the command line and carries it out, or shows clap's text. The answer is the exit status.
-fn run<R: AllocGlobal + Env + Input + Print + Eprint>(rt: &R) -> Result<u8, Failure> {
+fn run<R: AllocGlobal + Env + Files + Input + Print + Eprint>(rt: &R) -> Result<u8, Failure> {
     let words: Vec<String> = env::args(rt)?.collect(rt.alloc())?;
     match parse(rt.alloc(), words.as_slice()) {
-        Ok(order) => Ok(carry_out(rt, order)),
+        Ok(order) => carry_out(rt, order),
         Err(error) => {
             if error.kind() == clap::error::ErrorKind::OutOfMemory {
                 return Err(Failure::Memory);
