@@ -1,6 +1,6 @@
 //! The command line, read by clap.
 use clap::error::ErrorKind;
-use clap::{Arg, ArgMatches, Command, Error};
+use clap::{Arg, ArgAction, ArgMatches, Command, Error};
 use dc_word::Format;
 use std::alloc::Global;
 
@@ -15,6 +15,13 @@ pub enum Order<'a> {
         tables: &'a str,
         /// The path of the certificate.
         certificate: &'a str,
+    },
+    /// Replay the trace on standard input through the concentrator of the tables in a file.
+    Replay {
+        /// The path of the tables.
+        tables: &'a str,
+        /// Whether every reply is printed.
+        all: bool,
     },
 }
 
@@ -36,13 +43,22 @@ fn make<'a>(alloc: Global) -> Result<Command<'a>, Error> {
         .about("Judges a certificate for tables, and prints the verdict")
         .arg(file(alloc, "TABLES", "The tables, in TOML"))?
         .arg(file(alloc, "CERT", "The certificate, in JSON"))?;
+    let all = Arg::new(alloc, "all")
+        .long("all")
+        .help("Prints every reply, and not only words that are sent or lost")
+        .action(ArgAction::SetTrue);
+    let replay = Command::new(alloc, "replay")
+        .about("Replays the trace on standard input through the concentrator of the tables")
+        .arg(file(alloc, "TABLES", "The tables, in TOML"))?
+        .arg(all)?;
     Ok(
         Command::new(alloc, "dc429")
             .about("An ARINC 429 concentrator that is certified before it flies")
             .version("0.1.0")
             .subcommand_required(true)
             .subcommand(decode)?
-            .subcommand(check)?,
+            .subcommand(check)?
+            .subcommand(replay)?,
     )
 }
 
@@ -59,6 +75,10 @@ fn order_in<'a>(matches: &ArgMatches<'a>) -> Option<Order<'a>> {
         "check" => Some(Order::Check {
             tables: matches.get_str("TABLES")?,
             certificate: matches.get_str("CERT")?,
+        }),
+        "replay" => Some(Order::Replay {
+            tables: matches.get_str("TABLES")?,
+            all: matches.get_flag("all"),
         }),
         _ => None,
     }
