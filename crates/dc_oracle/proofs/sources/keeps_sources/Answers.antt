@@ -1,0 +1,23 @@
+use Rattle.std.proofs.Common.{◌≡◌, Bool, take, subst, arith}
+use Rattle.std.proofs.lemmas.List.{length-take, take_all}
+use Rattle.dc_event.specs.Admissible.{KeepsSources}
+use Rattle.dc_event.specs.Beginnings.{KeepsSources-beginning}
+use Rattle.dc_oracle.specs.Sources.{Seen}
+use Rattle.dc_oracle.proofs.Places.{never-breaks, breaks-at, ticks-le, next-place}
+use Rattle.dc_oracle.proofs.sources.keeps_sources.Goals as goal
+
+pub see-requires-clause-early : goal.see-requires-clause-early
+see-requires-clause-early c = omega (arith, c.loop-i.invariant.watches.clock, ticks-le (take c.loop-i.i c.args.run.now), length-take c.loop-i.i c.args.run.now, c.loop-i-test.true)
+
+pub returns-then-not-branch : goal.returns-then-not-branch
+returns-then-not-branch c =
+    let P : Bool → Type 0 = λ b. Seen c.args.tables.now c.see.new.self (take c.loop-i.i c.args.run.now) c.index-run-i.result b in
+    breaks-at (KeepsSources c.args.tables.now) (KeepsSources-beginning c.args.tables.now) c.args.run.now c.loop-i.i c.index-run-i.result (omega (arith, c.loop-i-test.true))
+    (next-place c.args.run.now c.loop-i.i c.index-run-i.result (omega (arith, c.loop-i-test.true)) c.index-run-i.is) c.loop-i.invariant.watches.kept
+    (subst P c.if-not-branch.true (c.in_ok-see.ensures.seen (take c.loop-i.i c.args.run.now) c.loop-i.invariant.watches))
+
+pub returns : goal.returns
+returns c =
+    let all : take c.loop-i.i c.args.run.now ≡ c.args.run.now = take_all c.loop-i.i c.args.run.now (omega (arith, c.loop-i-test.false)) in
+    never-breaks (KeepsSources c.args.tables.now) (KeepsSources-beginning c.args.tables.now) c.args.run.now
+    (subst (KeepsSources c.args.tables.now) all c.loop-i.invariant.watches.kept)

@@ -1,0 +1,5 @@
+pub mod History
+pub mod Fresh
+pub mod WireLoad
+pub mod Sources
+pub mod Budgets

@@ -1,0 +1,112 @@
+ghost use Rattle.std.specs.Prelude.{◌≡◌, ◌-◌, ◌<◌, ◌^◌, List, [], IfOk};
+ghost use Rattle.dc_event.specs.Breaks.{BreaksSourcesAt};
+ghost use Rattle.dc_oracle.specs.Fresh.{AllMade};
+ghost use Rattle.dc_oracle.specs.WireLoad.{no_load};
+
+use crate::history::{History, no_histories};
+use crate::wire::WireLoad;
+use dc_event::Event;
+use dc_tables::Tables;
+use dc_word::Word;
+use std::alloc::{AllocError, Global};
+
+/// What the sources have done so far: the ticks of each stream's arrivals, and how far each wire is loaded.
+#[derive(Drop)]
+pub struct SourceWatch {
+    tick: u64,
+    streams: Vec<History>,
+    wires: Vec<WireLoad>,
+}
+
+/// So many wires that carried nothing.
+fn free_wires(alloc: Global, count: usize) -> Result<Vec<WireLoad>, AllocError>
+    ensures { IfOk result (λ v. AllMade (λ _. no_load) no_load count v.items) }
+{
+    let mut wires = Vec::new(alloc);
+    for _bus in 0..count {
+        wires.push(WireLoad {
+            tick: 0,
+            load_us: 0,
+        })?;
+    }
+    Ok(wires)
+}
+
+impl SourceWatch {
+    ghost use Rattle.dc_oracle.specs.Sources.{IsSized, Watches, Seen};
+    ghost use Rattle.dc_event.specs.declared.event.Event.{Event};
+
+    /// Before any event.
+    fn new(alloc: Global, tables: &Tables) -> Result<SourceWatch, AllocError>
+        ensures sized { IfOk result (λ w. IsSized tables.now w) }
+        ensures watches { IfOk result (λ w. Watches tables.now w []) }
+    {
+        tables.valid();
+        Ok(SourceWatch {
+            tick: 0,
+            streams: no_histories(alloc, tables.stream_count())?,
+            wires: free_wires(alloc, tables.bus_count())?,
+        })
+    }
+
+    /// A word arrives. Whether its stream and its wire keep their rest.
+    fn arrive(&mut self, tables: &Tables, bus: usize, word: Word) -> Result<bool, AllocError>
+        requires sized { IsSized tables.now self.old }
+        ensures sized { IsSized tables.now self.new }
+        ensures seen { (run : List Event) → Watches tables.now self.old run → IfOk result (Seen tables.now self.new run (Event.Arrive bus word)) }
+    {
+        tables.valid();
+        if bus >= self.wires.len() || !word.is_odd() {
+            return Ok(true);
+        }
+        let Some(stream) = tables.stream_of(bus, word) else {
+            return Ok(true);
+        };
+        let minimum = tables.stream(stream).minimum;
+        if self.streams[stream].holds(1, minimum, self.tick) {
+            return Ok(false);
+        }
+        self.streams[stream].add(self.tick)?;
+        let spacing = tables.bus(bus).spacing;
+        Ok(self.wires[bus].carry(self.tick, tables.tick_us(), spacing))
+    }
+
+    /// Whether the run with this event keeps the sources' minimum, where the run before it does.
+    fn see(&mut self, tables: &Tables, event: Event) -> Result<bool, AllocError>
+        requires sized { IsSized tables.now self.old }
+        requires early { self.old.tick < 2 ^ 64 - 1 }
+        ensures sized { IsSized tables.now self.new }
+        ensures seen { (run : List Event) → Watches tables.now self.old run → IfOk result (Seen tables.now self.new run event) }
+    {
+        tables.valid();
+        match event {
+            Event::Arrive(bus, word) => self.arrive(tables, bus, word),
+            Event::Route(_) | Event::Send(_) => Ok(true),
+            Event::Tick => {
+                self.tick += 1;
+                Ok(true)
+            }
+        }
+    }
+}
+
+/// The first event, counted from 1, at which the run breaks the sources' minimum: a word of a stream sooner than its
+/// minimum after the last, or more words than the wire carries.
+///
+/// # Errors
+/// Out of memory.
+pub fn keeps_sources(
+    alloc: Global,
+    tables: &Tables,
+    run: &[Event],
+) -> Result<Option<usize>, AllocError>
+    ensures { IfOk result (BreaksSourcesAt tables.now run.now) }
+{
+    let mut watch = SourceWatch::new(alloc, tables)?;
+    for (i, event) in run.iter().enumerate() {
+        if !watch.see(tables, *event)? {
+            return Ok(Some(i + 1));
+        }
+    }
+    Ok(None)
+}

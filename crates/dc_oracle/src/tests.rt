@@ -1,0 +1,133 @@
+//! Recorded runs, and what the definitions say to them.
+
+use crate::fixture::{LARGEST, Plan, SMALL, tables_of};
+use crate::{keeps_budgets, keeps_sources, steady};
+use dc_event::Event;
+use dc_word::Word;
+use std::alloc::Global;
+use std::test::Fail;
+
+/// A word of label 203, normal operation, data 0.
+const NORMAL: Word = Word(0x6000_00C1);
+
+/// A word of label 204.
+const OTHER: Word = Word(0xE000_0021);
+
+/// Where the sources of a run of these tables first break their minimum.
+fn sources_fail(alloc: Global, plan: Plan, run: &[Event]) -> Result<Option<usize>, Fail> {
+    let tables = tables_of(alloc, plan)?;
+    Ok(keeps_sources(alloc, &tables, run)?)
+}
+
+/// Where the actors of a run of these tables first break their budgets.
+fn budgets_fail(alloc: Global, plan: Plan, run: &[Event]) -> Result<Option<usize>, Fail> {
+    let tables = tables_of(alloc, plan)?;
+    Ok(keeps_budgets(alloc, &tables, run)?)
+}
+
+/// The steady run of these tables for so many ticks.
+fn steady_run(alloc: Global, plan: Plan, ticks: u64) -> Result<Vec<Event>, Fail> {
+    let tables = tables_of(alloc, plan)?;
+    Ok(steady(alloc, &tables, ticks)?)
+}
+
+#[test]
+fn steady_tick_of_the_small_tables(rt: HostRuntime) -> Result<(), Fail> {
+    let run = steady_run(rt.alloc(), SMALL, 1)?;
+    let wanted = [
+        Event::Route(0),
+        Event::Route(0),
+        Event::Send(0),
+        Event::Tick,
+    ];
+    assert_eq!(rt; run.as_slice(), wanted.as_slice());
+    Ok(())
+}
+
+#[test]
+fn steady_runs_keep_the_budgets(rt: HostRuntime) -> Result<(), Fail> {
+    let none = steady_run(rt.alloc(), SMALL, 0)?;
+    assert_eq!(rt; none.len(), 0);
+    let run = steady_run(rt.alloc(), SMALL, 200)?;
+    assert_eq!(rt; run.len(), 800);
+    assert_eq!(rt; budgets_fail(rt.alloc(), SMALL, run.as_slice())?, None);
+    assert_eq!(rt; sources_fail(rt.alloc(), SMALL, run.as_slice())?, None);
+    Ok(())
+}
+
+#[test]
+fn wire_carries_three_words_in_a_tick(rt: HostRuntime) -> Result<(), Fail> {
+    let run = [
+        Event::Arrive(0, Word(0xE000_0081)),
+        Event::Arrive(0, Word(0xE000_0041)),
+        Event::Arrive(0, NORMAL),
+        Event::Arrive(0, OTHER),
+    ];
+    assert_eq!(rt; sources_fail(rt.alloc(), LARGEST, &run)?, Some(4));
+    Ok(())
+}
+
+/// A word of label 203 in tick 0 and in this tick, with two steps and a Tick in each tick between.
+fn two_words(alloc: Global, ticks: u32) -> Result<Vec<Event>, Fail> {
+    let mut run = Vec::new(alloc);
+    run.push(Event::Arrive(0, NORMAL))?;
+    for _tick in 0..ticks {
+        run.push(Event::Route(0))?;
+        run.push(Event::Send(0))?;
+        run.push(Event::Tick)?;
+    }
+    run.push(Event::Arrive(0, NORMAL))?;
+    Ok(run)
+}
+
+#[test]
+fn stream_rests_for_ten_ticks(rt: HostRuntime) -> Result<(), Fail> {
+    let soon = two_words(rt.alloc(), 9)?;
+    assert_eq!(rt; sources_fail(rt.alloc(), SMALL, soon.as_slice())?, Some(29));
+    assert_eq!(rt; budgets_fail(rt.alloc(), SMALL, soon.as_slice())?, None);
+    let late = two_words(rt.alloc(), 10)?;
+    assert_eq!(rt; sources_fail(rt.alloc(), SMALL, late.as_slice())?, None);
+    Ok(())
+}
+
+#[test]
+fn words_that_no_stream_declares_are_no_arrivals(rt: HostRuntime) -> Result<(), Fail> {
+    let even = Event::Arrive(0, Word(0x2000_00C1));
+    let undeclared = Event::Arrive(0, Word(0xE000_0081));
+    let unknown = Event::Arrive(7, NORMAL);
+    let run = [even, even, undeclared, undeclared, unknown, unknown];
+    assert_eq!(rt; sources_fail(rt.alloc(), SMALL, &run)?, None);
+    Ok(())
+}
+
+/// Ticks alone.
+fn ticks_alone(alloc: Global, ticks: u32) -> Result<Vec<Event>, Fail> {
+    let mut run = Vec::new(alloc);
+    for _tick in 0..ticks {
+        run.push(Event::Tick)?;
+    }
+    Ok(run)
+}
+
+#[test]
+fn tick_with_no_step_breaks_the_budgets(rt: HostRuntime) -> Result<(), Fail> {
+    let run = ticks_alone(rt.alloc(), 21)?;
+    assert_eq!(rt; budgets_fail(rt.alloc(), SMALL, run.as_slice())?, Some(1));
+    Ok(())
+}
+
+#[test]
+fn too_many_steps_break_the_budgets(rt: HostRuntime) -> Result<(), Fail> {
+    let spent = [Event::Route(0), Event::Route(0), Event::Route(0)];
+    assert_eq!(rt; budgets_fail(rt.alloc(), SMALL, &spent)?, Some(3));
+    let soon = [Event::Send(0), Event::Send(0)];
+    assert_eq!(rt; budgets_fail(rt.alloc(), SMALL, &soon)?, Some(2));
+    Ok(())
+}
+
+#[test]
+fn two_ticks_hold_a_send(rt: HostRuntime) -> Result<(), Fail> {
+    let run = [Event::Route(0), Event::Tick, Event::Route(0), Event::Tick];
+    assert_eq!(rt; budgets_fail(rt.alloc(), SMALL, &run)?, Some(4));
+    Ok(())
+}
