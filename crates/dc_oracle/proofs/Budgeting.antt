@@ -1,5 +1,5 @@
 -- One more event keeps what is carried of the actors.
-use Rattle.std.proofs.Common.{◌≡◌, ℕ, suc, ◌+◌, ◌≤◌, ◌<◌, ◌==◌, Bool, true, false, cond, leb, Option, Some, None, List, [], ◌∷◌, ◌++◌, length, get_or, set, refl, sym, ap, ◌∙◌, subst, arith, inl, inr, eq-eqb}
+use Rattle.std.proofs.Common.{◌≡◌, ℕ, ◌+◌, ◌≤◌, ◌<◌, Bool, true, false, cond, leb, Option, Some, None, List, [], ◌∷◌, ◌++◌, length, get_or, set, refl, sym, ap, ◌∙◌, subst, arith, inl, inr, eq-eqb}
 use Rattle.std.proofs.lemmas.List.{get_or-set_same, get_or-set_other}
 use Rattle.std.proofs.lemmas.Bool.{cases_eq, ne_eqb}
 use Rattle.dc_bound.specs.Window.{HoldAtMost, count_in, ticks_of}
@@ -9,14 +9,14 @@ use Rattle.dc_tables.specs.TableRows.{TableRows, AreValid, router_row, output_ro
 use Rattle.dc_event.specs.Time.{ends, tick_after, route_of, send_of, route_ticks, send_ticks}
 use Rattle.dc_event.specs.Admissible.{KeepsBudgets}
 use Rattle.dc_event.specs.RunPush.{tick-push, ticks-other, ticks-step, steps-none_later}
-use Rattle.dc_event.specs.BudgetsPush.{rest-same, calm, keeps-step, keeps-nothing, keeps-tick, tick-works_router, tick-works_output}
+use Rattle.dc_event.specs.BudgetsPush.{rest-same, calm, keeps-step, keeps-tick, tick-works_router, tick-works_output}
 use Rattle.dc_event.specs.Works.{Works}
 use Rattle.dc_event.specs.declared.event.Event.{Event}
-use Rattle.dc_event.specs.declared.event.Event.TheVariants.{Tick, Arrive, Route, Send}
+use Rattle.dc_event.specs.declared.event.Event.TheVariants.{Tick, Route, Send}
 use Rattle.dc_event.specs.declared.event.Actor.TheVariants as A
 use Rattle.dc_oracle.specs.declared.budgets.BudgetWatch.{BudgetWatch}
 use Rattle.dc_oracle.specs.Fresh.{AllMade}
-use Rattle.dc_oracle.specs.History.{UpTo, held, lacking}
+use Rattle.dc_oracle.specs.History.{held, lacking}
 use Rattle.dc_oracle.specs.Budgets.{Watches, RoutersLack, OutputsLack}
 use Rattle.dc_oracle.proofs.Histories.{picked-up_to, held-recent, works-on, works-not}
 

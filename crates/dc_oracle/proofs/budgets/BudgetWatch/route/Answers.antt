@@ -1,10 +1,9 @@
-use Rattle.std.proofs.Common.{◌≡◌, ℕ, ◌≤◌, ◌<◌, ◌∙◌, Bool, [], ◌∷◌, ◌++◌, leb, length, sym, ap, refl, arith}
+use Rattle.std.proofs.Common.{◌<◌, ◌∙◌, [], ◌∷◌, ◌++◌, length, sym, ap, refl, arith}
 use Rattle.std.proofs.lemmas.List.{get_or_read}
 use Rattle.std.proofs.lemmas.Bool.{leb-true, leb-false}
-use Rattle.dc_bound.specs.Recent.{recent}
 use Rattle.dc_tables.specs.TableRows.{router_row}
 use Rattle.dc_tables.specs.declared.rows.Router.{Router}
-use Rattle.dc_event.specs.Time.{tick_after, route_of, route_ticks}
+use Rattle.dc_event.specs.Time.{route_of}
 use Rattle.dc_oracle.specs.History.{held}
 use Rattle.dc_oracle.proofs.Budgeting.{watches-unknown_router, route-breaks, tested, watches-route}
 use Rattle.dc_oracle.proofs.budgets.BudgetWatch.route.Goals as goal

@@ -1,4 +1,4 @@
-use Rattle.std.proofs.Common.{◌≡◌, ℕ, ◌≤◌, ◌<◌, ◌∙◌, Bool, [], ◌∷◌, ◌++◌, leb, length, sym, ap, refl, arith}
+use Rattle.std.proofs.Common.{◌<◌, ◌∙◌, [], ◌∷◌, ◌++◌, length, sym, ap, refl, arith}
 use Rattle.std.proofs.lemmas.List.{get_or_read}
 use Rattle.std.proofs.lemmas.Bool.{leb-true, leb-false}
 use Rattle.dc_tables.specs.TableRows.{output_row}

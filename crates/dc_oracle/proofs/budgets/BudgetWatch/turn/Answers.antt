@@ -1,5 +1,4 @@
 use Rattle.std.proofs.Common.{◌+◌, true, false, refl}
-use Rattle.dc_oracle.specs.declared.budgets.BudgetWatch.{BudgetWatch}
 use Rattle.dc_oracle.specs.Budgets.{RoutersLack, OutputsLack}
 use Rattle.dc_oracle.proofs.Budgeting.{tick-breaks_router, tick-breaks_output, watches-tick}
 use Rattle.dc_oracle.proofs.budgets.BudgetWatch.turn.Goals as goal
