@@ -2,16 +2,18 @@
 
 mod broken;
 
-use dc_tables::{
-    BuildError, Bus, BusPart, Code, Entry, LabelPart, Name, OutputPart, ParameterPart, Parts,
-    RouterPart, Section, Speed, Stream, StreamPart, TableFault, Tables,
-};
 use broken::{
     AT_THE_LIMITS, BREAKING_TWO_RULES, BREAKING_TWO_SHAPES, BY_PARAMETERS_AND_NAMES, BY_REFERENCES,
     BY_SCHEDULES, OUT_OF_SHAPE,
 };
+use dc_bound::{ArrivalBound, ServiceBound};
+use dc_tables::{
+    BuildError, Bus, BusPart, Code, Entry, LabelPart, Name, OutputPart, ParameterPart, Parts,
+    RouterPart, Section, Speed, Stream, StreamPart, TableFault, Tables,
+};
 use dc_word::{Format, Label, Sdi, Word};
 use std::alloc::Global;
+use std::process::Abort;
 use std::test::Fail;
 
 #[derive(Clone, Copy)]
@@ -380,61 +382,81 @@ fn limits_and_totals_come_before_doubled_names(rt: HostRuntime) -> Result<(), Fa
     Ok(())
 }
 
-#[test]
-fn small_tables_have_their_rows(rt: HostRuntime) -> Result<(), Fail> {
-    let alloc = rt.alloc();
-    let tables = Tables::build(alloc, parts_of(alloc, SMALL)?)?;
+// The small tables.
+fn small(alloc: Global) -> Result<Tables, Fail> {
+    let parts = parts_of(alloc, SMALL)?;
+    Ok(Tables::build(alloc, parts)?)
+}
+
+fn assert_bus(rt: &impl Abort, tables: &Tables) {
     assert_eq!(rt; tables.tick_us(), 1000);
     assert_eq!(rt; tables.bus_count(), 1);
-    assert_eq!(rt;
-        *tables.bus(0),
-        Bus {
-            queue: 2,
-            spacing: 350,
-            first: 0,
-            streams: 2,
-            router: 0
-        }
-    );
+    let wanted = Bus {
+        queue: 2,
+        spacing: 350,
+        first: 0,
+        streams: 2,
+        router: 0,
+    };
+    assert_eq!(rt; *tables.bus(0), wanted);
     assert_eq!(rt; tables.queue(0), 2);
+}
+
+fn assert_stream(rt: &impl Abort, tables: &Tables, label: Label) {
     assert_eq!(rt; tables.stream_count(), 2);
-    assert_eq!(rt;
-        *tables.stream(1),
-        Stream {
-            bus: 0,
-            label: label(0o204)?,
-            sdi: None,
-            minimum: 10,
-            maximum: 20
-        }
-    );
+    let wanted = Stream {
+        bus: 0,
+        label,
+        sdi: None,
+        minimum: 10,
+        maximum: 20,
+    };
+    assert_eq!(rt; *tables.stream(1), wanted);
     assert_eq!(rt; tables.bus_of(1), 0);
+}
+
+fn assert_router(rt: &impl Abort, tables: &Tables) {
     assert_eq!(rt; tables.router_count(), 1);
     let router = tables.router(0);
     assert_eq!(rt; (router.steps, router.within, router.most), (1, 1, 2));
     assert_eq!(rt; router.visits.as_slice(), [0].as_slice());
+    assert_eq!(rt; router.visits.len(), 1);
+    assert!(rt; !router.visits.is_empty());
     assert_eq!(rt; tables.visit(0, 5), (0, 0));
-    Ok(())
 }
 
 #[test]
-fn small_tables_have_their_output(rt: HostRuntime) -> Result<(), Fail> {
-    let alloc = rt.alloc();
-    let tables = Tables::build(alloc, parts_of(alloc, SMALL)?)?;
+fn small_tables_have_their_rows(rt: HostRuntime) -> Result<(), Fail> {
+    let second = label(0o204)?;
+    let tables = small(rt.alloc())?;
+    tables.valid();
+    assert_bus(&rt, &tables);
+    assert_stream(&rt, &tables, second);
+    assert_router(&rt, &tables);
+    Ok(())
+}
+
+fn assert_output(rt: &impl Abort, tables: &Tables) {
     assert_eq!(rt; tables.output_count(), 1);
     let output = tables.output(0);
     assert_eq!(rt;
         (output.steps, output.within, output.gap, output.frame),
         (1, 2, 1, 15)
     );
-    assert_eq!(rt;
-        output.entries.as_slice(),
-        [Entry {
-            offset: 0,
-            label: 0
-        }]
-        .as_slice()
-    );
+    assert_eq!(rt; output.entries.len(), 1);
+    assert!(rt; !output.entries.is_empty());
+}
+
+fn assert_entries(rt: &impl Abort, tables: &Tables) {
+    assert_eq!(rt; tables.output_count(), 1);
+    let entry = Entry {
+        offset: 0,
+        label: 0,
+    };
+    assert_eq!(rt; tables.output(0).entries.as_slice(), [entry].as_slice());
+}
+
+fn assert_label(rt: &impl Abort, tables: &Tables) {
     assert_eq!(rt; tables.label_count(), 1);
     let row = tables.label(0);
     assert_eq!(rt;
@@ -447,28 +469,202 @@ fn small_tables_have_their_output(rt: HostRuntime) -> Result<(), Fail> {
         (22, 30, 11, 19)
     );
     assert_eq!(rt; row.format, Format::Bnr);
+}
+
+#[test]
+fn small_tables_have_their_output(rt: HostRuntime) -> Result<(), Fail> {
+    let tables = small(rt.alloc())?;
+    assert_output(&rt, &tables);
+    assert_entries(&rt, &tables);
+    assert_label(&rt, &tables);
+    Ok(())
+}
+
+fn assert_word(rt: &impl Abort, tables: &Tables, bus: usize, word: Word, wanted: Option<usize>) {
+    assert_eq!(rt; tables.stream_of(bus, word), wanted);
+}
+
+#[test]
+fn words_are_found_on_their_bus(rt: HostRuntime) -> Result<(), Fail> {
+    let word = Word::compose(label(0o204)?, sdi(3)?, 7, 3);
+    let other = Word::compose(label(0o205)?, sdi(3)?, 7, 3);
+    let tables = small(rt.alloc())?;
+    assert_word(&rt, &tables, 0, word, Some(1));
+    assert_word(&rt, &tables, 0, other, None);
+    assert_word(&rt, &tables, 1, word, None);
+    Ok(())
+}
+
+fn assert_declares(rt: &impl Abort, tables: &Tables, word: Word) {
+    assert_eq!(rt; tables.bus_count(), 1);
+    let streams = tables.bus_streams(0);
+    assert_eq!(rt; streams.len(), 2);
+    assert!(rt; streams[0].declares(0, word));
+    assert!(rt; !streams[1].declares(0, word));
+    assert!(rt; !streams[0].declares(1, word));
+}
+
+#[test]
+fn streams_declare_their_words(rt: HostRuntime) -> Result<(), Fail> {
+    let word = Word::compose(label(0o203)?, sdi(1)?, 7, 3);
+    let tables = small(rt.alloc())?;
+    assert_declares(&rt, &tables, word);
+    Ok(())
+}
+
+fn assert_numbers(rt: &impl Abort, tables: &Tables, name: Name, wanted: [Option<usize>; 5]) {
+    assert_eq!(rt; tables.bus_named(&name), wanted[0]);
+    assert_eq!(rt; tables.stream_named(&name), wanted[1]);
+    assert_eq!(rt; tables.router_named(&name), wanted[2]);
+    assert_eq!(rt; tables.output_named(&name), wanted[3]);
+    assert_eq!(rt; tables.label_named(&name), wanted[4]);
+}
+
+#[test]
+fn names_are_found_within_their_kind(rt: HostRuntime) -> Result<(), Fail> {
+    let names = [
+        name("A")?,
+        name("A-204")?,
+        name("R1")?,
+        name("O")?,
+        name("x")?,
+    ];
+    let tables = small(rt.alloc())?;
+    assert_numbers(&rt, &tables, names[0], [Some(0), None, None, None, None]);
+    assert_numbers(&rt, &tables, names[1], [None, Some(1), None, None, None]);
+    assert_numbers(&rt, &tables, names[2], [None, None, Some(0), None, None]);
+    assert_numbers(&rt, &tables, names[3], [None, None, None, Some(0), None]);
+    assert_numbers(&rt, &tables, names[4], [None, None, None, None, Some(0)]);
+    Ok(())
+}
+
+fn assert_names(rt: &impl Abort, tables: &Tables) {
+    assert_eq!(rt; tables.bus_count(), 1);
+    assert_eq!(rt; tables.bus_name(0).text(), b"A".as_slice());
+    assert_eq!(rt; tables.stream_count(), 2);
+    assert_eq!(rt; tables.stream_name(1).text(), b"A-204".as_slice());
+    assert_eq!(rt; tables.router_count(), 1);
+    assert_eq!(rt; tables.router_name(0).text(), b"R1".as_slice());
+}
+
+fn assert_output_names(rt: &impl Abort, tables: &Tables) {
+    assert_eq!(rt; tables.output_count(), 1);
+    assert_eq!(rt; tables.output_name(0).text(), b"O".as_slice());
+    assert_eq!(rt; tables.label_count(), 1);
+    assert_eq!(rt; tables.label_name(0).text(), b"x".as_slice());
+}
+
+#[test]
+fn rows_have_their_names(rt: HostRuntime) -> Result<(), Fail> {
+    let tables = small(rt.alloc())?;
+    tables.keyed();
+    assert_names(&rt, &tables);
+    assert_output_names(&rt, &tables);
     Ok(())
 }
 
 #[test]
-fn words_and_names_are_found(rt: HostRuntime) -> Result<(), Fail> {
+fn names_keep_their_text(rt: HostRuntime) -> Result<(), Fail> {
+    assert_eq!(rt;
+        name("Aa-0_9zZAa-0_9zZ")?.text(),
+        b"Aa-0_9zZAa-0_9zZ".as_slice()
+    );
+    assert_eq!(rt; name("7")?.text(), b"7".as_slice());
+    for text in ["", "Aa-0_9zZAa-0_9zZ1", "A 1", "A.", "\u{e9}"] {
+        assert!(rt; Name::new(text.as_bytes()).is_none(), "{text}");
+    }
+    Ok(())
+}
+
+// What the first bus may bring in so many ticks.
+fn assert_cap(rt: &impl Abort, tables: &Tables, ticks: u32, cap: u64) {
+    assert!(rt; tables.bus_count() == 1 && ticks <= 1_000_000);
+    assert_eq!(rt; tables.bus_bound(0).at_most(ticks), cap);
+}
+
+// How often the first bus is visited.
+fn assert_floor(rt: &impl Abort, tables: &Tables, ticks: u32, floor: u64) {
+    assert!(rt; tables.bus_count() == 1 && ticks <= 1_000_000);
+    assert_eq!(rt; tables.bus_service(0).at_least(ticks), floor);
+}
+
+// What falls due at the first output, and what it sends.
+fn assert_sends(rt: &impl Abort, tables: &Tables, ticks: u32, due: u64, sent: u64) {
+    assert!(rt; tables.output_count() == 1 && ticks <= 1_000_000);
+    assert_eq!(rt; tables.output_bound(0).at_most(ticks), due);
+    assert_eq!(rt; tables.output_service(0).at_least(ticks), sent);
+}
+
+#[test]
+fn a_bus_has_its_bounds(rt: HostRuntime) -> Result<(), Fail> {
+    let tables = small(rt.alloc())?;
+    for (ticks, cap, floor) in [(0, 0, 0), (1, 2, 1), (10, 2, 10), (11, 4, 11), (21, 6, 21)] {
+        assert_cap(&rt, &tables, ticks, cap);
+        assert_floor(&rt, &tables, ticks, floor);
+    }
+    Ok(())
+}
+
+#[test]
+fn an_output_has_its_bounds(rt: HostRuntime) -> Result<(), Fail> {
+    let tables = small(rt.alloc())?;
+    for (ticks, due, sent) in [(0, 0, 0), (1, 1, 0), (2, 1, 1), (15, 1, 7), (16, 2, 8)] {
+        assert_sends(&rt, &tables, ticks, due, sent);
+    }
+    Ok(())
+}
+
+const WITH_A_SLOW_BUS: Rows = Rows {
+    buses: &[BusRow {
+        speed: Speed::Low,
+        ..A
+    }],
+    ..SMALL
+};
+
+// A slow wire brings fewer words than its streams may.
+#[test]
+fn a_slow_wire_bounds_its_bus(rt: HostRuntime) -> Result<(), Fail> {
     let alloc = rt.alloc();
-    let tables = Tables::build(alloc, parts_of(alloc, SMALL)?)?;
-    let word = Word::compose(label(0o204)?, sdi(3)?, 7, 3);
-    let other = Word::compose(label(0o205)?, sdi(3)?, 7, 3);
-    assert_eq!(rt; tables.stream_of(0, word), Some(1));
-    assert_eq!(rt; tables.stream_of(0, other), None);
-    assert_eq!(rt; tables.stream_of(1, word), None);
-    let wanted = [name("A")?, name("R1")?, name("O")?];
-    assert_eq!(rt; wanted.map(|n| tables.bus_named(&n)), [Some(0), None, None]);
+    let tables = Tables::build(alloc, parts_of(alloc, WITH_A_SLOW_BUS)?)?;
+    for (ticks, cap) in [(0, 0), (1, 1), (2, 1), (3, 2), (11, 4)] {
+        assert_cap(&rt, &tables, ticks, cap);
+    }
+    Ok(())
+}
+
+#[test]
+fn a_fault_has_its_texts(rt: HostRuntime) -> Result<(), Fail> {
+    let fault = TableFault {
+        code: Code::T16,
+        section: Section::Router,
+        index: 3,
+    };
+    assert_eq!(rt; fault.code.text(), "T16");
+    assert_eq!(rt; fault.section.text(), "router");
+    let words = format!(in rt.alloc(); "{fault}")?;
     assert_eq!(rt;
-        wanted.map(|n| tables.router_named(&n)),
-        [None, Some(0), None]
+        words.as_str(),
+        "visits or sources hold a name that is not there (at router 3)"
     );
     assert_eq!(rt;
-        wanted.map(|n| tables.output_named(&n)),
-        [None, None, Some(0)]
+        Code::T02.explanation(),
+        "`version` is absent or not the number 1"
     );
+    Ok(())
+}
+
+#[test]
+fn parts_count_what_they_hold(rt: HostRuntime) -> Result<(), Fail> {
+    let parts = parts_of(rt.alloc(), SMALL)?;
+    parts.in_order();
+    assert_eq!(rt; parts.tick_us(), 1000);
+    assert_eq!(rt; parts.parameter_count(), 2);
+    assert_eq!(rt; parts.bus_count(), 1);
+    assert_eq!(rt; parts.stream_count(), 2);
+    assert_eq!(rt; parts.router_count(), 1);
+    assert_eq!(rt; parts.output_count(), 1);
+    assert_eq!(rt; parts.label_count(), 1);
     Ok(())
 }
 
@@ -510,22 +706,19 @@ fn parts_of_64_buses(alloc: Global) -> Result<Parts, Fail> {
     Ok(parts)
 }
 
-#[test]
-fn tables_of_64_buses(rt: HostRuntime) -> Result<(), Fail> {
-    let alloc = rt.alloc();
-    let tables = Tables::build(alloc, parts_of_64_buses(alloc)?)?;
+fn assert_many(rt: &impl Abort, tables: &Tables, name: Name) {
     assert_eq!(rt; tables.bus_count(), 64);
     assert_eq!(rt; tables.bus(63).router, 63);
     assert_eq!(rt; tables.bus(63).first, 126);
-    assert_eq!(rt; tables.router_named(&name("R63")?), Some(63));
-    assert_eq!(rt;
-        (
-            tables.stream_count(),
-            tables.router_count(),
-            tables.output_count(),
-            tables.label_count()
-        ),
-        (128, 64, 1, 1)
-    );
+    assert_eq!(rt; tables.router_named(&name), Some(63));
+}
+
+#[test]
+fn tables_of_64_buses(rt: HostRuntime) -> Result<(), Fail> {
+    let alloc = rt.alloc();
+    let last = name("R63")?;
+    let tables = Tables::build(alloc, parts_of_64_buses(alloc)?)?;
+    assert_many(&rt, &tables, last);
+    assert_eq!(rt; tables.stream_count(), 128);
     Ok(())
 }
