@@ -1,0 +1,11 @@
+//! Trials of the engines behind the commands: whole texts of tables, certificates and traces in, lines and status out.
+#![tactic(auto)]
+
+#[cfg(test)]
+mod asking;
+#[cfg(test)]
+mod conditions;
+#[cfg(test)]
+mod large;
+#[cfg(test)]
+mod small;
