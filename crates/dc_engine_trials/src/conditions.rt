@@ -8,7 +8,7 @@ use std::rt::HostRuntime;
 use std::test::Fail;
 
 /// Checks the certificate of each row `name=value ..|line`: this line is written.
-fn judges(rt: &impl Abort, alloc: Global, rows: &str) -> Result<(), Fail> {
+pub fn judges(rt: &impl Abort, alloc: Global, rows: &str) -> Result<(), Fail> {
     for row in rows.lines() {
         let (values, want) = row.split_once('|').ok_or("no line in a row")?;
         let mut tables = String::new(alloc);

@@ -4,8 +4,12 @@
 #[cfg(test)]
 mod asking;
 #[cfg(test)]
+mod certificates;
+#[cfg(test)]
 mod conditions;
 #[cfg(test)]
 mod large;
+#[cfg(test)]
+mod replays;
 #[cfg(test)]
 mod small;
