@@ -67,11 +67,12 @@ pub struct Failing {
     pub push: u64,
 }
 
-/// Replays a trace with all replies in pieces of this size, onto a sink with this room, where some calls fail: this is
-/// written, and this is the status.
+/// Replays a trace in pieces of this size, onto a sink with this room, where some calls fail: this is written, and this
+/// is the status.
 pub fn replay_says(
     rt: &impl Abort,
     alloc: Global,
+    all: bool,
     texts: [&[u8]; 2],
     piece: usize,
     room: usize,
@@ -83,7 +84,7 @@ pub fn replay_says(
     let mut sink = MemSink::new(alloc, room, failing.push)?;
     let mut tables = MemSource::new(tables, piece.max(1), failing.tables);
     let mut trace = MemSource::new(trace, piece.max(1), failing.trace);
-    let status = run_replay(alloc, true, &mut tables, &mut trace, &mut sink);
+    let status = run_replay(alloc, all, &mut tables, &mut trace, &mut sink);
     assert_eq!(rt; sink.bytes(), want, "in pieces of {piece}");
     assert_eq!(rt; status, want_status, "in pieces of {piece}");
     Ok(())

@@ -12,6 +12,16 @@ const NONE: Failing = Failing {
     push: 0,
 };
 
+/// A word of no use from the first source, and a usable one from the second.
+const BOTH: &str = "A A A00000C1\nA B FFFFFCC1\nR R1\nR R1\nS O\n";
+
+/// What is told of it without all replies.
+const SENT: &str = "0 O FFFFFCC1\n";
+
+/// Each reply.
+const EACH: &str =
+    "0 A queued 1\n0 B queued 1\n0 R1 took A A00000C1\n0 R1 took B FFFFFCC1\n0 O FFFFFCC1\n";
+
 #[test]
 fn a_usable_second_source_is_sent(rt: HostRuntime) -> Result<(), Fail> {
     let mut tables = String::new(rt.alloc());
@@ -20,19 +30,19 @@ fn a_usable_second_source_is_sent(rt: HostRuntime) -> Result<(), Fail> {
         "buses=2 visits=\"A\",\"B\" sources=\"A-203\",\"B-203\"",
     )?;
     for piece in [1, 7, 64, 4096] {
-        replay_says(
-            &rt,
-            rt.alloc(),
-            [
-                tables.as_bytes(),
-                b"A A A00000C1\nA B FFFFFCC1\nR R1\nR R1\nS O\n",
-            ],
-            piece,
-            1000,
-            NONE,
-            b"0 A queued 1\n0 B queued 1\n0 R1 took A A00000C1\n0 R1 took B FFFFFCC1\n0 O FFFFFCC1\n",
-            0,
-        )?;
+        for (all, want) in [(false, SENT), (true, EACH)] {
+            replay_says(
+                &rt,
+                rt.alloc(),
+                all,
+                [tables.as_bytes(), BOTH.as_bytes()],
+                piece,
+                1000,
+                NONE,
+                want.as_bytes(),
+                0,
+            )?;
+        }
     }
     Ok(())
 }
@@ -86,6 +96,7 @@ fn each_pull_of_the_tables_fails_in_turn(rt: HostRuntime) -> Result<(), Fail> {
         replay_says(
             &rt,
             rt.alloc(),
+            true,
             [tables.as_bytes(), TRACE.as_bytes()],
             64,
             1000,
@@ -114,6 +125,7 @@ fn each_pull_of_the_trace_fails_in_turn(rt: HostRuntime) -> Result<(), Fail> {
         replay_says(
             &rt,
             rt.alloc(),
+            true,
             [tables.as_bytes(), TRACE.as_bytes()],
             1,
             1000,
@@ -142,6 +154,7 @@ fn nothing_follows_a_failed_push(rt: HostRuntime) -> Result<(), Fail> {
         replay_says(
             &rt,
             rt.alloc(),
+            true,
             [tables.as_bytes(), TRACE.as_bytes()],
             1,
             1000,
@@ -167,6 +180,7 @@ fn nothing_follows_a_failed_push_of_the_failure(rt: HostRuntime) -> Result<(), F
         replay_says(
             &rt,
             rt.alloc(),
+            true,
             [tables.as_bytes(), TRACE.as_bytes()],
             1,
             1000,
@@ -188,6 +202,7 @@ fn a_full_sink_holds_the_front_of_the_replies(rt: HostRuntime) -> Result<(), Fai
             replay_says(
                 &rt,
                 rt.alloc(),
+                true,
                 [tables.as_bytes(), TRACE.as_bytes()],
                 piece,
                 front.len(),
