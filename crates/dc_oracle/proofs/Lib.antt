@@ -3,3 +3,7 @@ pub mod Wires
 pub mod Places
 pub mod Sourcing
 pub mod Budgeting
+pub mod Logs
+pub mod Entries
+pub mod Replying
+pub mod Choosing

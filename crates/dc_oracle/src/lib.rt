@@ -3,9 +3,11 @@
 #![tactic(auto)]
 
 mod budgets;
+mod bus_log;
 #[cfg(test)]
 mod fixture;
 mod history;
+mod replies;
 mod sources;
 mod steady_run;
 #[cfg(test)]
@@ -13,5 +15,6 @@ mod tests;
 mod wire;
 
 pub use budgets::keeps_budgets;
+pub use replies::outputs;
 pub use sources::keeps_sources;
 pub use steady_run::steady;

@@ -1,8 +1,8 @@
 //! Recorded runs, and what the definitions say to them.
 
-use crate::fixture::{LARGEST, Plan, SMALL, tables_of};
-use crate::{keeps_budgets, keeps_sources, steady};
-use dc_event::Event;
+use crate::fixture::{LARGEST, Plan, SMALL, label, tables_of};
+use crate::{keeps_budgets, keeps_sources, outputs, steady};
+use dc_event::{Event, Reply};
 use dc_word::Word;
 use std::alloc::Global;
 use std::test::Fail;
@@ -129,5 +129,74 @@ fn too_many_steps_break_the_budgets(rt: HostRuntime) -> Result<(), Fail> {
 fn two_ticks_hold_a_send(rt: HostRuntime) -> Result<(), Fail> {
     let run = [Event::Route(0), Event::Tick, Event::Route(0), Event::Tick];
     assert_eq!(rt; budgets_fail(rt.alloc(), SMALL, &run)?, Some(4));
+    Ok(())
+}
+
+/// What should have come out of a run of these tables.
+fn outputs_of(alloc: Global, plan: Plan, run: &[Event]) -> Result<Vec<Reply>, Fail> {
+    let tables = tables_of(alloc, plan)?;
+    Ok(outputs(alloc, &tables, run)?)
+}
+
+/// The word of label 203 that leaves where there is no source.
+const FALLBACK: Word = Word(0xA000_00C1);
+
+#[test]
+fn steady_tick_sends_the_fallback(rt: HostRuntime) -> Result<(), Fail> {
+    let run = steady_run(rt.alloc(), SMALL, 1)?;
+    let told = outputs_of(rt.alloc(), SMALL, run.as_slice())?;
+    let wanted = [
+        Reply::Empty(0),
+        Reply::Empty(0),
+        Reply::Sent(label(0o203)?, FALLBACK),
+        Reply::Now(1),
+    ];
+    assert_eq!(rt; told.as_slice(), wanted.as_slice());
+    Ok(())
+}
+
+#[test]
+fn fresh_word_is_copied(rt: HostRuntime) -> Result<(), Fail> {
+    let run = [
+        Event::Arrive(0, NORMAL),
+        Event::Route(0),
+        Event::Send(0),
+        Event::Send(0),
+    ];
+    let told = outputs_of(rt.alloc(), SMALL, &run)?;
+    let wanted = [
+        Reply::Queued(1),
+        Reply::Took(0, NORMAL),
+        Reply::Sent(label(0o203)?, NORMAL),
+        Reply::Idle,
+    ];
+    assert_eq!(rt; told.as_slice(), wanted.as_slice());
+    Ok(())
+}
+
+#[test]
+fn overrun_latches_the_bus(rt: HostRuntime) -> Result<(), Fail> {
+    let run = [
+        Event::Arrive(0, Word(0x2000_00C1)),
+        Event::Arrive(0, Word(0xE000_0081)),
+        Event::Arrive(0, NORMAL),
+        Event::Arrive(0, OTHER),
+        Event::Arrive(0, NORMAL),
+        Event::Route(0),
+        Event::Arrive(0, NORMAL),
+        Event::Send(0),
+    ];
+    let told = outputs_of(rt.alloc(), SMALL, &run)?;
+    let wanted = [
+        Reply::BadParity,
+        Reply::Undeclared,
+        Reply::Queued(1),
+        Reply::Queued(2),
+        Reply::Overrun,
+        Reply::Took(0, NORMAL),
+        Reply::Latched,
+        Reply::Sent(label(0o203)?, FALLBACK),
+    ];
+    assert_eq!(rt; told.as_slice(), wanted.as_slice());
     Ok(())
 }

@@ -1,0 +1,27 @@
+use Rattle.std.proofs.Common.{◌≡◌, ◌<◌, ◌∙◌, ℕ, true, length, sym, refl, subst, arith}
+use Rattle.std.proofs.lemmas.List.{get_or_read}
+use Rattle.dc_word.specs.Word.{is_odd}
+use Rattle.dc_event.specs.Buses.{moves, room}
+use Rattle.dc_oracle.specs.BusData.{BusData}
+use Rattle.dc_oracle.specs.BusLog.{IsLog, Received, no_log}
+use Rattle.dc_oracle.proofs.Entries.{map_ok}
+use Rattle.dc_oracle.proofs.Replying.{replies-even, replies-undeclared, replies-arrive}
+use Rattle.dc_oracle.proofs.replies.ReplyWatch.arrive.Goals as goal
+
+pub returns-then-not-is_odd-clause-reply : goal.returns-then-not-is_odd-clause-reply
+returns-then-not-is_odd-clause-reply c = λ run h l. replies-even _ _ run c.args.bus c.args.word (sym c.is_odd.ensures.test ∙ c.if-not-is_odd.true) h
+
+pub returns-in_default-clause-reply : goal.returns-in_default-clause-reply
+returns-in_default-clause-reply c = λ run h l. replies-undeclared _ _ run c.args.bus c.args.word (sym c.is_odd.ensures.test ∙ c.if-not-is_odd.false) (sym c.in_default.ensures.stream) h
+
+pub returns-clause-reply : goal.returns-clause-reply
+returns-clause-reply c = λ run h l.
+    let odd : is_odd c.args.word ≡ true = sym c.is_odd.ensures.test ∙ c.if-not-is_odd.false in
+    let there : c.args.bus < length c.args.self.now.buses.items = omega (arith, c.if-bus-len.false, c.len.ensures) in
+    let read = get_or_read c.args.self.now.buses.items c.args.bus c.index_mut.result.now there c.index_mut.ensures.value no_log in
+    let P : BusData → Type 0 = λ d. IsLog (room c.args.tables.now c.args.bus) d (moves c.args.tables.now c.args.bus run) in
+    let Q : ℕ → Type 0 = λ n. IsLog n c.index_mut.result.now (moves c.args.tables.now c.args.bus run) in
+    map_ok c.receive.result (Received c.queue-room.result c.receive.new.self (moves c.args.tables.now c.args.bus run) (c.in-Some.stream, c.args.word)) _
+    (λ reply got. (let G : ℕ → Type 0 = λ n. Received n c.receive.new.self (moves c.args.tables.now c.args.bus run) (c.in-Some.stream, c.args.word) reply in
+    replies-arrive c.args.tables.now c.args.self.now _ run c.args.bus c.args.word c.in-Some.stream c.receive.new.self reply there odd (sym c.in-Some.ensures.stream) (subst G c.queue-room.ensures got) refl refl refl refl refl h))
+    (c.receive.ensures (moves c.args.tables.now c.args.bus run) (subst Q (sym c.queue-room.ensures) (subst P (sym read) (h.logs c.args.bus l))))

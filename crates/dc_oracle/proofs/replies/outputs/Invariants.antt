@@ -1,0 +1,13 @@
+use Rattle.std.proofs.Common.{◌≡◌, ◌≤◌, take}
+use Rattle.dc_event.specs.Replies.{outputs_of}
+use Rattle.dc_event.specs.Admissible.{IsRun}
+use Rattle.dc_oracle.specs.Replies.{IsSized, Holds}
+use Rattle.dc_oracle.proofs.replies.outputs.Given as goal
+
+abbrev pub invariant-loop-event : goal.invariant-loop-event
+invariant-loop-event l = record {
+  sized : IsSized l.tables l.watch;
+  early : l.watch.tick ≤ l.event-index;
+  holds : IsRun l.tables l.run → Holds l.tables l.watch (take l.event-index l.run);
+  replies : IsRun l.tables l.run → l.replies.items ≡ outputs_of l.tables (take l.event-index l.run);
+}

@@ -1,0 +1,29 @@
+-- What is carried along the moves of a bus.
+use Rattle.std.specs.Prelude.{◌≡◌, ℕ, ◌-◌, if◌then◌else◌, false, is_some, List, [], ◌∷◌, ◌++◌, length}
+use Rattle.dc_bound.specs.Moves.{Move, latch, entered, taken}
+use Rattle.dc_bound.specs.Moves.Move.{In}
+use Rattle.dc_event.specs.declared.event.Reply.{Reply}
+use Rattle.dc_event.specs.declared.event.Reply.TheVariants.{Queued, Overrun, Latched}
+use Rattle.dc_oracle.specs.BusData.{BusData}
+
+-- a bus that brought nothing
+abbrev pub no_log : BusData
+no_log = record { words = []; taken = 0; latched = false }
+
+-- the log holds what entered the queue, how much of it was taken, and whether the bus has latched
+pub record IsLog (room : ℕ) (log : BusData) (ms : List Move) : Type 0 where
+  pub words : log.words ≡ entered room ms
+  pub count : log.taken ≡ taken room ms
+  pub flag : log.latched ≡ is_some (latch room ms)
+
+-- the reply of a queue to a declared word
+abbrev pub queue_reply : ℕ → List Move → ℕ × ℕ → Reply
+queue_reply room ms x =
+    if is_some (latch room ms) then Latched
+    else if is_some (latch room (ms ++ In x ∷ [])) then Overrun
+    else Queued (length (entered room (ms ++ In x ∷ [])) - taken room (ms ++ In x ∷ []))
+
+-- the log with the word, and the reply
+pub record Received (room : ℕ) (new : BusData) (ms : List Move) (x : ℕ × ℕ) (r : Reply) : Type 0 where
+  pub holds : IsLog room new (ms ++ In x ∷ [])
+  pub answer : r ≡ queue_reply room ms x

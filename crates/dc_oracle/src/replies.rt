@@ -1,0 +1,261 @@
+ghost use Rattle.std.specs.Prelude.{◌≡◌, ℕ, ◌+◌, ◌-◌, ◌<◌, ◌≤◌, ◌^◌, min, List, [], length, filter, slice_set, Some, None, IfOk};
+ghost use Rattle.dc_tables.specs.TableRows.{label_row};
+ghost use Rattle.dc_event.specs.Runs.{due_tick, entry_label, head, choice, word_for, outputs_of};
+ghost use Rattle.dc_event.specs.Admissible.{IsRun, IsNumbered};
+ghost use Rattle.dc_oracle.specs.Fresh.{AllMade};
+ghost use Rattle.dc_oracle.specs.Replies.{is_wanted};
+
+use crate::bus_log::{BusLog, no_logs};
+use dc_event::{Event, Reply};
+use dc_tables::Tables;
+use dc_word::Word;
+use std::alloc::{AllocError, Global};
+
+/// What came of the run so far: the tick, the log of each bus, the latest word of each stream with the tick in which it
+/// was routed, each router's place in its list of visits, and how many entries of each output have left.
+#[derive(Drop)]
+pub struct ReplyWatch {
+    tick: u64,
+    buses: Vec<BusLog>,
+    latest: Vec<Option<((usize, Word), u64)>>,
+    cursors: Vec<usize>,
+    sent: Vec<u64>,
+}
+
+/// So many of the same value.
+fn all_of<T: Copy>(alloc: Global, count: usize, value: T) -> Result<Vec<T>, AllocError>
+    ensures { IfOk result (λ v. AllMade (λ _. value) value count v.items) }
+{
+    let mut values = Vec::new(alloc);
+    for _number in 0..count {
+        values.push(value)?;
+    }
+    Ok(values)
+}
+
+/// The label of the output's entry of this number, from 0, and the tick in which it is due, at most 2^64 - 1.
+fn entry(tables: &Tables, output: usize, number: u64) -> (usize, u64)
+    requires { output < length tables.now.outputs }
+    ensures label { result.0 ≡ entry_label tables.now output number }
+    ensures there { result.0 < length tables.now.labels }
+    ensures due { result.1 ≡ min (due_tick tables.now output number) (2 ^ 64 - 1) }
+{
+    tables.valid();
+    let row = tables.output(output);
+    let entries = row.entries.as_slice();
+    let len = entries.len() as u64;
+    let entry = entries[(number % len) as usize];
+    let frames = (number / len).saturating_mul(row.frame as u64);
+    (entry.label, frames.saturating_add(entry.offset as u64))
+}
+
+/// The word that the label sends for its choice: a copy, or its fallback.
+fn word_for(tables: &Tables, label: usize, choice: Option<(usize, Word)>) -> Word
+    requires { label < length tables.now.labels }
+    ensures { result ≡ word_for tables.now label choice }
+{
+    let row = tables.label(label);
+    match choice {
+        Some((_, word)) => Word::copy_as(word, row.label, row.sdi),
+        None => Word::fallback(row.label, row.sdi),
+    }
+}
+
+/// Keeps a word of the stream as its latest, routed in this tick.
+fn note(latest: &mut Vec<Option<((usize, Word), u64)>>, stream: usize, word: Word, tick: u64)
+    ensures { latest.new.items ≡ slice_set latest.old.items stream (Some ((stream, word), tick)) }
+{
+    if stream < latest.len() {
+        latest[stream] = Some(((stream, word), tick));
+    }
+}
+
+impl ReplyWatch {
+    ghost use Rattle.dc_oracle.specs.Replies.{IsSized, Holds, Replies, fresh_now, all_fresh};
+    ghost use Rattle.dc_event.specs.declared.event.Event.{Event};
+
+    /// Before any event.
+    fn new(alloc: Global, tables: &Tables) -> Result<ReplyWatch, AllocError>
+        ensures sized { IfOk result (λ w. IsSized tables.now w) }
+        ensures holds { IfOk result (λ w. Holds tables.now w []) }
+        ensures tick { IfOk result (λ w. w.tick ≡ 0) }
+    {
+        tables.valid();
+        Ok(ReplyWatch {
+            tick: 0,
+            buses: no_logs(alloc, tables.bus_count())?,
+            latest: all_of(alloc, tables.stream_count(), None)?,
+            cursors: all_of(alloc, tables.router_count(), 0)?,
+            sent: all_of(alloc, tables.output_count(), 0)?,
+        })
+    }
+
+    /// A word arrives.
+    fn arrive(&mut self, tables: &Tables, bus: usize, word: Word) -> Result<Reply, AllocError>
+        requires sized { IsSized tables.now self.old }
+        ensures sized { IsSized tables.now self.new }
+        ensures tick { self.new.tick ≡ self.old.tick }
+        ensures reply { (run : List Event) → Holds tables.now self.old run → bus < length tables.now.buses → IfOk result (Replies tables.now self.new run (Event.Arrive bus word)) }
+    {
+        if !word.is_odd() {
+            return Ok(Reply::BadParity);
+        }
+        let Some(stream) = tables.stream_of(bus, word) else {
+            return Ok(Reply::Undeclared);
+        };
+        if bus >= self.buses.len() {
+            return Ok(Reply::Undeclared);
+        }
+        let room = tables.queue(bus);
+        self.buses[bus].receive(room, stream, word)
+    }
+
+    /// A router makes a step. A step of a router that is not there is told as idle.
+    fn route(&mut self, tables: &Tables, router: usize) -> Reply
+        requires sized { IsSized tables.now self.old }
+        ensures sized { IsSized tables.now self.new }
+        ensures tick { self.new.tick ≡ self.old.tick }
+        ensures reply { (run : List Event) → Holds tables.now self.old run → router < length tables.now.routers → Replies tables.now self.new run (Event.Route router) result }
+    {
+        tables.valid();
+        if router >= self.cursors.len() {
+            return Reply::Idle;
+        }
+        let cursor = self.cursors[router];
+        let (bus, next) = tables.visit(router, cursor);
+        self.cursors[router] = next;
+        let taken = self.buses[bus].take();
+        let Some((stream, word)) = taken else {
+            return Reply::Empty(bus);
+        };
+        note(&mut self.latest, stream, word, self.tick);
+        Reply::Took(bus, word)
+    }
+
+    /// The source with its latest word, where it is fresh for the label.
+    fn fresh(&self, tables: &Tables, label: usize, source: usize) -> Option<(usize, Word)>
+        requires sized { IsSized tables.now self.now }
+        requires label { label < length tables.now.labels }
+        requires source { source < length tables.now.streams }
+        ensures { result ≡ head (fresh_now tables.now self.now label source) }
+    {
+        if self.buses[tables.bus_of(source)].is_latched() {
+            return None;
+        }
+        let stale = tables.label(label).stale;
+        match self.latest[source] {
+            Some((item, routed)) if self.tick.saturating_sub(routed) <= stale as u64 => Some(item),
+            _ => None,
+        }
+    }
+
+    /// The first by priority of the label's fresh sources, or of those with a usable word alone, with its latest word.
+    fn first_fresh(&self, tables: &Tables, label: usize, usable: bool) -> Option<(usize, Word)>
+        requires sized { IsSized tables.now self.now }
+        requires label { label < length tables.now.labels }
+        ensures { result ≡ head (filter (λ c. is_wanted usable tables.now label c.1) (all_fresh tables.now self.now label (label_row tables.now label).sources)) }
+    {
+        tables.valid();
+        let row = tables.label(label);
+        for source in row.sources.as_slice() {
+            if let Some((stream, word)) = self.fresh(tables, label, *source) {
+                if is_wanted(usable, tables, label, word) {
+                    return Some((stream, word));
+                }
+            }
+        }
+        None
+    }
+
+    /// The word that the label sends: of its fresh sources by priority the first whose word is usable is copied; else the
+    /// first; else the fallback leaves.
+    fn chosen(&self, tables: &Tables, label: usize) -> Word
+        requires sized { IsSized tables.now self.now }
+        requires label { label < length tables.now.labels }
+        ensures { result ≡ word_for tables.now label (choice tables.now label (all_fresh tables.now self.now label (label_row tables.now label).sources)) }
+    {
+        let usable = self.first_fresh(tables, label, true);
+        if usable.is_some() {
+            return word_for(tables, label, usable);
+        }
+        word_for(tables, label, self.first_fresh(tables, label, false))
+    }
+
+    /// An output makes a send step. A step of an output that is not there is told as idle.
+    fn send(&mut self, tables: &Tables, output: usize) -> Reply
+        requires sized { IsSized tables.now self.old }
+        requires early { self.old.tick < 2 ^ 64 - 1 }
+        ensures sized { IsSized tables.now self.new }
+        ensures tick { self.new.tick ≡ self.old.tick }
+        ensures reply { (run : List Event) → Holds tables.now self.old run → output < length tables.now.outputs → Replies tables.now self.new run (Event.Send output) result }
+    {
+        tables.valid();
+        if output >= self.sent.len() {
+            return Reply::Idle;
+        }
+        let number = self.sent[output];
+        let (label, due) = entry(tables, output, number);
+        if due > self.tick {
+            return Reply::Idle;
+        }
+        self.sent[output] = number.saturating_add(1);
+        Reply::Sent(tables.label(label).label, self.chosen(tables, label))
+    }
+
+    /// The tick ends.
+    fn turn(&mut self, tables: &Tables) -> Reply
+        requires sized { IsSized tables.now self.old }
+        requires early { self.old.tick < 2 ^ 64 - 1 }
+        ensures sized { IsSized tables.now self.new }
+        ensures tick { self.new.tick ≡ self.old.tick + 1 }
+        ensures reply { (run : List Event) → Holds tables.now self.old run → Replies tables.now self.new run Event.Tick result }
+    {
+        let _ = tables;
+        self.tick += 1;
+        Reply::Now(self.tick)
+    }
+
+    /// The reply to an event.
+    fn see(&mut self, tables: &Tables, event: Event) -> Result<Reply, AllocError>
+        requires sized { IsSized tables.now self.old }
+        requires early { self.old.tick < 2 ^ 64 - 1 }
+        ensures sized { IsSized tables.now self.new }
+        ensures tick { self.new.tick ≤ self.old.tick + 1 }
+        ensures reply { (run : List Event) → Holds tables.now self.old run → IsNumbered tables.now event → IfOk result (Replies tables.now self.new run event) }
+    {
+        match event {
+            Event::Arrive(bus, word) => self.arrive(tables, bus, word),
+            Event::Route(router) => Ok(self.route(tables, router)),
+            Event::Send(output) => Ok(self.send(tables, output)),
+            Event::Tick => Ok(self.turn(tables)),
+        }
+    }
+}
+
+/// Whether the source is asked for: each, or those with a usable word alone.
+fn is_wanted(usable: bool, tables: &Tables, label: usize, word: Word) -> bool
+    requires { label < length tables.now.labels }
+    ensures { result ≡ is_wanted usable tables.now label word }
+{
+    if !usable {
+        return true;
+    }
+    word.usable(tables.label(label).format)
+}
+
+/// What should have come out of a run of these tables: the reply to each of its events, in order. Of a run that names a
+/// bus, router or output that is not in the tables nothing is said.
+///
+/// # Errors
+/// Out of memory.
+pub fn outputs(alloc: Global, tables: &Tables, run: &[Event]) -> Result<Vec<Reply>, AllocError>
+    ensures { IsRun tables.now run.now → IfOk result (λ replies. replies.items ≡ outputs_of tables.now run.now) }
+{
+    let mut watch = ReplyWatch::new(alloc, tables)?;
+    let mut replies = Vec::new(alloc);
+    for event in run {
+        let reply = watch.see(tables, *event)?;
+        replies.push(reply)?;
+    }
+    Ok(replies)
+}
