@@ -12,8 +12,11 @@ trap 'rm -rf "$work"' EXIT
 text=${1:-$work/tables.toml}
 [ $# -gt 0 ] || "$here/../check/tables.sh" > "$text"
 mkdir "$work/crates"
-cp "$root/HANDLES" "$root/crates.txt" "$work/"
-(cd "$root/crates" && tar cf - dc_word dc_bound dc_device dc_tables dc_toml) | tar xf - -C "$work/crates"
+cp "$root/HANDLES" "$work/"
+for crate in dc_word dc_bound dc_device dc_tables dc_toml; do
+    cp -a "$root/crates/$crate" "$work/crates/"
+    grep "^$crate:" "$root/crates.txt" >> "$work/crates.txt"
+done
 mkdir -p "$work/crates/tables_bench/src"
 cp "$here/main.rt.txt" "$work/crates/tables_bench/src/main.rt"
 echo 'tables_bench: dc_device dc_toml toml' >> "$work/crates.txt"
