@@ -1,5 +1,5 @@
 -- A text by its lines, and how a reader comes by them.
-use Rattle.std.specs.Prelude.{◌≡◌, ◌≢◌, ℕ, ◌+◌, ◌==◌, if◌then◌else◌, List, [], ◌∷◌, ◌++◌, length, Option, Some, None, Result, Ok, Err, Bool, true, false, ◌⊎◌}
+use Rattle.std.specs.Prelude.{◌≡◌, ◌≢◌, ℕ, ◌+◌, ◌==◌, ◌<◌, ◌≤◌, if◌then◌else◌, List, [], ◌∷◌, ◌++◌, length, Option, Some, None, Result, Ok, Err, Bool, true, false, ◌⊎◌}
 use Rattle.std.specs.Io.KnownBytes.{Consumes, IsAtEnd, Keeps}
 use Rattle.dc_device.specs.declared.reader.Part.{Part}
 use Rattle.dc_device.specs.declared.reader.Part.TheVariants.{Whole, Long}
@@ -34,6 +34,15 @@ NoFeed (b ∷ bs) = (b ≢ 10) × NoFeed bs
 pub record Held : Type 0 where
   pub bytes : List ℕ
   pub room : ℕ
+
+-- the held bytes begin with this line and its line feed, within the limits of a line and of the text
+abbrev pub HoldsLine : Held → List ℕ → Type 0
+HoldsLine held line =
+    (rest : List ℕ) × (held.bytes ≡ line ++ 10 ∷ rest) × NoFeed line × (length line ≤ 64) × (length line < held.room)
+
+-- they begin with no such line
+abbrev pub HasNoLine : Held → Type 0
+HasNoLine held = (line : List ℕ) → HoldsLine held line → ⊥
 
 -- How far the held bytes bring a line: all of them belong to it and it goes on (None); its line feed stands among
 -- them (Whole); or one of them is past the limit of the text or of a line (Long).

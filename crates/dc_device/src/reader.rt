@@ -1,7 +1,7 @@
 //! The lines of a source, through one fixed buffer.
-ghost use Rattle.std.specs.Prelude.{◌≡◌, ◌∷◌, [], ◌+◌, ◌^◌, ◌<◌, MatchOption, length};
+ghost use Rattle.std.specs.Prelude.{◌≡◌, ◌∷◌, [], ◌+◌, ◌^◌, ◌<◌, ◌≤◌, MatchOption, ℕ, List, drop, length, take};
 ghost use Rattle.dc_device.specs.Device.{failures_of};
-ghost use Rattle.dc_device.specs.Lines.{Fills, ReadsOn};
+ghost use Rattle.dc_device.specs.Lines.{Fills, HasNoLine, HoldsLine, NoFeed, ReadsOn};
 
 use crate::device::{Broken, Source};
 use crate::writer::LineWriter;
@@ -36,6 +36,20 @@ pub struct LineReader {
     at: usize,
     end: usize,
     room: u64,
+}
+
+// Where the first line feed is among the first 65 bytes.
+fn first_feed(bytes: &[u8]) -> Option<usize>
+    ensures { MatchOption result (NoFeed (take 65 bytes.now))
+        (λ i. (i < length bytes.now) × (i ≤ 64) × NoFeed (take i bytes.now) × (drop i bytes.now ≡ 10 ∷ drop (i + 1) bytes.now)) }
+{
+    let most = bytes.len().min(LINE_LIMIT + 1);
+    for i in 0..most {
+        if bytes[i] == b'\n' {
+            return Some(i);
+        }
+    }
+    None
 }
 
 impl Model for LineReader {
@@ -75,6 +89,31 @@ impl LineReader {
         let byte = self.block[self.at];
         self.at += 1;
         Some(byte)
+    }
+
+    /// The line that the held bytes begin with, where they hold all of it with its line feed, within the limits.
+    pub fn held_line(&self) -> Option<&[u8]>
+        ensures { MatchOption result (HasNoLine self.now) (λ line. HoldsLine self.now line.now) }
+    {
+        let held = &self.block[self.at..self.end];
+        let Some(length) = first_feed(held) else {
+            return None;
+        };
+        if length as u64 >= self.room {
+            return None;
+        }
+        Some(&held[..length])
+    }
+
+    /// Passes over this many of the held bytes.
+    pub fn pass(&mut self, count: usize)
+        requires held { count ≤ length self.old.bytes }
+        requires room { count ≤ self.old.room }
+        ensures bytes { self.new.bytes ≡ drop count self.old.bytes }
+        ensures room { count + self.new.room ≡ self.old.room }
+    {
+        self.at += count;
+        self.room -= count as u64;
     }
 
     /// Reads on in the line, as far as the held bytes go. None where they end before the line does: then pull more,

@@ -95,6 +95,29 @@ fn lines_are_read_and_written_in_pieces_of_any_size(rt: HostRuntime) -> Result<(
     Ok(())
 }
 
+// How long the next line is, which is read where it stands.
+fn held_length(reader: &mut LineReader) -> Option<usize> {
+    let Some(line) = reader.held_line() else {
+        return None;
+    };
+    let length = line.len();
+    reader.pass(length + 1);
+    Some(length)
+}
+
+#[test]
+fn a_line_is_read_where_it_stands(rt: HostRuntime) {
+    let nothing = LineWriter::new();
+    for (limit, first, second) in [(4, Some(2), Some(0)), (3, Some(2), None), (2, None, None)] {
+        let mut source = MemSource::new(b"ab\n\nc", 9, 0);
+        let mut reader = LineReader::new(limit);
+        assert_eq!(rt; reader.fill(&mut source, &nothing), Ok(true));
+        assert_eq!(rt; held_length(&mut reader), first, "up to {limit}");
+        assert_eq!(rt; held_length(&mut reader), second, "up to {limit}");
+        assert_eq!(rt; held_length(&mut reader), None, "up to {limit}");
+    }
+}
+
 #[test]
 fn a_text_is_read_whole_up_to_its_limit(rt: HostRuntime) -> Result<(), Fail> {
     for (limit, fails_at, want) in [

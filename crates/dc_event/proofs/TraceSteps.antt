@@ -1,13 +1,14 @@
 -- What each step of a reader does to the trace ahead.
-use Rattle.std.proofs.Common.{◌≡◌, ◌≢◌, ℕ, ◌+◌, ◌-◌, ◌^◌, ◌<◌, ◌≤◌, List, [], ◌∷◌, ◌++◌, length, length-append, add-zero, refl, sym, ◌∙◌, ap, subst, append_assoc, append-nil, arith, ◌⊎◌, inl, inr, Option, Some, None, Ok, Err}
+use Rattle.std.proofs.Common.{◌≡◌, ◌≢◌, ℕ, ◌+◌, ◌-◌, ◌^◌, ◌<◌, ◌≤◌, List, [], ◌∷◌, ◌++◌, length, length-append, add-zero, refl, sym, ◌∙◌, ap, subst, append_assoc, append-nil, arith, ◌⊎◌, inl, inr, Option, Some, None, Result, Ok, Err, drop}
+use Rattle.std.proofs.Math.Seq.{drop-append-add}
 use Rattle.std.specs.Io.KnownBytes.{IsAtEnd, Keeps}
-use Rattle.dc_device.specs.Lines.{Held, NoFeed, ReadsOn}
+use Rattle.dc_device.specs.Lines.{Held, HoldsLine, NoFeed, ReadsOn}
 use Rattle.dc_device.specs.declared.reader.Part.TheVariants.{Long, Whole}
 use Rattle.dc_device.proofs.LineLemmas.{NoFeed-append}
 use Rattle.dc_tables.specs.TableRows.{TableRows}
 use Rattle.dc_event.specs.TraceText.{Trace, ended_by, in_front, line_event}
 use Rattle.dc_event.specs.ReadingFits.{Fits}
-use Rattle.dc_event.specs.Reading.{IsOver, Reading, Stays, Tells, TellsEvent, ahead, no_more, stop_behind, told_from, trace_from}
+use Rattle.dc_event.specs.Reading.{IsOver, Reading, ReadsNext, Stays, Tells, TellsEvent, ahead, no_more, stop_behind, told_from, trace_from}
 use Rattle.dc_event.specs.declared.event.Event.{Event}
 use Rattle.dc_event.specs.declared.trace.TraceCode.{TraceCode}
 use Rattle.dc_event.specs.declared.trace.TraceCode.TheVariants.{E1}
@@ -114,6 +115,34 @@ pub event_told : (now : Reading) (stopped : Option TraceStop) (t : TableRows) (l
 event_told now stopped t line line' empty old new number event coming view runs fits reads short is none =
     let (plain, small) = rw runs at fits in
     rw (← view) (event_tells stopped t line line' empty old new number event coming runs plain reads short is none)
+
+-- ---- the same, by what the next line says
+
+pub next_event_told : (now : Reading) (stopped : Option TraceStop) (t : TableRows) (line line' : List ℕ) (old new : Held) (number : ℕ) (event : Event) (read : Result Event TraceCode) (coming : Option (List ℕ))
+    → parts t line old number stopped ≡ now → stopped ≡ None → Fits stopped line old.room number
+    → ReadsNext t old new line line' (Some read) → read ≡ Ok event
+    → TellsEvent (ahead now coming) (ahead (parts t line' new (number + 1) stopped) coming) event
+next_event_told now stopped t line line' old new number event read coming view runs fits (inl (reads, long)) is = absurd (cc)
+next_event_told now stopped t line line' old new number event read coming view runs fits (inr (whole, reads, short, says, none)) is =
+    event_told now stopped t line whole line' old new number event coming view runs fits reads short (sym says ∙ is) none
+
+pub next_refused_told : (now : Reading) (stopped : Option TraceStop) (t : TableRows) (line line' : List ℕ) (old new : Held) (number : ℕ) (code : TraceCode) (read : Result Event TraceCode) (coming : Option (List ℕ)) (later : Option Trace) (stop : TraceStop)
+    → parts t line old number stopped ≡ now → stop ≡ Fault (record { code = code; line = number }) → stopped ≡ None → Fits stopped line old.room number
+    → ReadsNext t old new line line' (Some read) → read ≡ Err code → Tells (ahead now coming) later (Err stop)
+next_refused_told now stopped t line line' old new number code read coming later stop view stops runs fits (inl (reads, long)) is =
+    let same : code ≡ E1 = cc in
+    long_told now stopped t line line' old new number coming later stop view (stops ∙ ap (λ (x : TraceCode). Fault (record { code = x; line = number })) same) runs fits reads
+next_refused_told now stopped t line line' old new number code read coming later stop view stops runs fits (inr (whole, reads, short, says, none)) is =
+    refused_told now stopped t line whole old new number code coming later stop view stops runs fits reads short (sym says ∙ is)
+
+-- a line that stands among the held bytes
+pub held_read : (t : TableRows) (old new : Held) (line whole : List ℕ) (read : Result Event TraceCode) → line ≡ [] → HoldsLine old whole
+    → new.bytes ≡ drop (length whole + 1) old.bytes → (length whole + 1) + new.room ≡ old.room → read ≡ line_event t whole
+    → ReadsNext t old new line line (Some read)
+held_read t old new line whole read none (rest, e, plain, short, fits) passed room says =
+    let behind : drop (length whole + 1) (whole ++ 10 ∷ rest) ≡ rest = drop-append-add whole (10 ∷ rest) 1 in
+    let left : new.bytes ≡ rest = passed ∙ ap (drop (length whole + 1)) e ∙ behind in
+    inr (whole, (whole, e ∙ ap (λ (l : List ℕ). whole ++ 10 ∷ l) (sym left), ap (λ (l : List ℕ). l ++ whole) (sym none), plain, omega (arith, room)), short, says, none)
 
 pub fits_more : (stopped : Option TraceStop) (line line' : List ℕ) (old new : Held) (number : ℕ) → stopped ≡ None → Fits stopped line old.room number
     → ReadsOn old new line line' None → Fits stopped line' new.room number

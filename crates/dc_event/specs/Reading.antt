@@ -1,11 +1,13 @@
 -- How a trace is read: what a reader holds, and what it has still to tell.
-use Rattle.std.specs.Prelude.{◌≡◌, ℕ, ◌+◌, List, [], ◌∷◌, ◌++◌, length, Option, Some, None, option_map, Result, Ok, Err}
+use Rattle.std.specs.Prelude.{◌≡◌, ℕ, ◌+◌, List, [], ◌∷◌, ◌++◌, length, Option, Some, None, option_map, Result, Ok, Err, ◌≤◌, ◌⊎◌}
 use Rattle.std.specs.Io.KnownBytes.{prepend_known}
-use Rattle.dc_device.specs.Lines.{lines_of}
+use Rattle.dc_device.specs.Lines.{Held, ReadsOn, lines_of}
+use Rattle.dc_device.specs.declared.reader.Part.TheVariants.{Long, Whole}
 use Rattle.dc_tables.specs.TableRows.{TableRows}
-use Rattle.dc_event.specs.TraceText.{Trace, trace_lines}
+use Rattle.dc_event.specs.TraceText.{Trace, line_event, trace_lines}
 use Rattle.dc_event.specs.declared.event.Event.{Event}
-use Rattle.dc_event.specs.declared.trace.TraceCode.TheVariants.{E6}
+use Rattle.dc_event.specs.declared.trace.TraceCode.{TraceCode}
+use Rattle.dc_event.specs.declared.trace.TraceCode.TheVariants.{E1, E6}
 use Rattle.dc_event.specs.declared.trace.TraceFault.{TraceFault}
 use Rattle.dc_event.specs.declared.trace.TraceStop.{TraceStop}
 use Rattle.dc_event.specs.declared.trace.TraceStop.TheVariants.{End, Fault, Broken}
@@ -72,6 +74,14 @@ Tells old new (Err Broken) = Stays old new
 -- all that was held belongs to the running line, which goes on
 abbrev pub NeedsMore : Reading → Reading → Type 0
 NeedsMore old new = (old.stopped ≡ None) × (new.stopped ≡ None) × (new.held ≡ []) × (length old.held + new.room ≡ old.room)
+
+-- What the next line says, with the bytes of it that were read before and those that are held: it goes on behind them
+-- (None); it is past a limit; or it is whole, and nothing is read yet of the line behind it.
+abbrev pub ReadsNext : TableRows → Held → Held → List ℕ → List ℕ → Option (Result Event TraceCode) → Type 0
+ReadsNext t old new line line' None = ReadsOn old new line line' None
+ReadsNext t old new line line' (Some read) =
+    (ReadsOn old new line line' (Some Long) × (read ≡ Err E1))
+    ⊎ ((whole : List ℕ) × ReadsOn old new line whole (Some Whole) × (length whole ≤ 64) × (read ≡ line_event t whole) × (line' ≡ []))
 
 -- what a line tells: its event or its fault
 abbrev pub IsOfLine : Result Event TraceStop → Type 0

@@ -1,7 +1,7 @@
 //! The events of a trace, in the bytes that are held of it.
 ghost use Rattle.std.specs.Prelude.{◌≡◌, ◌≢◌, ℕ, List, Option, [], ◌+◌, ◌^◌, ◌<◌, Some, None, IfSome, IfOk, MatchOption};
 ghost use Rattle.dc_event.specs.TraceText.{trace_of};
-ghost use Rattle.dc_event.specs.Reading.{IsOfLine, NeedsMore, Stays, Tells, ahead, at_start, failures_at, stop_behind, stop_of};
+ghost use Rattle.dc_event.specs.Reading.{IsOfLine, NeedsMore, ReadsNext, Stays, Tells, ahead, at_start, failures_at, stop_behind, stop_of};
 
 use crate::event::Event;
 use crate::line::read_line;
@@ -24,6 +24,33 @@ fn end_inside(line: &[u8], number: u64) -> TraceStop
     match line {
         [] => TraceStop::End,
         _ => fault(TraceCode::E6, number),
+    }
+}
+
+// The event of the next line, or its fault, as far as the held bytes go. A line is read where it stands if all of it is
+// held; else its bytes are gathered.
+fn read_next(
+    tables: &Tables,
+    reader: &mut LineReader,
+    line: &mut Line,
+) -> Option<Result<Event, TraceCode>>
+    ensures { ReadsNext tables.now reader.old reader.new line.old.items line.new.items result }
+{
+    if line.is_empty() {
+        if let Some(held) = reader.held_line() {
+            let length = held.len();
+            let read = read_line(tables, held);
+            reader.pass(length + 1);
+            return Some(read);
+        }
+    }
+    match reader.read_on(line)? {
+        Part::Long => Some(Err(TraceCode::E1)),
+        Part::Whole => {
+            let read = read_line(tables, line.as_slice());
+            line.clear();
+            Some(read)
+        }
     }
 }
 
@@ -81,24 +108,16 @@ impl<'t> TraceLines<'t> {
         if let Some(stop) = self.stopped {
             return Some(Err(stop));
         }
-        match self.reader.read_on(&mut self.line)? {
-            Part::Long => {
-                let long = fault(TraceCode::E1, self.number);
-                self.stopped = Some(long);
-                Some(Err(long))
+        match read_next(self.tables, &mut self.reader, &mut self.line)? {
+            Ok(event) => {
+                self.number += 1;
+                Some(Ok(event))
             }
-            Part::Whole => match read_line(self.tables, self.line.as_slice()) {
-                Ok(event) => {
-                    self.line.clear();
-                    self.number += 1;
-                    Some(Ok(event))
-                }
-                Err(code) => {
-                    let refused = fault(code, self.number);
-                    self.stopped = Some(refused);
-                    Some(Err(refused))
-                }
-            },
+            Err(code) => {
+                let refused = fault(code, self.number);
+                self.stopped = Some(refused);
+                Some(Err(refused))
+            }
         }
     }
 
