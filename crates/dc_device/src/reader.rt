@@ -1,5 +1,5 @@
 //! The lines of a source, through one fixed buffer.
-ghost use Rattle.std.specs.Prelude.{◌≡◌, ◌∷◌, [], ◌+◌, ◌^◌, ◌<◌, ◌≤◌, MatchOption, ℕ, List, drop, length, take};
+ghost use Rattle.std.specs.Prelude.{◌≡◌, ◌∷◌, [], ◌+◌, ◌^◌, ◌<◌, ◌≤◌, MatchOption, drop, length, take};
 ghost use Rattle.dc_device.specs.Device.{failures_of};
 ghost use Rattle.dc_device.specs.Lines.{Fills, HasNoLine, HoldsLine, NoFeed, ReadsOn};
 
