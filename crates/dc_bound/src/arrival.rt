@@ -25,11 +25,21 @@ pub trait ArrivalBound {
         requires { d ≤ 1000000 }
         ensures { result ≡ cap self.now d };
 
+    /// Both at once: what `at_most` says of `d`, and what `next_jump` says of it.
+    fn at_most_and_jump(&self, d: u32) -> (u64, Option<u32>)
+        requires { d ≤ 1000000 }
+        ensures most { result.0 ≡ cap self.now d }
+        ensures jump { IsNextJump (cap self.now) d result.1 };
+
     /// The least number of ticks above `d`, up to 1,000,000, in which more may come than in `d`; `None` where there is
     /// none. `d` is at most 1,000,000.
     fn next_jump(&self, d: u32) -> Option<u32>
         requires { d ≤ 1000000 }
-        ensures { IsNextJump (cap self.now) d result };
+        ensures { IsNextJump (cap self.now) d result }
+    {
+        let (_, jump) = self.at_most_and_jump(d);
+        jump
+    }
 
     // nothing comes in no ticks
     ghost cap_zero: { (x : Self) → cap x 0 ≡ 0 };
@@ -74,11 +84,12 @@ impl ArrivalBound for Sporadic {
     ghost allows = { λ x xs. HoldAtMost 1 x.minimum (ticks_of xs) };
 
     fn at_most(&self, d: u32) -> u64 {
-        (d as u64 + (self.minimum as u64 - 1)) / self.minimum as u64
+        u64::from(d.div_ceil(self.minimum))
     }
 
-    fn next_jump(&self, d: u32) -> Option<u32> {
-        jump_at(self.at_most(d) * self.minimum as u64 + 1)
+    fn at_most_and_jump(&self, d: u32) -> (u64, Option<u32>) {
+        let count = self.at_most(d);
+        (count, jump_at(count * self.minimum as u64 + 1))
     }
 
     ghost cap_zero = { λ x. ceil_zero x.minimum x.positive };
@@ -131,12 +142,16 @@ impl ArrivalBound for Wire {
         d as u64 * self.tick as u64 / self.spacing as u64 + 1
     }
 
-    fn next_jump(&self, d: u32) -> Option<u32> {
+    fn at_most_and_jump(&self, d: u32) -> (u64, Option<u32>) {
+        let count = self.at_most(d);
         if d == 0 {
-            return Some(1);
+            return (count, Some(1));
         }
-        let time = self.at_most(d) * self.spacing as u64;
-        jump_at((time + (self.tick as u64 - 1)) / self.tick as u64)
+        let time = count * self.spacing as u64;
+        (
+            count,
+            jump_at((time + (self.tick as u64 - 1)) / self.tick as u64),
+        )
     }
 
     ghost cap_zero = { λ x. refl };
@@ -183,12 +198,15 @@ impl<'a, B: ArrivalBound> ArrivalBound for SumOf<'a, B> {
         total
     }
 
-    fn next_jump(&self, d: u32) -> Option<u32> {
+    fn at_most_and_jump(&self, d: u32) -> (u64, Option<u32>) {
+        let mut total: u64 = 0;
         let mut jump = None;
         for member in self.members {
-            jump = earlier(jump, member.next_jump(d));
+            let (most, next) = member.at_most_and_jump(d);
+            total += most;
+            jump = earlier(jump, next);
         }
-        jump
+        (total, jump)
     }
 
     ghost cap_zero = { λ x. sum_zero (λ (b : B). B.cap b 0) (λ b. B.cap_zero b) x.members.now };
@@ -228,16 +246,16 @@ impl<A: ArrivalBound, B: ArrivalBound> ArrivalBound for Both<A, B> {
         self.first.at_most(d).min(self.second.at_most(d))
     }
 
-    fn next_jump(&self, d: u32) -> Option<u32> {
-        let first = self.first.at_most(d);
-        let second = self.second.at_most(d);
+    fn at_most_and_jump(&self, d: u32) -> (u64, Option<u32>) {
+        let (first, first_jump) = self.first.at_most_and_jump(d);
+        let (second, second_jump) = self.second.at_most_and_jump(d);
         if first < second {
-            return self.first.next_jump(d);
+            return (first, first_jump);
         }
         if second < first {
-            return self.second.next_jump(d);
+            return (second, second_jump);
         }
-        later(self.first.next_jump(d), self.second.next_jump(d))
+        (first, later(first_jump, second_jump))
     }
 
     ghost cap_zero = { λ x. both_zero (A.cap x.first 0) (B.cap x.second 0) (A.cap_zero x.first) };

@@ -42,13 +42,13 @@ impl<'a> ArrivalBound for Cyclic<'a> {
         rounds as u64 * self.offsets.len() as u64 + most_in_part(self.frame, self.offsets, rest)
     }
 
-    fn next_jump(&self, d: u32) -> Option<u32> {
+    fn at_most_and_jump(&self, d: u32) -> (u64, Option<u32>) {
         let count = self.at_most(d);
         let span = least_span(self.frame, self.offsets, count as usize);
         if span < 1000000 {
-            Some(span as u32 + 1)
+            (count, Some(span as u32 + 1))
         } else {
-            None
+            (count, None)
         }
     }
 

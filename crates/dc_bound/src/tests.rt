@@ -18,6 +18,8 @@ fn assert_jumps<A: ArrivalBound>(rt: &impl Abort, bound: &A, rows: &[(u32, Optio
     for (ticks, jump) in rows {
         assert!(rt; *ticks <= 1_000_000);
         assert_eq!(rt; bound.next_jump(*ticks), *jump, "after {ticks}");
+        let both = (bound.at_most(*ticks), *jump);
+        assert_eq!(rt; bound.at_most_and_jump(*ticks), both, "both at {ticks}");
     }
 }
 

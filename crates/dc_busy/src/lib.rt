@@ -6,7 +6,7 @@
 //! stretch needs to be looked at past its first window.
 #![tactic(auto)]
 
-ghost use Rattle.std.specs.Prelude.{◌≡◌, ℕ, ◌≤◌, ◌↔◌, MatchOption, IsTrue};
+ghost use Rattle.std.specs.Prelude.{◌≡◌, ℕ, ◌<◌, ◌≤◌, ◌↔◌, Some, MatchOption, IsTrue};
 ghost use Rattle.dc_busy.specs.BusyWindow.{Closes, BacklogAt, BacklogBounded, DelayAt, DelayBounded, IsLeastFailing, QueueBacklog, QueueDelay, QueueInTime};
 
 use dc_bound::{ArrivalBound, ServiceBound};
@@ -35,11 +35,11 @@ pub fn backlog_fails<A: ArrivalBound, S: ServiceBound>(
 {
     let mut ticks = 1;
     while ticks <= window {
-        let visits = service.at_least(ticks.saturating_sub(2));
-        if arrivals.at_most(ticks).saturating_sub(visits) > backlog {
+        let (most, jump) = arrivals.at_most_and_jump(ticks);
+        if most.saturating_sub(service.at_least(ticks.saturating_sub(2))) > backlog {
             return Some(ticks);
         }
-        match arrivals.next_jump(ticks) {
+        match jump {
             None => return None,
             Some(jump) => ticks = jump,
         }
@@ -62,15 +62,57 @@ pub fn delay_fails<A: ArrivalBound, S: ServiceBound>(
 {
     let mut ticks = 1;
     while ticks <= window {
-        if arrivals.at_most(ticks) > service.at_least(ticks - 1 + delay) {
+        let (most, jump) = arrivals.at_most_and_jump(ticks);
+        if most > service.at_least(ticks - 1 + delay) {
             return Some(ticks);
         }
-        match arrivals.next_jump(ticks) {
+        match jump {
             None => return None,
             Some(jump) => ticks = jump,
         }
     }
     None
+}
+
+/// What `backlog_fails` and `delay_fails` find, by one walk. `window` is 1 to 100,000, `delay` at most 100,000.
+pub fn first_failures<A: ArrivalBound, S: ServiceBound>(
+    arrivals: &A,
+    service: &S,
+    window: u32,
+    backlog: u64,
+    delay: u32,
+) -> (Option<u32>, Option<u32>)
+    requires least { 1 ≤ window }
+    requires most { window ≤ 100000 }
+    requires short { delay ≤ 100000 }
+    ensures backlog { MatchOption result.0 (BacklogBounded (A.cap arrivals.now) (S.floor service.now) window backlog) (λ w. IsLeastFailing (BacklogAt (A.cap arrivals.now) (S.floor service.now) backlog) window w) }
+    ensures delay { MatchOption result.1 (DelayBounded (A.cap arrivals.now) (S.floor service.now) window delay) (λ w. IsLeastFailing (DelayAt (A.cap arrivals.now) (S.floor service.now) delay) window w) }
+{
+    let mut overfull = None;
+    let mut overdue = None;
+    let mut ticks = 1;
+    while ticks <= window {
+        let (most, jump) = arrivals.at_most_and_jump(ticks);
+        let waiting = most.saturating_sub(service.at_least(ticks.saturating_sub(2)));
+        overfull = found_or_above(overfull, ticks, waiting, backlog);
+        let taken = service.at_least(ticks - 1 + delay);
+        overdue = found_or_above(overdue, ticks, most, taken);
+        if overfull.is_some() && overdue.is_some() {
+            return (overfull, overdue);
+        }
+        ticks = jump.unwrap_or(window + 1);
+    }
+    (overfull, overdue)
+}
+
+// What was found before, else this number of ticks where the count is above the limit.
+fn found_or_above(found: Option<u32>, ticks: u32, count: u64, limit: u64) -> Option<u32>
+    ensures { MatchOption found (MatchOption result (count ≤ limit) (λ w. (w ≡ ticks) × (limit < count))) (λ w. result ≡ Some w) }
+{
+    if found.is_none() && count > limit {
+        return Some(ticks);
+    }
+    found
 }
 
 /// The busy-window law. Take any queue whose arrivals the bound allows and in which any `d` whole ticks hold at least as

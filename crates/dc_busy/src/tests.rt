@@ -5,7 +5,7 @@ ghost use Rattle.dc_bound.specs.Window.{count_in, ticks_of, IsNextJump};
 ghost use Rattle.dc_bound.specs.Moves.{routed_tick, passed};
 ghost use Rattle.dc_bound.specs.Moves.Move.{Tick, In, Visit};
 
-use crate::{backlog_fails, closes, delay_fails, queue_law};
+use crate::{backlog_fails, closes, delay_fails, first_failures, queue_law};
 use dc_bound::{ArrivalBound, Both, Cyclic, Paced, ServiceBound, Sporadic, SumOf, Visits, Wire};
 use std::cell::Cell;
 use std::process::Abort;
@@ -51,16 +51,20 @@ fn assert_same<A: ArrivalBound, S: ServiceBound>(rt: &impl Abort, arrivals: &A, 
     for window in 1..40 {
         for bound in 0..12 {
             let backlog = bound as u64;
+            let overfull = backlog_fails(arrivals, service, window, backlog);
+            let overdue = delay_fails(arrivals, service, window, bound);
             assert_eq!(rt;
-                backlog_fails(arrivals, service, window, backlog),
+                overfull,
                 backlog_fails_densely(arrivals, service, window, backlog),
                 "backlog {backlog} in {window}"
             );
             assert_eq!(rt;
-                delay_fails(arrivals, service, window, bound),
+                overdue,
                 delay_fails_densely(arrivals, service, window, bound),
                 "delay {bound} in {window}"
             );
+            let both = first_failures(arrivals, service, window, backlog, bound);
+            assert_eq!(rt; both, (overfull, overdue), "{bound} in {window}");
         }
     }
 }
@@ -82,8 +86,9 @@ impl<'a, A: ArrivalBound> ArrivalBound for Counted<'a, A> {
         self.inner.at_most(d)
     }
 
-    fn next_jump(&self, d: u32) -> Option<u32> {
-        self.inner.next_jump(d)
+    fn at_most_and_jump(&self, d: u32) -> (u64, Option<u32>) {
+        self.calls.set(self.calls.get().wrapping_add(1));
+        self.inner.at_most_and_jump(d)
     }
 
     ghost cap_zero = { λ x. A.cap_zero x.inner.now };
@@ -108,6 +113,8 @@ fn small_bus_closes_at_three_ticks(rt: HostRuntime) {
     assert_eq!(rt; backlog_fails(&bus, &router, 3, 2), None);
     assert_eq!(rt; delay_fails(&bus, &router, 3, 1), Some(1));
     assert_eq!(rt; delay_fails(&bus, &router, 3, 2), None);
+    assert_eq!(rt; first_failures(&bus, &router, 3, 1, 2), (Some(1), None));
+    assert_eq!(rt; first_failures(&bus, &router, 3, 2, 1), (None, Some(1)));
     queue_law(&bus, &router, 3, 2, 2);
 }
 
@@ -135,7 +142,11 @@ fn long_search_goes_by_jumps_alone(rt: HostRuntime) {
         backlog_fails(&counted, &Paced::new(2, 1), 100_000, 14),
         None
     );
-    assert!(rt; counted.calls.get() <= 10_005);
+    assert_eq!(rt;
+        first_failures(&counted, &Paced::new(2, 1), 100_000, 14, 6),
+        (None, None)
+    );
+    assert!(rt; counted.calls.get() <= 20_010);
 }
 
 // In Visit, In, In, Tick, Visit, Tick, Visit the first visit finds nothing, and each later one takes one word.

@@ -8,7 +8,7 @@ ghost use Rattle.dc_tables.specs.TableRows.{bus_cap, bus_floor, output_cap, outp
 
 use crate::fault::{CheckFault, Code, Part};
 use crate::rules::{
-    closing_fault, fault, fault_unless, first_fault, first_overdue, first_overfull, range_fault,
+    closing_fault, fault, fault_unless, first_failing, first_fault, first_overdue, range_fault,
     window_fault,
 };
 use dc_bound::{ArrivalBound, ServiceBound};
@@ -92,8 +92,7 @@ pub(crate) fn input_job<A: ArrivalBound, S: ServiceBound>(
     if ranges.is_some() {
         return ranges;
     }
-    let first_backlog = first_overfull(arrivals, service, window, backlog);
-    let first_delay = first_overdue(arrivals, service, window, delay);
+    let (first_backlog, first_delay) = first_failing(arrivals, service, window, backlog, delay);
     input_fault(
         tables,
         certificate,

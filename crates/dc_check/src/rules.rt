@@ -6,7 +6,7 @@ ghost use Rattle.dc_check.specs.declared.fault.Code.TheVariants.{C03};
 
 use crate::fault::{CheckFault, Code, Part};
 use dc_bound::{ArrivalBound, ServiceBound};
-use dc_busy::{backlog_fails, closes, delay_fails};
+use dc_busy::{closes, delay_fails, first_failures};
 
 /// The longest window, and the longest delay, that a certificate may claim, in ticks.
 pub const LONGEST: u32 = 100_000;
@@ -95,18 +95,22 @@ pub(crate) fn closing_fault<A: ArrivalBound, S: ServiceBound>(
     )
 }
 
-/// The first window up to this one, 1 to 100,000, in which more may wait than the backlog.
-pub(crate) fn first_overfull<A: ArrivalBound, S: ServiceBound>(
+/// The first window up to this one, 1 to 100,000, in which more may wait than the backlog, and the first in which a word
+/// may wait longer than the delay, at most 100,000.
+pub(crate) fn first_failing<A: ArrivalBound, S: ServiceBound>(
     arrivals: &A,
     service: &S,
     window: u32,
     backlog: u32,
-) -> Option<u32>
+    delay: u32,
+) -> (Option<u32>, Option<u32>)
     requires least { 1 ≤ window }
     requires most { window ≤ 100000 }
-    ensures { result ≡ backlog_failure (A.cap arrivals.now) (S.floor service.now) window backlog }
+    requires short { delay ≤ 100000 }
+    ensures backlog { result.0 ≡ backlog_failure (A.cap arrivals.now) (S.floor service.now) window backlog }
+    ensures delay { result.1 ≡ delay_failure (A.cap arrivals.now) (S.floor service.now) window delay }
 {
-    backlog_fails(arrivals, service, window, u64::from(backlog))
+    first_failures(arrivals, service, window, u64::from(backlog), delay)
 }
 
 /// The first window up to this one, 1 to 100,000, in which a word may wait longer than the delay, at most 100,000.

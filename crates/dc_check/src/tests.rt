@@ -1,7 +1,7 @@
 //! Worked rules. A bus brings a word every ten ticks at most, and is visited once in each tick.
 
 use crate::rules::{
-    closing_fault, fault, fault_unless, first_fault, first_overdue, first_overfull, range_fault,
+    closing_fault, fault, fault_unless, first_failing, first_fault, first_overdue, range_fault,
     window_fault,
 };
 use crate::{CheckFault, Code, LONGEST, Part};
@@ -63,8 +63,14 @@ fn a_window_of_two_ticks_closes(rt: HostRuntime) {
 fn one_word_waits_for_one_tick(rt: HostRuntime) {
     let arrivals = Sporadic::new(10);
     let service = Paced::new(1, 1);
-    assert_eq!(rt; first_overfull(&arrivals, &service, 2, 0), Some(1));
-    assert_eq!(rt; first_overfull(&arrivals, &service, 2, 1), None);
+    assert_eq!(rt;
+        first_failing(&arrivals, &service, 2, 0, 1),
+        (Some(1), None)
+    );
+    assert_eq!(rt;
+        first_failing(&arrivals, &service, 2, 1, 0),
+        (None, Some(1))
+    );
     assert_eq!(rt; first_overdue(&arrivals, &service, 2, 0), Some(1));
     assert_eq!(rt; first_overdue(&arrivals, &service, 2, 1), None);
 }

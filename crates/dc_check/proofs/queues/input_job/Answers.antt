@@ -1,4 +1,4 @@
-use Rattle.std.proofs.Common.{◌≡◌, ℕ, ◌<◌, length, sym, ap, ◌∙◌, arith}
+use Rattle.std.proofs.Common.{◌<◌, length, sym, ap, ◌∙◌, arith}
 use Rattle.std.specs.Option.{option_or}
 use Rattle.dc_cert.specs.Bounds.{input_bound, certificate_rows}
 use Rattle.dc_check.proofs.CertificateReads.{inputs-count, input-read}
@@ -19,32 +19,20 @@ returns-then-is_some g c =
     ∙ ap (λ o. option_or o (first_of (input_rules c.args.tables.now c.args.bus (input_bound (certificate_rows c.args.certificate.now) c.args.bus)))) ranges
     ∙ sym (job-input c.args.tables.now (certificate_rows c.args.certificate.now) c.args.bus c.requires.there)
 
-pub first_overfull-first_backlog-requires-clause-least : goal.first_overfull-first_backlog-requires-clause-least
-first_overfull-first_backlog-requires-clause-least g c =
+pub first_failing-first_backlog-requires-clause-least : goal.first_failing-first_backlog-requires-clause-least
+first_failing-first_backlog-requires-clause-least g c =
     let none = nothing c.range_fault-ranges.result (sym c.is_some.ensures ∙ c.if-is_some.false) in
     let r = ranges-none Inputs c.args.bus c.index.result.now.window c.index-3.result.now.delay (sym c.range_fault-ranges.ensures ∙ none) in
     r.0
 
-pub first_overfull-first_backlog-requires-clause-most : goal.first_overfull-first_backlog-requires-clause-most
-first_overfull-first_backlog-requires-clause-most g c =
+pub first_failing-first_backlog-requires-clause-most : goal.first_failing-first_backlog-requires-clause-most
+first_failing-first_backlog-requires-clause-most g c =
     let none = nothing c.range_fault-ranges.result (sym c.is_some.ensures ∙ c.if-is_some.false) in
     let r = ranges-none Inputs c.args.bus c.index.result.now.window c.index-3.result.now.delay (sym c.range_fault-ranges.ensures ∙ none) in
     r.1
 
-pub first_overdue-first_delay-requires-clause-least : goal.first_overdue-first_delay-requires-clause-least
-first_overdue-first_delay-requires-clause-least g c =
-    let none = nothing c.range_fault-ranges.result (sym c.is_some.ensures ∙ c.if-is_some.false) in
-    let r = ranges-none Inputs c.args.bus c.index.result.now.window c.index-3.result.now.delay (sym c.range_fault-ranges.ensures ∙ none) in
-    r.0
-
-pub first_overdue-first_delay-requires-clause-most : goal.first_overdue-first_delay-requires-clause-most
-first_overdue-first_delay-requires-clause-most g c =
-    let none = nothing c.range_fault-ranges.result (sym c.is_some.ensures ∙ c.if-is_some.false) in
-    let r = ranges-none Inputs c.args.bus c.index.result.now.window c.index-3.result.now.delay (sym c.range_fault-ranges.ensures ∙ none) in
-    r.1
-
-pub first_overdue-first_delay-requires-clause-short : goal.first_overdue-first_delay-requires-clause-short
-first_overdue-first_delay-requires-clause-short g c =
+pub first_failing-first_backlog-requires-clause-short : goal.first_failing-first_backlog-requires-clause-short
+first_failing-first_backlog-requires-clause-short g c =
     let none = nothing c.range_fault-ranges.result (sym c.is_some.ensures ∙ c.if-is_some.false) in
     let r = ranges-none Inputs c.args.bus c.index.result.now.window c.index-3.result.now.delay (sym c.range_fault-ranges.ensures ∙ none) in
     r.2
@@ -63,14 +51,14 @@ input_fault-requires-clause-first_backlog g c =
     let there : c.args.bus < length c.args.certificate.now.inputs.items = omega (arith, c.requires.there, c.requires.sized.inputs, inputs-count c.args.certificate.now) in
     let window = ap (λ r. r.window) (sym (input-read c.args.certificate.now c.args.bus c.index.result.now there c.index.ensures)) in
     let backlog = ap (λ r. r.backlog) (sym (input-read c.args.certificate.now c.args.bus c.index-2.result.now there c.index-2.ensures)) in
-    backlog-read (g.A.ArrivalBound.cap c.args.arrivals.now) (g.S.ServiceBound.floor c.args.service.now) (bus_cap c.args.tables.now c.args.bus) (bus_floor c.args.tables.now c.args.bus) c.requires.arrivals c.requires.service c.index.result.now.window c.index-2.result.now.backlog (input_bound (certificate_rows c.args.certificate.now) c.args.bus).window (input_bound (certificate_rows c.args.certificate.now) c.args.bus).backlog c.first_overfull-first_backlog.result c.first_overfull-first_backlog.ensures window backlog
+    backlog-read (g.A.ArrivalBound.cap c.args.arrivals.now) (g.S.ServiceBound.floor c.args.service.now) (bus_cap c.args.tables.now c.args.bus) (bus_floor c.args.tables.now c.args.bus) c.requires.arrivals c.requires.service c.index.result.now.window c.index-2.result.now.backlog (input_bound (certificate_rows c.args.certificate.now) c.args.bus).window (input_bound (certificate_rows c.args.certificate.now) c.args.bus).backlog c.first_failing-first_backlog.result.0 c.first_failing-first_backlog.ensures.backlog window backlog
 
 pub input_fault-requires-clause-first_delay : goal.input_fault-requires-clause-first_delay
 input_fault-requires-clause-first_delay g c =
     let there : c.args.bus < length c.args.certificate.now.inputs.items = omega (arith, c.requires.there, c.requires.sized.inputs, inputs-count c.args.certificate.now) in
     let window = ap (λ r. r.window) (sym (input-read c.args.certificate.now c.args.bus c.index.result.now there c.index.ensures)) in
     let delay = ap (λ r. r.delay) (sym (input-read c.args.certificate.now c.args.bus c.index-3.result.now there c.index-3.ensures)) in
-    delay-read (g.A.ArrivalBound.cap c.args.arrivals.now) (g.S.ServiceBound.floor c.args.service.now) (bus_cap c.args.tables.now c.args.bus) (bus_floor c.args.tables.now c.args.bus) c.requires.arrivals c.requires.service c.index.result.now.window c.index-3.result.now.delay (input_bound (certificate_rows c.args.certificate.now) c.args.bus).window (input_bound (certificate_rows c.args.certificate.now) c.args.bus).delay c.first_overdue-first_delay.result c.first_overdue-first_delay.ensures window delay
+    delay-read (g.A.ArrivalBound.cap c.args.arrivals.now) (g.S.ServiceBound.floor c.args.service.now) (bus_cap c.args.tables.now c.args.bus) (bus_floor c.args.tables.now c.args.bus) c.requires.arrivals c.requires.service c.index.result.now.window c.index-3.result.now.delay (input_bound (certificate_rows c.args.certificate.now) c.args.bus).window (input_bound (certificate_rows c.args.certificate.now) c.args.bus).delay c.first_failing-first_backlog.result.1 c.first_failing-first_backlog.ensures.delay window delay
 
 pub returns : goal.returns
 returns g c =

@@ -1,0 +1,35 @@
+use Rattle.std.proofs.Common.{refl, ap, arith}
+use Rattle.std.proofs.lemmas.List.Sums.{sum_by_more, sum_by_more_le}
+use Rattle.dc_bound.specs.Jumps.{member_jumps, all_members}
+use Rattle.dc_bound.specs.Sums.{sum_bounded}
+use Rattle.dc_bound.proofs.arrival.SumOfArrivalBound.at_most_and_jump.Goals as goal
+
+pub overflow_add-total : goal.overflow_add-total
+overflow_add-total g c =
+    let cap = g.B.ArrivalBound.cap in
+    let more = sum_by_more_le (λ b. cap b c.args.d) c.args.self.now.members.now c.loop-member.member-index c.member-item.result c.loop-member-test.true in
+    let all = sum_bounded cap g.met.B.ArrivalBound.cap_monotone c.args.self.now.members.now c.args.self.now.small c.args.d c.requires in
+    let item = ap (λ b. cap b c.args.d) c.member-item.is in
+    omega (arith, more, all, item, c.at_most_and_jump-most.ensures.most, c.loop-member.invariant.total)
+
+pub loop-member-preserved : goal.loop-member-preserved
+loop-member-preserved g c =
+    let cap = g.B.ArrivalBound.cap in
+    let members = c.args.self.now.members.now in
+    let item = ap (λ b. cap b c.args.d) c.member-item.is in
+    record {
+      same = refl;
+      inside = omega (arith, c.loop-member-test.true);
+      total = omega (arith, c.loop-member.invariant.total, sum_by_more (λ b. cap b c.args.d) members c.loop-member.member-index c.member-item.result c.loop-member-test.true, item, c.at_most_and_jump-most.ensures.most);
+      jump =
+          member_jumps cap g.met.B.ArrivalBound.cap_monotone members c.loop-member.member-index c.member-item.result c.loop-member-test.true c.member-item.is c.args.d c.loop-member.jump
+          c.at_most_and_jump-most.result.1
+          c.earlier-jump.result
+          c.loop-member.invariant.jump
+          c.at_most_and_jump-most.ensures.jump
+          c.earlier-jump.ensures;
+    }
+
+pub returns-clause-jump : goal.returns-clause-jump
+returns-clause-jump g c =
+    all_members g.B.ArrivalBound.cap c.args.self.now.members.now c.loop-member.member-index c.args.d c.loop-member.jump c.loop-member-test.false c.loop-member.invariant.jump
