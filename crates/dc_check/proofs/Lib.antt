@@ -21,3 +21,4 @@ pub mod CertificateReads
 pub mod Jobs
 pub mod Naming
 pub mod Places
+pub mod Smallest

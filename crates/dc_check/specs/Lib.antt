@@ -4,3 +4,4 @@ pub mod Verdict
 pub mod Placed
 pub mod Certified
 pub mod Lent
+pub mod Small

@@ -1,10 +1,13 @@
 //! What an accepted certificate means for every run: laws about the definitions, for calls that cite them. They do nothing.
 
-ghost use Rattle.std.specs.Prelude.{◌≡◌, ◌↔◌, None};
+ghost use Rattle.std.specs.Prelude.{◌≡◌, ℕ, ◌≤◌, ◌↔◌, None};
 ghost use Rattle.dc_cert.specs.Claims.{Claims};
 ghost use Rattle.dc_check.specs.Accepts.{Accepts};
 ghost use Rattle.dc_check.specs.Certified.{AcceptedKeepTheirClaims};
+ghost use Rattle.dc_check.specs.Small.{small_tables, small_claims, small_run, SendsCopy};
 ghost use Rattle.dc_check.specs.Verdict.{verdict_of};
+ghost use Rattle.dc_event.specs.Admissible.{IsAdmissible};
+ghost use Rattle.dc_tables.specs.TableRows.{AreValid};
 
 use dc_tables::Tables;
 
@@ -20,4 +23,16 @@ pub fn no_fault_is_acceptance(tables: &Tables)
     ensures { (claims : Claims) → (verdict_of tables.now claims ≡ None) ↔ Accepts tables.now claims }
 {
     let _buses = tables.bus_count();
+}
+
+/// The least age of its label, in ticks, with which a certificate of the small tables is accepted. So there are tables
+/// and certificates that are accepted, and an admissible run of them in which a word is copied.
+pub fn least_age_of_the_small_tables() -> u32
+    ensures valid { AreValid small_tables }
+    ensures accepted { Accepts small_tables (small_claims result) }
+    ensures least { (age : ℕ) → Accepts small_tables (small_claims age) → result ≤ age }
+    ensures admissible { IsAdmissible small_tables small_run }
+    ensures copies { SendsCopy small_tables small_run }
+{
+    24
 }
