@@ -1,7 +1,7 @@
 -- What was read of a certificate's rows, in its numbers.
-use Rattle.std.proofs.Common.{◌≡◌, ℕ, ◌<◌, List, length, map, get_or, sym, ap, ◌∙◌, arith}
+use Rattle.std.proofs.Common.{◌≡◌, ℕ, ◌<◌, length, map, get_or, sym, ap, ◌∙◌, arith}
 use Rattle.std.proofs.lemmas.List.{get_or-map, length-map}
-use Rattle.dc_cert.specs.Bounds.{InputBound, OutputBound, input_numbers, output_numbers, input_bound, output_bound, certificate_rows}
+use Rattle.dc_cert.specs.Bounds.{input_numbers, output_numbers, input_bound, output_bound, certificate_rows}
 use Rattle.dc_cert.specs.Claims.{input_claim, output_claim, label_claim}
 use Rattle.dc_cert.specs.declared.certificate.Certificate.{Certificate}
 use Rattle.dc_cert.specs.declared.certificate.InputRow.{InputRow}

@@ -1,5 +1,5 @@
 -- A usable word stays usable when it is copied.
-use Rattle.std.proofs.Common.{◌≡◌, ℕ, ◌+◌, ◌*◌, ◌/◌, ◌%◌, ◌-◌, ◌^◌, ◌<◌, true, arith}
+use Rattle.std.proofs.Common.{◌≡◌, ℕ, ◌+◌, ◌*◌, ◌/◌, ◌%◌, ◌-◌, ◌<◌, true, arith}
 use Rattle.dc_word.specs.Format.{is_usable}
 use Rattle.dc_word.specs.Word.{reversed, ones_in, data_of, ssm_of, body_of, composed_word, copied_word}
 use Rattle.dc_word.specs.declared.format.Format.{Format}

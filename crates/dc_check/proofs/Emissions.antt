@@ -1,6 +1,6 @@
 -- Each output label keeps its intervals.
-use Rattle.std.proofs.Common.{◌≡◌, ℕ, suc, ◌+◌, ◌-◌, ◌%◌, ◌≤◌, ◌<◌, ◌⊎◌, ◌==◌, inl, inr, Bool, true, false, cond, List, [], ◌∷◌, ◌++◌, length, map, get_or, Option, Some, None, refl, sym, ap, ◌∙◌, subst, arith, append_assoc, length-append}
-use Rattle.std.specs.Prelude.{nat_lt, filter, IfSome}
+use Rattle.std.proofs.Common.{◌≡◌, ℕ, suc, ◌+◌, ◌%◌, ◌≤◌, ◌<◌, ◌⊎◌, ◌==◌, inl, inr, Bool, true, false, cond, List, [], ◌∷◌, ◌++◌, length, get_or, Option, Some, None, refl, sym, ap, ◌∙◌, subst, arith, append_assoc, length-append}
+use Rattle.std.specs.Prelude.{nat_lt, IfSome}
 use Rattle.std.specs.List.{flat_map}
 use Rattle.std.proofs.Math.Nat.{mod-lt}
 use Rattle.std.proofs.lemmas.Bool.{cases_lt}
@@ -24,8 +24,8 @@ use Rattle.dc_event.specs.declared.event.Event.TheVariants.{Tick, Arrive, Route,
 use Rattle.dc_tables.specs.TableRows.{TableRows, AreValid, output_row, entry_row, label_row}
 use Rattle.dc_tables.specs.declared.rows.Entry.{Entry}
 use Rattle.dc_transmit.proofs.GapLaws.{least_apart, greatest_apart, first_due}
-use Rattle.dc_transmit.specs.Gaps.{gaps, first_off, gaps_to, least_of, greatest_of, greatest_gap}
-use Rattle.dc_transmit.specs.Schedule.{off, no_entry, label_gaps, is_of}
+use Rattle.dc_transmit.specs.Gaps.{least_of, greatest_of}
+use Rattle.dc_transmit.specs.Schedule.{off, no_entry, is_of}
 
 -- ---- gaps
 

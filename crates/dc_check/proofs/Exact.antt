@@ -1,9 +1,9 @@
 -- There is no fault exactly where the certificate is accepted.
-use Rattle.std.proofs.Common.{◌≡◌, ℕ, zero, suc, ◌+◌, ◌-◌, ◌≤◌, ◌<◌, ◌↔◌, Bool, true, false, ◌&&◌, eqb, leb, ltb, Option, Some, None, List, [], ◌∷◌, length, get_or, map, refl, sym, ap, ◌∙◌, arith, inl, inr, if◌then◌else◌}
+use Rattle.std.proofs.Common.{◌≡◌, ℕ, zero, suc, ◌+◌, ◌-◌, ◌≤◌, ◌<◌, ◌↔◌, Bool, true, false, ◌&&◌, eqb, leb, Option, Some, None, List, [], ◌∷◌, length, map, refl, sym, ap, ◌∙◌, arith, inl, inr}
 use Rattle.std.specs.Prelude.{not, nat_le, nat_lt, slice_index}
 use Rattle.std.specs.Bool.{Decides}
 use Rattle.std.specs.Cmp.Lexicographic.{pointwise}
-use Rattle.std.specs.List.{All, AllPass, list_all}
+use Rattle.std.specs.List.{All, list_all}
 use Rattle.std.specs.Option.{option_or}
 use Rattle.std.specs.Str.{bytes_eq}
 use Rattle.std.proofs.lemmas.Bool.{cases_lt, eq-eqb, eqb-true, le-leb, leb-true, lt-ltb, le-ltb}
@@ -11,15 +11,15 @@ use Rattle.std.proofs.lemmas.List.{length-map}
 use Rattle.std.proofs.lemmas.List.Sums.{AllPass-from_list_all, list_all-from_AllPass}
 use Rattle.std.proofs.lemmas.Slice.Eq.{slice_eq-Decides, bytes_eq-Decides}
 use Rattle.dc_bound.specs.Places.{when, or_else}
-use Rattle.dc_busy.specs.BusyWindow.{Closes, BacklogAt, BacklogBounded, DelayAt, DelayBounded}
+use Rattle.dc_busy.specs.BusyWindow.{BacklogBounded, DelayBounded}
 use Rattle.dc_cert.specs.Bounds.{InputBound, OutputBound, CertificateRows, input_bound, output_bound, input_numbers, output_numbers, numbers_of}
 use Rattle.dc_cert.specs.Claims.{Claims}
-use Rattle.dc_check.specs.Accepts.{WindowCloses, BacklogFits, DelayHolds, AcceptsInput, AcceptsOutput, AcceptsLabel, AcceptsNumbers, IsNamed, AreNamed, Accepts, gaps_of, label_delay, source_delay}
-use Rattle.dc_check.specs.Verdict.{fault_at, unless, at_window, first_of, is_window, is_closing, first_failing, backlog_failure, delay_failure, is_named, IsSized, name_rules, misnaming, range_rules, input_rules, output_rules, label_rules, job_count, job_ranges, job_rules, job_verdict, first_job_fault, verdict_of}
+use Rattle.dc_check.specs.Accepts.{AcceptsInput, AcceptsOutput, AcceptsLabel, AcceptsNumbers, IsNamed, AreNamed, Accepts, gaps_of, label_delay, source_delay}
+use Rattle.dc_check.specs.Verdict.{unless, at_window, first_of, is_window, first_failing, backlog_failure, delay_failure, is_named, IsSized, name_rules, misnaming, range_rules, input_rules, output_rules, label_rules, job_count, job_verdict, first_job_fault, verdict_of}
 use Rattle.dc_check.specs.declared.fault.CheckFault.{CheckFault}
 use Rattle.dc_check.specs.declared.fault.Code.{Code}
 use Rattle.dc_check.specs.declared.fault.Part.{Part}
-use Rattle.dc_check.specs.declared.fault.Part.TheVariants.{Inputs, Outputs, Labels}
+use Rattle.dc_check.specs.declared.fault.Part.TheVariants.{Inputs, Outputs}
 use Rattle.dc_tables.specs.Names.{text_of}
 use Rattle.dc_tables.specs.TableRows.{TableRows, stream_row, label_row, bus_cap, bus_floor, output_cap, output_floor}
 

@@ -8,7 +8,6 @@ use Rattle.dc_cert.specs.declared.certificate.InputRow.{InputRow}
 use Rattle.dc_cert.specs.declared.certificate.OutputRow.{OutputRow}
 use Rattle.dc_cert.specs.declared.certificate.LabelRow.{LabelRow}
 use Rattle.dc_check.proofs.Exact.{named-is, is-named}
-use Rattle.dc_check.specs.Accepts.{IsNamed}
 use Rattle.dc_check.specs.Verdict.{is_named}
 use Rattle.dc_tables.specs.Names.{text_of}
 

@@ -1,5 +1,5 @@
 -- The verdict on a certificate: the first rule that it breaks.
-use Rattle.std.specs.Prelude.{◌≡◌, ℕ, ◌+◌, ◌-◌, Bool, ◌==◌, ◌&&◌, not, if◌then◌else◌, nat_le, nat_lt, zero, suc, Option, None, Some, List, [], ◌∷◌, length, map, slice_index, string_bytes}
+use Rattle.std.specs.Prelude.{◌≡◌, ℕ, ◌+◌, ◌-◌, Bool, ◌==◌, ◌&&◌, not, if◌then◌else◌, nat_le, nat_lt, zero, suc, Option, None, Some, List, [], ◌∷◌, length, map, slice_index}
 use Rattle.std.specs.Cmp.Lexicographic.{pointwise}
 use Rattle.std.specs.List.{list_all}
 use Rattle.std.specs.Option.{option_or}

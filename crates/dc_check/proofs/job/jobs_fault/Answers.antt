@@ -1,7 +1,7 @@
-use Rattle.std.proofs.Common.{◌≡◌, ◌+◌, ◌<◌, length, is_some, sym, ap, ◌∙◌, arith}
+use Rattle.std.proofs.Common.{is_some, sym, ap, ◌∙◌, arith}
 use Rattle.dc_cert.specs.Bounds.{certificate_rows}
 use Rattle.dc_check.proofs.Jobs.{jobs-zero, jobs-more, jobs-found}
-use Rattle.dc_check.specs.Verdict.{job_count, job_verdict, first_job_fault}
+use Rattle.dc_check.specs.Verdict.{job_count, job_verdict}
 use Rattle.dc_check.proofs.job.jobs_fault.Goals as goal
 
 pub loop-job-init : goal.loop-job-init

@@ -1,9 +1,8 @@
-use Rattle.std.proofs.Common.{◌≡◌, sym, ◌∙◌, None, Some}
+use Rattle.std.proofs.Common.{sym, ◌∙◌, None, Some}
 use Rattle.dc_cert.specs.Claims.{claims_of}
 use Rattle.dc_check.proofs.Exact.{sized-by_names}
 use Rattle.dc_check.proofs.Jobs.{verdict-jobs, verdict-names}
 use Rattle.dc_check.proofs.Places.{verdict_placed}
-use Rattle.dc_check.specs.Verdict.{misnaming}
 use Rattle.dc_check.proofs.job.verdict.Goals as goal
 
 pub returns-in-Some : goal.returns-in-Some

@@ -1,4 +1,4 @@
-use Rattle.std.proofs.Common.{◌≡◌, subst}
+use Rattle.std.proofs.Common.{subst}
 use Rattle.std.specs.Arc.{arc_value}
 use Rattle.dc_cert.specs.Claims.{claims_of}
 use Rattle.dc_cert.specs.declared.certificate.Certificate.{Certificate}

@@ -1,11 +1,11 @@
-use Rattle.std.proofs.Common.{◌≡◌, ℕ, ◌+◌, Bool, List, sym, ap, ◌∙◌, arith}
+use Rattle.std.proofs.Common.{◌+◌, sym, ap, ◌∙◌, arith}
 use Rattle.std.specs.Prelude.{nat_le}
 use Rattle.std.specs.List.{list_all}
 use Rattle.std.proofs.lemmas.Bool.{le-leb, lt-leb}
 use Rattle.dc_cert.specs.Bounds.{certificate_rows}
 use Rattle.dc_check.proofs.GapTests.{each-passed, passed-more, failed-at}
 use Rattle.dc_check.specs.Accepts.{source_delay}
-use Rattle.dc_tables.specs.TableRows.{stream_row, label_row}
+use Rattle.dc_tables.specs.TableRows.{label_row}
 use Rattle.dc_check.proofs.labels.are_within.Goals as goal
 
 pub returns : goal.returns

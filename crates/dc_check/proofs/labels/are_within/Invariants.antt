@@ -3,7 +3,7 @@ use Rattle.std.specs.Prelude.{nat_le}
 use Rattle.std.specs.List.{list_all}
 use Rattle.dc_cert.specs.Bounds.{certificate_rows}
 use Rattle.dc_check.specs.Accepts.{source_delay}
-use Rattle.dc_tables.specs.TableRows.{stream_row, label_row}
+use Rattle.dc_tables.specs.TableRows.{label_row}
 use Rattle.dc_check.proofs.labels.are_within.Given as goal
 
 abbrev pub invariant-loop-stream : goal.invariant-loop-stream

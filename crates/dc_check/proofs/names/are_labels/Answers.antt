@@ -1,4 +1,4 @@
-use Rattle.std.proofs.Common.{◌≡◌, sym, ◌<◌, length, map, string_bytes, ◌∙◌, arith}
+use Rattle.std.proofs.Common.{◌≡◌, sym, ◌<◌, length, map, ◌∙◌, arith}
 use Rattle.std.proofs.lemmas.List.{length-map}
 use Rattle.dc_cert.specs.Claims.{LabelClaim, label_claim}
 use Rattle.dc_check.proofs.Naming.{label_read, names_agree, names_differ, other_name, same_all, same_more}

@@ -1,4 +1,4 @@
-use Rattle.std.proofs.Common.{◌≡◌, ℕ, ◌≤◌, ◌<◌, [], length, refl, sym, ap, ◌∙◌, arith}
+use Rattle.std.proofs.Common.{◌<◌, [], length, refl, sym, ap, ◌∙◌, arith}
 use Rattle.std.specs.Prelude.{nat_le}
 use Rattle.dc_cert.specs.Bounds.{input_bound, certificate_rows}
 use Rattle.dc_check.proofs.CertificateReads.{inputs-count, input-read}
@@ -7,7 +7,7 @@ use Rattle.dc_check.proofs.Firsts.{rule-same, rules-same, closing-same}
 use Rattle.dc_check.specs.Verdict.{first_of, at_window, is_closing}
 use Rattle.dc_check.specs.declared.fault.Code.TheVariants.{C04, C06}
 use Rattle.dc_check.specs.declared.fault.Part.TheVariants.{Inputs}
-use Rattle.dc_tables.specs.TableRows.{bus_row, bus_cap, bus_floor}
+use Rattle.dc_tables.specs.TableRows.{bus_cap, bus_floor}
 use Rattle.dc_check.proofs.queues.input_fault.Goals as goal
 
 pub closing_fault-requires : goal.closing_fault-requires

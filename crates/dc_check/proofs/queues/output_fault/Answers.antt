@@ -1,4 +1,4 @@
-use Rattle.std.proofs.Common.{◌≡◌, ℕ, ◌≤◌, ◌<◌, [], length, refl, sym, ap, ◌∙◌, arith}
+use Rattle.std.proofs.Common.{◌<◌, [], length, refl, sym, ap, ◌∙◌, arith}
 use Rattle.dc_cert.specs.Bounds.{output_bound, certificate_rows}
 use Rattle.dc_check.proofs.CertificateReads.{outputs-count, output-read}
 use Rattle.dc_check.proofs.Exact.{ranges-none}
