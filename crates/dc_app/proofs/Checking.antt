@@ -16,9 +16,9 @@ use Rattle.dc_tables.specs.TableRows.{TableRows}
 use Rattle.dc_tables.specs.declared.fault.TableFault.{TableFault}
 use Rattle.dc_toml.specs.Reading.{tables_of}
 use Rattle.dc_toml.specs.Told.{AreTablesOf}
-use Rattle.dc_app.specs.Answer.{Raises, Reports, failed_by, sink_failures_of, status_of}
+use Rattle.dc_app.specs.Answer.{Raises, Reports, failed_by, one_line, sink_failures_of, status_of}
 use Rattle.dc_tables.specs.declared.fault.BuildError.TheVariants.{Refused as RefusedTables}
-use Rattle.dc_app.specs.Check.{Certifies, CheckAnswers, Judges, JudgesTexts, ReportsCheck, accepted_text, judged_answer, one_line}
+use Rattle.dc_app.specs.Check.{Certifies, CheckAnswers, Judges, JudgesTexts, ReportsCheck, accepted_text, judged_answer}
 use Rattle.dc_app.specs.Inputs.{Loads}
 use Rattle.dc_app.specs.declared.answer.Failure.{Failure}
 use Rattle.dc_app.specs.declared.answer.Failure.TheVariants.{Source, Sink, Memory}

@@ -15,12 +15,20 @@ pub record Answer : Type 0 where
 abbrev pub after_all : List (List ℕ) → Answer → Answer
 after_all lines rest = record { lines = lines ++ rest.lines; status = rest.status }
 
+-- one line
+abbrev pub one_line : List ℕ → ℕ → Answer
+one_line line status = record { lines = line ∷ []; status = status }
+
 -- the line of a fault of a text
 abbrev pub fault_text : List ℕ → ℕ → List ℕ
 fault_text code number = codes "unreadable " ++ code ++ codes " at line " ++ decimal number
 
 abbrev pub fault : List ℕ → ℕ → Answer
-fault code number = record { lines = fault_text code number ∷ []; status = 2 }
+fault code number = one_line (fault_text code number) 2
+
+-- a text that can't be read, by its first fault
+abbrev pub unreadable : List ℕ → Answer
+unreadable fault = one_line (codes "unreadable " ++ fault) 2
 
 -- an answer without a line
 abbrev pub nothing : Answer

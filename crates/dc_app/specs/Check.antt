@@ -11,14 +11,14 @@ use Rattle.dc_check.specs.declared.fault.Code.{Code}
 use Rattle.dc_check.specs.declared.fault.Code.TheVariants.{C01, C02, C03, C04, C05, C06, C07, C08, C09, C10, C11, C12}
 use Rattle.dc_check.specs.declared.fault.Part.{Part}
 use Rattle.dc_check.specs.declared.fault.Part.TheVariants.{Inputs, Outputs, Labels}
-use Rattle.dc_tables.specs.FaultText.{table_fault_text}
 use Rattle.dc_tables.specs.Names.{text_of}
 use Rattle.dc_tables.specs.TableRows.{TableRows}
 use Rattle.dc_tables.specs.declared.fault.BuildError.{BuildError}
 use Rattle.dc_tables.specs.declared.fault.BuildError.TheVariants.{Refused, Memory as NoMemory}
 use Rattle.dc_toml.specs.Reading.{tables_of}
 use Rattle.dc_toml.specs.Told.{TellsTables, AreTablesOf}
-use Rattle.dc_app.specs.Answer.{Answer, IsCounted, Reports}
+use Rattle.dc_app.specs.Answer.{Answer, IsCounted, Reports, one_line, unreadable}
+use Rattle.dc_app.specs.Refusals.{tables_end}
 use Rattle.dc_app.specs.declared.answer.Failure.{Failure}
 use Rattle.dc_app.specs.declared.answer.Failure.TheVariants.{Source, Sink, Memory}
 
@@ -83,13 +83,6 @@ accepted_text t = codes "accepted inputs " ++ decimal (length t.buses) ++ codes 
 
 -- ---- the answer
 
-abbrev pub one_line : List ℕ → ℕ → Answer
-one_line line status = record { lines = line ∷ []; status = status }
-
--- a text that can't be read, by its first fault
-abbrev pub unreadable : List ℕ → Answer
-unreadable fault = one_line (codes "unreadable " ++ fault) 2
-
 -- to a verdict
 abbrev pub answer_verdict : TableRows → Option CheckFault → Answer
 answer_verdict t None = one_line (accepted_text t) 0
@@ -103,7 +96,7 @@ answer_claims t (Err fault) = unreadable (fault_text fault)
 -- to the text of a certificate, where the tables read so: they are judged first
 abbrev pub AnswersTables : List ℕ → Answer → Result TableRows BuildError → Type 0
 AnswersTables certificate answer (Ok t) = answer ≡ answer_claims t (certificate_of certificate)
-AnswersTables certificate answer (Err (Refused fault)) = answer ≡ unreadable (table_fault_text fault)
+AnswersTables certificate answer (Err (Refused fault)) = answer ≡ tables_end fault
 AnswersTables certificate answer (Err (NoMemory e)) = ⊥
 
 -- to both texts

@@ -17,7 +17,7 @@ use Rattle.dc_core.specs.declared.fault.StepFault.{StepFault}
 use Rattle.dc_core.specs.declared.fault.StepFault.TheVariants.{Spent, TooSoon, Owed, TickLimit}
 use Rattle.dc_app.specs.declared.answer.Failure.{Failure}
 use Rattle.dc_app.specs.declared.answer.Failure.TheVariants.{Source, Sink, Memory}
-use Rattle.dc_app.specs.Answer.{Answer, fault, nothing}
+use Rattle.dc_app.specs.Answer.{Answer, fault, nothing, unreadable}
 
 abbrev pub trace_code_text : TraceCode → List ℕ
 trace_code_text E1 = codes "E1"
@@ -47,7 +47,7 @@ StopsBy stop (Err Memory) = ⊥
 
 -- the first fault of the tables
 abbrev pub tables_end : TableFault → Answer
-tables_end f = record { lines = (codes "unreadable " ++ table_fault_text f) ∷ []; status = 2 }
+tables_end f = unreadable (table_fault_text f)
 
 abbrev pub actor_name : TableRows → Actor → List ℕ
 actor_name t (Wire b) = []

@@ -3,19 +3,13 @@
 
 mod answer;
 mod check;
-#[cfg(test)]
-mod check_tests;
 mod decode;
 mod inputs;
 mod judgement;
 mod print;
 mod replay;
-#[cfg(test)]
-mod replay_tests;
 mod replies;
 mod steps;
-#[cfg(test)]
-mod tests;
 mod text;
 
 pub use check::run_check;

@@ -1,7 +1,7 @@
 //! Asks an engine, and compares its line and its status with what is wanted.
 
 use dc_app::{run_check, run_replay};
-use dc_device::{MemSink, MemSource};
+use dc_device::{MemSink, MemSource, Sink, Source};
 use std::alloc::Global;
 use std::process::Abort;
 use std::test::Fail;
@@ -88,4 +88,74 @@ pub fn replay_says(
     assert_eq!(rt; sink.bytes(), want, "in pieces of {piece}");
     assert_eq!(rt; status, want_status, "in pieces of {piece}");
     Ok(())
+}
+
+/// A replay, what it writes and how it ends.
+#[derive(Clone, Copy)]
+pub struct Case<'a> {
+    pub all: bool,
+    pub tables: &'a [u8],
+    pub trace: &'a [u8],
+    pub want: &'a [u8],
+    pub status: u8,
+}
+
+/// Room for what any of these replays writes.
+const ROOM: usize = 4096;
+
+/// Replays in pieces of several sizes.
+pub fn replays(rt: &impl Abort, alloc: Global, case: Case) -> Result<(), Fail> {
+    for piece in [1, 7, 64, 4096] {
+        let mut sink = MemSink::new(alloc, ROOM, 0)?;
+        let mut tables = MemSource::new(case.tables, piece, 0);
+        let mut trace = MemSource::new(case.trace, piece, 0);
+        let status = run_replay(alloc, case.all, &mut tables, &mut trace, &mut sink);
+        assert_eq!(rt; sink.bytes(), case.want, "in pieces of {piece}");
+        assert_eq!(rt; status, case.status, "in pieces of {piece}");
+    }
+    Ok(())
+}
+
+/// Whether these bytes are whole lines of a text, and then the line of a failed device.
+fn breaks_off(written: &[u8], text: &[u8]) -> bool {
+    match written.strip_suffix(b"failed device\n".as_slice()) {
+        Some(lines) => text.starts_with(lines) && (lines.is_empty() || lines.ends_with(b"\n")),
+        None => false,
+    }
+}
+
+/// Replays in pieces of 7, where each pull of the trace fails in turn.
+pub fn survives_pulls(rt: &impl Abort, alloc: Global, case: Case) -> Result<(), Fail> {
+    for pull in 1..1000 {
+        let mut sink = MemSink::new(alloc, ROOM, 0)?;
+        let mut tables = MemSource::new(case.tables, 4096, 0);
+        let mut trace = MemSource::new(case.trace, 7, pull);
+        let status = run_replay(alloc, case.all, &mut tables, &mut trace, &mut sink);
+        if trace.failures() == 0 {
+            assert_eq!(rt; sink.bytes(), case.want, "at pull {pull}");
+            assert_eq!(rt; status, case.status, "at pull {pull}");
+            return Ok(());
+        }
+        assert!(rt; breaks_off(sink.bytes(), case.want), "at pull {pull}");
+        assert_eq!(rt; status, 3, "at pull {pull}");
+    }
+    Err("some pull fails again and again".into())
+}
+
+/// Replays in pieces of 1, where each push fails in turn.
+pub fn survives_pushes(rt: &impl Abort, alloc: Global, case: Case) -> Result<(), Fail> {
+    for push in 1..1000 {
+        let mut sink = MemSink::new(alloc, ROOM, push)?;
+        let mut tables = MemSource::new(case.tables, 4096, 0);
+        let mut trace = MemSource::new(case.trace, 1, 0);
+        let status = run_replay(alloc, case.all, &mut tables, &mut trace, &mut sink);
+        if sink.failures() == 0 {
+            assert_eq!(rt; sink.bytes(), case.want, "at push {push}");
+            assert_eq!(rt; status, case.status, "at push {push}");
+            return Ok(());
+        }
+        assert!(rt; case.want.starts_with(sink.bytes()), "at push {push}");
+        assert_eq!(rt; status, 3, "at push {push}");
+    }
+    Err("some push fails again and again".into())
 }

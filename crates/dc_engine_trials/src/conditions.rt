@@ -48,6 +48,25 @@ limit=23|refused C11 label x
 stale=23 age=25|accepted inputs 1 outputs 1 labels 1
 delay=3 age=25|refused C12 label x";
 
+/// A name or a number that breaks each condition, and tables that may not be read.
+const NUMBERS: &str = "input=B sender=P name=y|refused C01 inputs
+sender=P name=y|refused C01 outputs
+name=y|refused C01 labels
+output_delay=4|accepted inputs 1 outputs 1 labels 1
+output_delay=5|refused C08 label x
+age=23|refused C10 label x
+age=31|refused C11 label x
+stale=21|refused C12 label x
+delay=1|refused C06 input A window 1
+window=2|refused C03 input A
+window=100001|refused C02 input A
+queue=1|refused C05 input A
+backlog=1|refused C04 input A window 1
+queue=1 backlog=1|refused C04 input A window 1
+output_window=2|refused C03 output O
+output_delay=1|refused C06 output O window 1
+steps=3|unreadable T23 at router 0";
+
 /// Each neighbouring pair of conditions broken at once.
 const ORDER: &str = "name=y window=0|refused C01 labels
 name=y output_window=0|refused C01 labels
@@ -90,6 +109,7 @@ buses=2 visits=\"A\",\"B\" sources=\"A-203\",\"B-203\" window=5 delay=3 more=,{\
 
 #[test]
 fn the_first_broken_condition_is_told(rt: HostRuntime) -> Result<(), Fail> {
+    judges(&rt, rt.alloc(), NUMBERS)?;
     judges(&rt, rt.alloc(), EDGES)?;
     judges(&rt, rt.alloc(), ORDER)?;
     judges(&rt, rt.alloc(), GAPS)?;

@@ -8,8 +8,14 @@ mod certificates;
 #[cfg(test)]
 mod conditions;
 #[cfg(test)]
+mod decodes;
+#[cfg(test)]
 mod large;
 #[cfg(test)]
 mod replays;
 #[cfg(test)]
+mod rows;
+#[cfg(test)]
 mod small;
+#[cfg(test)]
+mod verdicts;

@@ -40,16 +40,16 @@ pub fn push_filled(
     Ok(())
 }
 
-const HEAD: &str = "version = 1
-tick_us = 1000
+const HEAD: &str = "version = <version=1>
+tick_us = <tick=1000>
 [[parameter]]
 label = \"203\"
 equipment = \"001\"
 format = \"bnr\"
-min_us = 10000
+min_us = <least=10000>
 max_us = 20000
 [[parameter]]
-label = \"204\"
+label = \"<second=204>\"
 equipment = \"001\"
 format = \"bnr\"
 min_us = 10000
@@ -57,7 +57,7 @@ max_us = 20000
 [[bus]]
 name = \"A\"
 speed = \"high\"
-queue = <queue=2>
+<queue_key=queue> = <queue=2>
 [[bus.stream]]
 name = \"A-203\"
 label = \"203\"
@@ -98,9 +98,9 @@ sdi = \"any\"
 
 const TAIL: &str = "[[router]]
 name = \"R1\"
-steps = 1
+steps = <steps=1>
 within = 1
-most = 2
+most = <most=2>
 visits = [<visits=\"A\">]
 [[output]]
 name = \"O\"
@@ -134,4 +134,4 @@ pub fn push_tables(text: &mut String, row: &str) -> Result<(), AllocError> {
 
 /// The certificate of the small tables, with holes.
 pub const CERTIFICATE: &str =
-    "{\"inputs\":[{\"backlog\":<backlog=2>,\"bus\":\"A\",\"delay\":<delay=2>,\"window\":<window=3>}<more=>],\"labels\":[{\"age\":<age=24>,\"label\":\"<name=x>\"}],\"outputs\":[{\"delay\":<output_delay=2>,\"output\":\"O\",\"window\":<output_window=3>}],\"version\":1}";
+    "{\"inputs\":[{\"backlog\":<backlog=2>,\"bus\":\"<input=A>\",\"delay\":<delay=2>,\"window\":<window=3>}<more=>],\"labels\":[{\"age\":<age=24>,\"label\":\"<name=x>\"}],\"outputs\":[{\"delay\":<output_delay=2>,\"output\":\"<sender=O>\",\"window\":<output_window=3>}],\"version\":1}";

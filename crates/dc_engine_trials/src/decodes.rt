@@ -1,11 +1,12 @@
-//! The engines through devices over memory: printed text, each piece size, and devices that fail in mid-stream.
+//! Words decoded: printed text in pieces of each size, devices that fail in mid-stream, and a person at a terminal.
 ghost use Rattle.std.specs.Prelude.{None};
 
-use super::*;
+use dc_app::run_decode;
 use dc_device::{Broken, MemSink, MemSource, ReadSource, Sink, Source, WriteSink};
 use dc_word::Format;
 use std::alloc::Global;
 use std::cell::Cell;
+use std::rt::HostRuntime;
 use std::test::Fail;
 
 // What `decode` writes for a text in pieces, where a pull and a push fail, and its status.

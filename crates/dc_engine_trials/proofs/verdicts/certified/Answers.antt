@@ -3,7 +3,7 @@ use Rattle.dc_cert.specs.Claims.{claims_of}
 use Rattle.dc_check.specs.Accepts.{Accepts}
 use Rattle.dc_check.specs.Verdict.{verdict_of}
 use Rattle.dc_tables.specs.TableRows.{TableRows}
-use Rattle.dc_app.proofs.check_tests.certified.Goals as goal
+use Rattle.dc_engine_trials.proofs.verdicts.certified.Goals as goal
 
 pub certify-requires : goal.certify-requires
 certify-requires c =
