@@ -11,3 +11,5 @@ mod judging;
 mod runs;
 #[cfg(test)]
 mod tables;
+#[cfg(test)]
+mod worked;

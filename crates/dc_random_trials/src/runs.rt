@@ -46,9 +46,19 @@ fn kind_of(answer: &Result<Reply, StepFault>) -> usize {
 
 /// A run, and what the concentrator replied to its events.
 #[derive(Drop)]
-struct Recording {
+pub struct Recording {
     run: Vec<Event>,
     replies: Vec<Reply>,
+}
+
+impl Recording {
+    /// The run of no event.
+    pub fn new(alloc: Global) -> Recording {
+        Recording {
+            run: Vec::new(alloc),
+            replies: Vec::new(alloc),
+        }
+    }
 }
 
 /// Where the second opinion sees the run with this event break the budgets.
@@ -82,7 +92,7 @@ fn refused(
 }
 
 /// Tries an event, and compares a refusal. The kind of the answer.
-fn try_event(
+pub fn try_event(
     rt: &impl Abort,
     alloc: Global,
     tables: &Tables,
@@ -102,7 +112,7 @@ fn try_event(
 }
 
 /// Compares the replies with those of the second opinion, which sees the run keep the budgets.
-fn agrees(
+pub fn agrees(
     rt: &impl Abort,
     alloc: Global,
     tables: &Tables,
@@ -124,10 +134,7 @@ fn run_events(
     core: &mut Core,
     counts: &mut [u32],
 ) -> Result<(), AllocError> {
-    let mut recording = Recording {
-        run: Vec::new(alloc),
-        replies: Vec::new(alloc),
-    };
+    let mut recording = Recording::new(alloc);
     for _tried in 0..TRIED {
         let event = random_event(chance, tables);
         let kind = try_event(rt, alloc, tables, core, &mut recording, &event)?;
