@@ -6,6 +6,7 @@ use Rattle.dc_event.specs.Emissions.{emission}
 use Rattle.dc_event.specs.declared.event.Event.{Event}
 use Rattle.dc_event.specs.declared.event.Event.TheVariants.{Tick, Arrive, Route, Send}
 use Rattle.dc_tables.specs.Names.{padded}
+use Rattle.dc_tables.specs.TableKeys.{no_keys}
 use Rattle.dc_tables.specs.TableRows.{TableRows}
 use Rattle.dc_word.specs.declared.format.Format.TheVariants.{Bnr}
 
@@ -21,7 +22,7 @@ small_tables = record {
   routers = record { steps = 1; within = 1; most = 2; visits = 0 ∷ [] } ∷ [];
   outputs = record { steps = 1; within = 2; gap = 1; frame = 15; entries = record { offset = 0; label = 0 } ∷ [] } ∷ [];
   labels = record { output = 0; label = 131; sdi = 0; format = Bnr; sources = 0 ∷ []; stale = 22; oldest = 30; least = 11; greatest = 19 } ∷ [];
-  keys = record {
+  keys = record no_keys {
     buses = padded (65 ∷ []) ∷ [];
     streams = padded (97 ∷ []) ∷ padded (98 ∷ []) ∷ [];
     routers = padded (82 ∷ []) ∷ [];

@@ -17,3 +17,6 @@ pub mod Pushed
 pub mod Spelling
 pub mod BoundsMade
 pub mod Parted
+pub mod Counted
+pub mod Meeting
+pub mod Split

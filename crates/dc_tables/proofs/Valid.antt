@@ -7,7 +7,8 @@ use Rattle.dc_word.specs.declared.format.Format.TheVariants.{Bnr}
 use Rattle.dc_tables.specs.Document.{Document, IsInOrder}
 use Rattle.dc_tables.specs.RowsOf.{AreRows}
 use Rattle.dc_tables.specs.TableRows.{TableRows, AreValid}
-use Rattle.dc_tables.specs.TableKeys.{TableKeys}
+use Rattle.dc_tables.specs.TableKeys.{TableKeys, WrittenKeys}
+use Rattle.dc_tables.specs.declared.parts.ParameterPart.{ParameterPart}
 use Rattle.dc_tables.specs.Keyed.{AreKeyed}
 use Rattle.dc_tables.specs.declared.rows.OutputLabel.{OutputLabel}
 use Rattle.dc_tables.proofs.Picks.{no_item, not_below}
@@ -93,9 +94,9 @@ valid_rows d t order rows fit first later =
     valid d t order rows fit (shape_obeys d a.0) (totals_obey d b.0) (quantities_obey d e.1) (references_obey d g.0) (schedules_obey d g.1)
 
 -- names alike make keys alike
-pub keys_same : {a b e f g a2 b2 e2 f2 g2 : List (List ℕ)} → a ≡ a2 → b ≡ b2 → e ≡ e2 → f ≡ f2 → g ≡ g2
-    → ◌≡◌ {A = TableKeys} (record { buses = a; streams = b; routers = e; outputs = f; labels = g }) (record { buses = a2; streams = b2; routers = e2; outputs = f2; labels = g2 })
-keys_same p q r s u = λ i. record { buses = p i; streams = q i; routers = r i; outputs = s i; labels = u i }
+pub keys_same : {a b e f g a2 b2 e2 f2 g2 : List (List ℕ)} {m m2 : List ParameterPart} {w w2 : WrittenKeys} → a ≡ a2 → b ≡ b2 → e ≡ e2 → f ≡ f2 → g ≡ g2 → m ≡ m2 → w ≡ w2
+    → ◌≡◌ {A = TableKeys} (record { buses = a; streams = b; routers = e; outputs = f; labels = g; parameters = m; written = w }) (record { buses = a2; streams = b2; routers = e2; outputs = f2; labels = g2; parameters = m2; written = w2 })
+keys_same p q r s u v w = λ i. record { buses = p i; streams = q i; routers = r i; outputs = s i; labels = u i; parameters = v i; written = w i }
 
 -- each row has a name
 pub keyed_rows : (d : Document) (t : TableRows) → AreRows d t → AreKeyed t
@@ -105,4 +106,9 @@ keyed_rows d t rows = record {
   routers = ap (λ (k : TableKeys). length k.routers) rows.keys ∙ length-map d.routers (λ r. r.name) ∙ sym (routers.router_count d t rows);
   outputs = ap (λ (k : TableKeys). length k.outputs) rows.keys ∙ length-map d.outputs (λ o. o.name) ∙ sym rows.outputs_there;
   labels = ap (λ (k : TableKeys). length k.labels) rows.keys ∙ length-map d.labels (λ x. x.name) ∙ sym (labels.label_count d t rows);
+  bus_speeds = ap (λ (k : TableKeys). length k.written.bus_speeds) rows.keys ∙ length-map d.buses (λ b. b.speed) ∙ sym (buses.bus_count d t rows);
+  output_speeds = ap (λ (k : TableKeys). length k.written.output_speeds) rows.keys ∙ length-map d.outputs (λ o. o.speed) ∙ sym rows.outputs_there;
+  stream_equipment = ap (λ (k : TableKeys). length k.written.stream_equipment) rows.keys ∙ length-map d.streams (λ s. s.equipment) ∙ sym (buses.stream_count d t rows);
+  label_equipment = ap (λ (k : TableKeys). length k.written.label_equipment) rows.keys ∙ length-map d.labels (λ x. x.equipment) ∙ sym (labels.label_count d t rows);
+  label_offsets = ap (λ (k : TableKeys). length k.written.label_offsets) rows.keys ∙ length-map d.labels (λ x. x.offsets.items) ∙ sym (labels.label_count d t rows);
 }

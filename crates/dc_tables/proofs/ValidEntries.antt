@@ -53,10 +53,10 @@ entry_there i (y ∷ xs) (suc k) x l s =
 
 -- ---- the entries of one output
 
-own_true : (o : ℕ) (e : PlacedEntry) (es : List PlacedEntry) → (e.output == o) ≡ true → own_entries (e ∷ es) o ≡ entry_of e ∷ own_entries es o
+pub own_true : (o : ℕ) (e : PlacedEntry) (es : List PlacedEntry) → (e.output == o) ≡ true → own_entries (e ∷ es) o ≡ entry_of e ∷ own_entries es o
 own_true o e es h = rw h refl
 
-own_false : (o : ℕ) (e : PlacedEntry) (es : List PlacedEntry) → (e.output == o) ≡ false → own_entries (e ∷ es) o ≡ own_entries es o
+pub own_false : (o : ℕ) (e : PlacedEntry) (es : List PlacedEntry) → (e.output == o) ≡ false → own_entries (e ∷ es) o ≡ own_entries es o
 own_false o e es h = rw h refl
 
 cons_each : (P : PlacedEntry → Type 0) (e : PlacedEntry) (es : List PlacedEntry) → All P (e ∷ es) → P e × All P es

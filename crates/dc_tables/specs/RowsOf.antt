@@ -19,7 +19,7 @@ use Rattle.dc_tables.specs.declared.parts.LabelPart.{LabelPart}
 use Rattle.dc_tables.specs.Document.{Document, stream_owners}
 use Rattle.dc_tables.specs.Ticks.{input_minimum, input_maximum, output_minimum, output_maximum, output_gap, input_spacing}
 use Rattle.dc_tables.specs.Rules.{parameter_of, stream_key, label_key, number_of, visits_bus, entries_from, bus_names, stream_names, router_names, output_names, label_names}
-use Rattle.dc_tables.specs.TableKeys.{TableKeys}
+use Rattle.dc_tables.specs.TableKeys.{TableKeys, WrittenKeys}
 use Rattle.dc_tables.specs.TableRows.{TableRows, output_row}
 
 -- a bus: its streams are those of its number, after those of the buses before it; a router visits it
@@ -92,8 +92,26 @@ pub record AreOutputs (tick : ℕ) (all : List PlacedEntry) (parts : List Output
   pub there : length rows ≡ n
   pub each : (o : ℕ) (e : OutputPart) → o < n → IsOutputRow tick all o (slice_index_or parts o e) (slice_index_or rows o (record { steps = 0; within = 0; gap = 0; frame = 0; entries = [] }))
 
+-- what is kept as it is written
+abbrev pub written_of : Document → WrittenKeys
+written_of d = record {
+  bus_speeds = map (λ b. b.speed) d.buses;
+  output_speeds = map (λ o. o.speed) d.outputs;
+  stream_equipment = map (λ s. s.equipment) d.streams;
+  label_equipment = map (λ x. x.equipment) d.labels;
+  label_offsets = map (λ x. x.offsets.items) d.labels;
+}
+
 abbrev pub keys_of : Document → TableKeys
-keys_of d = record { buses = bus_names d; streams = stream_names d; routers = router_names d; outputs = output_names d; labels = label_names d }
+keys_of d = record {
+  buses = bus_names d;
+  streams = stream_names d;
+  routers = router_names d;
+  outputs = output_names d;
+  labels = label_names d;
+  parameters = d.parameters;
+  written = written_of d;
+}
 
 -- the rows of a document
 pub record AreRows (d : Document) (t : TableRows) : Type 0 where

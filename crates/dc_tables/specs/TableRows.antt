@@ -12,6 +12,7 @@ use Rattle.dc_tables.specs.declared.rows.Output.{Output}
 use Rattle.dc_tables.specs.declared.rows.Entry.{Entry}
 use Rattle.dc_tables.specs.declared.rows.OutputLabel.{OutputLabel}
 use Rattle.dc_word.specs.declared.format.Format.TheVariants.{Bnr}
+use Rattle.dc_tables.specs.declared.parts.ParameterPart.{ParameterPart}
 use Rattle.dc_tables.specs.TableKeys.{TableKeys}
 
 pub record TableRows : Type 0 where
@@ -39,6 +40,10 @@ output_row t o = slice_index_or t.outputs o (record { steps = 0; within = 0; gap
 
 abbrev pub label_row : TableRows → ℕ → OutputLabel
 label_row t x = slice_index_or t.labels x (record { output = 0; label = 0; sdi = 0; format = Bnr; sources = []; stale = 0; oldest = 0; least = 0; greatest = 0 })
+
+-- the parameter of this number
+abbrev pub parameter_row : TableRows → ℕ → ParameterPart
+parameter_row t p = slice_index_or t.keys.parameters p (record { label = 0; equipment = 0; format = Bnr; min_us = 0; max_us = 0 })
 
 -- the entry of the output's frame
 abbrev pub entry_row : TableRows → ℕ → ℕ → Entry

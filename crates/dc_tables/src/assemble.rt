@@ -1,7 +1,9 @@
 //! The rows of tables that break no rule.
-ghost use Rattle.std.specs.Prelude.{All, ◌≡◌, ℕ, ◌≤◌, ◌<◌, ◌==◌, nat_lt, count_by, map, length, slice_index_or, IfOk, unwrap_or, position};
+ghost use Rattle.std.specs.Prelude.{All, ◌≡◌, ℕ, ◌+◌, ◌≤◌, ◌<◌, take, drop, ◌==◌, nat_lt, count_by, map, length, slice_index_or, IfOk, unwrap_or, position};
 ghost use Rattle.dc_tables.specs.RowsOf.{bus_row_of, bus_rows_from, stream_row_of, number_in, router_row_of, label_row_of, own_entries, IsFrameOf, IsOutputRow, AreOutputs};
 ghost use Rattle.dc_tables.specs.Rules.{visits_bus};
+ghost use Rattle.dc_tables.specs.Placed.{AreFrom};
+ghost use Rattle.std.specs.List.{prefix_len};
 
 use crate::index::{NameIndex, Parameters};
 use crate::keys::PlacedEntry;
@@ -244,18 +246,41 @@ fn output_row(
     })
 }
 
+/// How many entries of this output come first.
+fn leading(entries: &[PlacedEntry], output: usize) -> usize
+    ensures { result ≡ prefix_len (λ e. e.output == output) entries.now }
+{
+    entries.iter().take_while(|e| e.output == output).count()
+}
+
+/// The entries of this output, from this entry on.
+fn entries_at(entries: &[PlacedEntry], first: usize, output: usize) -> &[PlacedEntry]
+    requires { first ≤ length entries.now }
+    ensures own { result.now ≡ take (prefix_len (λ e. e.output == output) (drop first entries.now)) (drop first entries.now) }
+    ensures inside { first + length result.now ≤ length entries.now }
+{
+    let rest = &entries[first..];
+    let count = leading(rest, output);
+    &rest[..count]
+}
+
+/// The rows of outputs, whose entries follow one another output by output.
 pub(crate) fn output_rows(
     alloc: Global,
     tick_us: u32,
     entries: &[PlacedEntry],
     parts: &[OutputPart],
 ) -> Result<Vec<Output>, AllocError>
-    requires { 1 ≤ tick_us }
+    requires tick { 1 ≤ tick_us }
+    requires order { AreFrom 0 entries.now }
     ensures { IfOk result (λ v. AreOutputs tick_us entries.now parts.now (length parts.now) v.items) }
 {
     let mut rows = Vec::new(alloc);
+    let mut first = 0;
     for (output, part) in parts.iter().enumerate() {
-        rows.push(output_row(alloc, tick_us, entries, output, part)?)?;
+        let own = entries_at(entries, first, output);
+        rows.push(output_row(alloc, tick_us, own, output, part)?)?;
+        first += own.len();
     }
     Ok(rows)
 }

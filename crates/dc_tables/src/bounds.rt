@@ -7,7 +7,7 @@ use dc_bound::Sporadic;
 use std::alloc::{AllocError, Global};
 use std::marker::Model;
 
-/// The offsets of an output's entries, in order.
+/// Offsets in a frame, in order.
 #[derive(Debug, Drop)]
 pub struct FrameOffsets {
     items: Vec<u32>,
@@ -27,6 +27,14 @@ impl FrameOffsets {
         ensures { IfOk result (λ o. o ≡ map (λ e. e.offset) entries.now) }
     {
         let items = entries.iter().map(|e| e.offset).collect(alloc)?;
+        Ok(FrameOffsets { items })
+    }
+
+    /// These offsets.
+    pub(crate) fn copied(alloc: Global, offsets: &[u32]) -> Result<FrameOffsets, AllocError>
+        ensures { IfOk result (λ o. o ≡ offsets.now) }
+    {
+        let items = offsets.to_vec(alloc)?;
         Ok(FrameOffsets { items })
     }
 

@@ -1,5 +1,6 @@
 //! Keys that are looked up by their value.
 ghost use Rattle.std.specs.Prelude.{◌≡◌, ◌≤◌, ◌<◌, None, map, IfOk, IfSome, All, [], length, slice_index_or};
+ghost use Rattle.dc_word.specs.declared.format.Format.TheVariants.{Bnr};
 ghost use Rattle.dc_tables.specs.Rules.{doubled, doubled_name, number_of, parameter_of, parameter_key, same_parameter, told, Tells};
 
 use crate::fault::{BuildError, Code, Section, refuse};
@@ -104,6 +105,21 @@ impl Parameters {
         let (known, found) = distinct_parameters(alloc, parameters).map_err(BuildError::Memory)?;
         refuse(Code::T09, Section::Parameter, found)?;
         Ok(Parameters { list, known })
+    }
+
+    /// How many there are.
+    pub(crate) fn len(&self) -> usize
+        ensures { result ≡ length self.now }
+    {
+        self.list.len()
+    }
+
+    /// The parameter of this number.
+    pub(crate) fn at(&self, number: usize) -> &ParameterPart
+        requires { number < length self.now }
+        ensures { result.now ≡ slice_index_or self.now number (record { label = 0; equipment = 0; format = Bnr; min_us = 0; max_us = 0 }) }
+    {
+        &self.list[number]
     }
 
     /// The parameter of this key.

@@ -1,6 +1,6 @@
 //! The rules in their order.
 ghost use Rattle.std.specs.Prelude.{All, Ok, ◌≡◌, ◌≤◌, map, length, IfOk, option_map, option_and_then, slice_get};
-ghost use Rattle.dc_tables.specs.Rules.{Tells, first_rules, later_rules, quantities, told, then_told, shape, totals, counts, doubled, doubled_name, same_parameter, parameter_key, overlap};
+ghost use Rattle.dc_tables.specs.Rules.{Tells, first_rules, later_rules, quantities, told, then_told, shape, totals, counts, doubled, doubled_name, same_parameter, parameter_key, overlap as overlap_of};
 ghost use Rattle.dc_tables.specs.Rules.{first_inverted, first_quick, first_narrow, first_unknown_stream, first_unknown_label};
 ghost use Rattle.dc_tables.specs.Rules.{bus_names, stream_names, router_names, output_names, label_names, names, references, schedules, entries_from};
 ghost use Rattle.dc_tables.specs.Rules.{earlier, at_owner, breach_told, first_overfull, entry_owners, first_doubled_offset, first_doubled_label};
@@ -10,12 +10,13 @@ use crate::fault::{Breach, BuildError, Code, Section, earlier_of, refuse, refuse
 use crate::index::{NameIndex, Parameters, distinct};
 use crate::keys::PlacedEntry;
 use crate::name::Name;
+use crate::overlaps::first_overlap;
 use crate::parts::{LabelPart, Parts, StreamPart};
 use crate::quantities::{
     first_inverted, first_narrow, first_quick, first_unknown_label, first_unknown_stream,
 };
 use crate::references::{
-    first_doubled_source, first_lost_label, first_lost_router, first_overlap, first_unserved,
+    first_doubled_source, first_lost_label, first_lost_router, first_unserved,
 };
 use crate::schedules::{
     first_different, first_late, first_unable_output, first_unable_router, label_keys, offset_keys,
@@ -304,15 +305,17 @@ fn list_labels(alloc: Global, parts: &Parts) -> Result<Vec<Name>, AllocError>
     parts.labels.iter().map(|x| x.name).collect(alloc)
 }
 
-/// What tables name of one another.
-pub(crate) fn check_references(
+/// What tables name of one another, given the first stream that overlaps with one before it.
+fn check_references(
     parts: &Parts,
     parameters: &Parameters,
     names: &Names,
+    overlap: Option<usize>,
 ) -> Result<(), BuildError>
     requires parameters { parameters.now ≡ parts.now.parameters }
     requires buses { names.now.buses ≡ bus_names parts.now }
     requires streams { names.now.streams ≡ stream_names parts.now }
+    requires overlap { overlap ≡ doubled overlap_of parts.now.streams }
     ensures { result ≡ references parts.now }
 {
     refuse(
@@ -325,7 +328,7 @@ pub(crate) fn check_references(
         Section::Label,
         first_unknown_label(parameters, &parts.labels),
     )?;
-    refuse(Code::T15, Section::Stream, first_overlap(&parts.streams))?;
+    refuse(Code::T15, Section::Stream, overlap)?;
     refuse(
         Code::T16,
         Section::Router,
@@ -515,16 +518,22 @@ fn check_named(
     requires entries { entries.now ≡ entries_from 0 parts.now.labels }
     ensures { Tells (then_told (references parts.now) (schedules parts.now)) result }
 {
-    tell_references(parts, parameters, names)?;
+    tell_references(alloc, parts, parameters, names)?;
     check_schedules(alloc, parts, parameters, names, entries)
 }
 
 /// What tables name of one another, as a verdict.
-fn tell_references(parts: &Parts, parameters: &Parameters, names: &Names) -> Result<(), BuildError>
+fn tell_references(
+    alloc: Global,
+    parts: &Parts,
+    parameters: &Parameters,
+    names: &Names,
+) -> Result<(), BuildError>
     requires parameters { parameters.now ≡ parts.now.parameters }
     requires buses { names.now.buses ≡ bus_names parts.now }
     requires streams { names.now.streams ≡ stream_names parts.now }
     ensures { Tells (references parts.now) result }
 {
-    check_references(parts, parameters, names)
+    let overlap = first_overlap(alloc, &parts.streams).map_err(BuildError::Memory)?;
+    check_references(parts, parameters, names, overlap)
 }

@@ -29,3 +29,18 @@ pub struct PlacedEntry {
     pub offset: u32,
     pub label: usize,
 }
+
+/// A label on a bus.
+#[derive(Clone, Copy, Debug, PartialEq, Eq, Hash)]
+pub struct BusLabel {
+    pub bus: usize,
+    pub label: Label,
+}
+
+/// A label on a bus with one SDI, or with any.
+#[derive(Clone, Copy, Debug, PartialEq, Eq, Hash)]
+pub struct Declared {
+    pub bus: usize,
+    pub label: Label,
+    pub sdi: Option<Sdi>,
+}

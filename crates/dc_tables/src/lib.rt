@@ -9,6 +9,7 @@ mod judge;
 mod keys;
 mod made;
 mod name;
+mod overlaps;
 mod parts;
 mod quantities;
 mod references;
@@ -17,6 +18,7 @@ mod schedules;
 mod shape;
 mod tables;
 mod ticks;
+mod written;
 
 pub use fault::{BuildError, Code, Section, TableFault};
 pub use name::Name;

@@ -42,6 +42,7 @@ pub(crate) fn make_routers(
     router_rows(alloc, buses, &parts.routers)
 }
 
+#[tactic(auto, using(crate::proofs::Split::entries_in_order))]
 pub(crate) fn make_outputs(
     alloc: Global,
     parts: &Parts,
@@ -51,6 +52,7 @@ pub(crate) fn make_outputs(
     requires entries { entries.now ≡ entries_from 0 parts.now.labels }
     ensures { IfOk result (λ v. AreOutputs parts.now.tick_us (entries_from 0 parts.now.labels) parts.now.outputs (length parts.now.outputs) v.items) }
 {
+    parts.in_order();
     output_rows(alloc, parts.tick_us, entries, &parts.outputs)
 }
 

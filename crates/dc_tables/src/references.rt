@@ -1,14 +1,13 @@
-//! The rules on names that one table has of another, and on what two tables share.
+//! The rules on names that one table has of another.
 ghost use Rattle.std.specs.Prelude.{◌≡◌, is_some};
 ghost use Rattle.dc_tables.specs.Rules.{has_unknown, first_lost_router, first_lost_label, visits_bus, first_unserved};
-ghost use Rattle.dc_tables.specs.Rules.{sdis_meet, overlap, doubled, doubled_from, doubled_name, first_doubled_source};
+ghost use Rattle.dc_tables.specs.Rules.{doubled_name, first_doubled_source};
 ghost use Rattle.std.specs.Str.{bytes_eq};
 ghost use Rattle.std.specs.List.{list_any};
 
 use crate::index::NameIndex;
 use crate::name::Name;
-use crate::parts::{BusPart, LabelPart, RouterPart, StreamPart};
-use dc_word::Sdi;
+use crate::parts::{BusPart, LabelPart, RouterPart};
 
 /// Whether one of these names is not there.
 fn has_unknown(names: &NameIndex, wanted: &[Name]) -> bool
@@ -43,44 +42,6 @@ pub(crate) fn first_unserved(routers: &[RouterPart], buses: &[BusPart]) -> Optio
     ensures { result ≡ first_unserved routers.now buses.now }
 {
     buses.iter().position(|b| routers.iter().filter(|r| does_visit(&b.name, r)).count() != 1)
-}
-
-/// Whether one word may fit both declarations.
-fn do_sdis_meet(a: Option<Sdi>, b: Option<Sdi>) -> bool
-    ensures { result ≡ sdis_meet a b }
-{
-    match (a, b) {
-        (None, _) => true,
-        (Some(_), None) => true,
-        (Some(x), Some(y)) => x == y,
-    }
-}
-
-/// Whether two streams are of one bus and declare one word.
-fn do_overlap(one: &StreamPart, other: &StreamPart) -> bool
-    ensures { result ≡ overlap one.now other.now }
-{
-    one.bus == other.bus && one.label == other.label && do_sdis_meet(one.sdi, other.sdi)
-}
-
-/// Whether the stream overlaps with one of these.
-fn does_overlap_any(stream: &StreamPart, others: &[StreamPart]) -> bool
-    ensures { result ≡ list_any (overlap stream.now) others.now }
-{
-    others.iter().any(|other| do_overlap(stream, other))
-}
-
-/// The first stream that overlaps with one before it.
-#[tactic(auto, using(crate::proofs::Doubled::doubled_step))]
-pub(crate) fn first_overlap(streams: &[StreamPart]) -> Option<usize>
-    ensures { result ≡ doubled overlap streams.now }
-{
-    for (i, stream) in streams.iter().enumerate() {
-        if does_overlap_any(stream, &streams[..i]) {
-            return Some(i);
-        }
-    }
-    None
 }
 
 /// Whether the name is one of these.

@@ -32,9 +32,12 @@ pub(crate) fn count_members(
 ) -> Result<Vec<usize>, AllocError>
     ensures { IfOk result (λ v. v.items ≡ counts owners.now count) }
 {
-    let mut all = Vec::new(alloc);
-    for owner in 0..count {
-        all.push(owners.iter().filter(|o| **o == owner).count())?;
+    let mut all = vec![in alloc; 0; count]?;
+    for owner in owners {
+        if count <= *owner {
+            continue;
+        }
+        all[*owner] += 1;
     }
     Ok(all)
 }

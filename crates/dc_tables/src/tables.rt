@@ -9,8 +9,9 @@ use crate::judge::{Names, check_first, check_later};
 use crate::keys::PlacedEntry;
 use crate::made::{make_buses, make_labels, make_outputs, make_routers, make_streams};
 use crate::name::Name;
-use crate::parts::Parts;
-use crate::rows::{Bus, Output, OutputLabel, Router, Stream};
+use crate::parts::{ParameterPart, Parts};
+use crate::rows::{Bus, Output, OutputLabel, Router, Speed, Stream};
+use crate::written::Written;
 use dc_bound::{ArrivalBound, Both, Cyclic, Paced, ServiceBound, Sporadic, SumOf, Visits, Wire};
 use dc_word::{Sdi, Word};
 use std::alloc::{AllocError, Global};
@@ -32,6 +33,8 @@ pub struct Tables {
     router_names: NameIndex,
     output_names: NameIndex,
     label_names: NameIndex,
+    parameters: Parameters,
+    written: Written,
 }
 
 impl Model for Tables {
@@ -42,13 +45,13 @@ impl Model for Tables {
 
     ghost Value = { TableRows };
 
-    ghost view = { λ t. record { tick_us = t.tick_us; buses = t.buses.items; streams = t.streams.items; routers = t.routers.items; outputs = t.outputs.items; labels = t.labels.items; keys = record { buses = t.bus_names; streams = t.stream_names; routers = t.router_names; outputs = t.output_names; labels = t.label_names } } };
+    ghost view = { λ t. record { tick_us = t.tick_us; buses = t.buses.items; streams = t.streams.items; routers = t.routers.items; outputs = t.outputs.items; labels = t.labels.items; keys = record { buses = t.bus_names; streams = t.stream_names; routers = t.router_names; outputs = t.output_names; labels = t.label_names; parameters = t.parameters; written = t.written } } };
 
-    ghost invariant = { λ t. AreBounds t.minimums.items t.streams.items × (t.offsets.items ≡ frame_offsets t.outputs.items) × AreSound (record { tick_us = t.tick_us; buses = t.buses.items; streams = t.streams.items; routers = t.routers.items; outputs = t.outputs.items; labels = t.labels.items; keys = record { buses = t.bus_names; streams = t.stream_names; routers = t.router_names; outputs = t.output_names; labels = t.label_names } }) };
+    ghost invariant = { λ t. AreBounds t.minimums.items t.streams.items × (t.offsets.items ≡ frame_offsets t.outputs.items) × AreSound (record { tick_us = t.tick_us; buses = t.buses.items; streams = t.streams.items; routers = t.routers.items; outputs = t.outputs.items; labels = t.labels.items; keys = record { buses = t.bus_names; streams = t.stream_names; routers = t.router_names; outputs = t.output_names; labels = t.label_names; parameters = t.parameters; written = t.written } }) };
 }
 
 impl Tables {
-    ghost use Rattle.dc_tables.specs.TableRows.{AreValid, stream_row, output_row, label_row, bus_cap, bus_floor, output_cap, output_floor};
+    ghost use Rattle.dc_tables.specs.TableRows.{AreValid, parameter_row, stream_row, output_row, label_row, bus_cap, bus_floor, output_cap, output_floor};
     ghost use Rattle.std.specs.Prelude.{ℕ, ◌≤◌, Ok, IfOk, vec_len, [], slice_index_or};
     ghost use Rattle.dc_tables.specs.Keyed.{AreKeyed};
     ghost use Rattle.dc_tables.specs.RowsOf.{AreRows};
@@ -61,21 +64,21 @@ impl Tables {
     {
         let (entries, parameters) = check_first(alloc, &parts)?;
         let names = check_later(alloc, &parts, &parameters, &entries)?;
-        Tables::assembled(alloc, &parts, &parameters, names, &entries)
+        Tables::assembled(alloc, &parts, parameters, names, &entries)
     }
 
     /// The tables of parts that break no rule.
     fn assemble(
         alloc: Global,
         parts: &Parts,
-        parameters: &Parameters,
+        parameters: Parameters,
         names: Names,
         entries: &[PlacedEntry],
     ) -> Result<Tables, AllocError>
         requires first { first_rules parts.now ≡ Ok tt }
         requires later { later_rules parts.now ≡ Ok tt }
         requires tick { 1 ≤ parts.now.tick_us }
-        requires parameters { parameters.now ≡ parts.now.parameters }
+        requires parameters { parameters ≡ parts.now.parameters }
         requires entries { entries.now ≡ entries_from 0 parts.now.labels }
         requires buses { names.buses ≡ bus_names parts.now }
         requires streams { names.streams ≡ stream_names parts.now }
@@ -86,12 +89,13 @@ impl Tables {
     {
         parts.in_order();
         let buses = make_buses(alloc, parts)?;
-        let streams = make_streams(alloc, parts, parameters)?;
+        let streams = make_streams(alloc, parts, &parameters)?;
         let routers = make_routers(alloc, parts, &names.buses)?;
         let outputs = make_outputs(alloc, parts, entries)?;
-        let labels = make_labels(alloc, parts, parameters, &names.streams)?;
+        let labels = make_labels(alloc, parts, &parameters, &names.streams)?;
         let minimums = stream_bounds(alloc, &streams)?;
         let offsets = output_offsets(alloc, &outputs)?;
+        let written = Written::of(alloc, parts)?;
         let tick_us = parts.tick_us();
         Ok(Tables {
             tick_us,
@@ -107,6 +111,8 @@ impl Tables {
             router_names: names.routers,
             output_names: names.outputs,
             label_names: names.labels,
+            parameters,
+            written,
         })
     }
 
@@ -114,14 +120,14 @@ impl Tables {
     fn assembled(
         alloc: Global,
         parts: &Parts,
-        parameters: &Parameters,
+        parameters: Parameters,
         names: Names,
         entries: &[PlacedEntry],
     ) -> Result<Tables, BuildError>
         requires first { first_rules parts.now ≡ Ok tt }
         requires later { later_rules parts.now ≡ Ok tt }
         requires tick { 1 ≤ parts.now.tick_us }
-        requires parameters { parameters.now ≡ parts.now.parameters }
+        requires parameters { parameters ≡ parts.now.parameters }
         requires entries { entries.now ≡ entries_from 0 parts.now.labels }
         requires buses { names.buses ≡ bus_names parts.now }
         requires streams { names.streams ≡ stream_names parts.now }
@@ -210,6 +216,60 @@ impl Tables {
         ensures { result.now ≡ slice_index_or self.now.keys.labels label [] }
     {
         self.label_names.name(label)
+    }
+
+    pub fn parameter_count(&self) -> usize
+        ensures { result ≡ length self.now.keys.parameters }
+    {
+        self.parameters.len()
+    }
+
+    /// A parameter, as it is written.
+    pub fn parameter(&self, parameter: usize) -> &ParameterPart
+        requires { parameter < length self.now.keys.parameters }
+        ensures { result.now ≡ parameter_row self.now parameter }
+    {
+        self.parameters.at(parameter)
+    }
+
+    /// The speed of a bus.
+    pub fn bus_speed(&self, bus: usize) -> Speed
+        requires { bus < length self.now.buses }
+        ensures { result ≡ slice_index_or self.now.keys.written.bus_speeds bus Speed.High }
+    {
+        self.written.bus_speed(bus)
+    }
+
+    /// The speed of an output.
+    pub fn output_speed(&self, output: usize) -> Speed
+        requires { output < length self.now.outputs }
+        ensures { result ≡ slice_index_or self.now.keys.written.output_speeds output Speed.High }
+    {
+        self.written.output_speed(output)
+    }
+
+    /// The equipment code of a stream's parameter.
+    pub fn stream_equipment(&self, stream: usize) -> u16
+        requires { stream < length self.now.streams }
+        ensures { result ≡ slice_index_or self.now.keys.written.stream_equipment stream 0 }
+    {
+        self.written.stream_equipment(stream)
+    }
+
+    /// The equipment code of a label's parameter.
+    pub fn label_equipment(&self, label: usize) -> u16
+        requires { label < length self.now.labels }
+        ensures { result ≡ slice_index_or self.now.keys.written.label_equipment label 0 }
+    {
+        self.written.label_equipment(label)
+    }
+
+    /// The ticks of the frame in which a label is due, in the order of the text, 0 to 99,999.
+    pub fn label_offsets(&self, label: usize) -> &[u32]
+        requires { label < length self.now.labels }
+        ensures { result.now ≡ slice_index_or self.now.keys.written.label_offsets label [] }
+    {
+        self.written.label_offsets(label)
     }
 
     /// Each row has its name.

@@ -18,7 +18,7 @@ returns c = record {
   outputs_there = c.in_ok-outputs.ensures.there;
   outputs = c.in_ok-outputs.ensures.each;
   labels = c.in_ok-labels.ensures.rows;
-  keys = keys_same c.requires.buses c.requires.streams c.requires.routers c.requires.outputs c.requires.labels;
+  keys = keys_same c.requires.buses c.requires.streams c.requires.routers c.requires.outputs c.requires.labels c.requires.parameters c.in_ok-written.ensures;
 }
 
 -- the streams have their least intervals, since the rows without their bounds are valid
@@ -50,7 +50,7 @@ invariant_of-result c =
       outputs_there = c.in_ok-outputs.ensures.there;
       outputs = c.in_ok-outputs.ensures.each;
       labels = c.in_ok-labels.ensures.rows;
-      keys = keys_same c.requires.buses c.requires.streams c.requires.routers c.requires.outputs c.requires.labels;
+      keys = keys_same c.requires.buses c.requires.streams c.requires.routers c.requires.outputs c.requires.labels c.requires.parameters c.in_ok-written.ensures;
     } in (
       subst (λ (l : List Stream). AreBounds c.in_ok-minimums.minimums.items l) c.deref.ensures.value c.in_ok-minimums.ensures,
       c.in_ok-offsets.ensures ∙ ap frame_offsets c.deref-2.ensures.value,
