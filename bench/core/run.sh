@@ -2,26 +2,14 @@
 # Prints how many events a second the concentrator takes, ten million of the small tables and of 64 buses of 16 streams,
 # and a plain Rust program that keeps the same state: the best of five rounds of each, and the ratio of the times. The
 # sums of both are the same. What earlier checks kept in out/ is taken along.
-# The gate reads every .rt file of the repository, and a benchmark prints another text each time: so its sources end in
-# .txt here.
 # usage: bench/core/run.sh
 set -eu
 here=$(cd "$(dirname "$0")" && pwd)
 root=$(cd "$here/../.." && pwd)
 work=$(mktemp -d)
 trap 'rm -rf "$work"' EXIT
-mkdir "$work/crates"
-cp "$root/HANDLES" "$work/"
-for crate in dc_word dc_bound dc_device dc_tables dc_toml dc_event dc_queue dc_transmit dc_route dc_core; do
-    cp -a "$root/crates/$crate" "$work/crates/"
-    grep "^$crate:" "$root/crates.txt" >> "$work/crates.txt"
-done
-echo 'core_bench: dc_core dc_device dc_event dc_tables dc_toml dc_word' >> "$work/crates.txt"
-mkdir -p "$work/crates/core_bench/src"
-cp "$here/main.rt.txt" "$work/crates/core_bench/src/main.rt"
-cp "$here/laps.rt.txt" "$work/crates/core_bench/src/laps.rt"
 rustc -O --edition 2021 -o "$work/peer" "$here/peer.rs"
-(cd "$work/crates/core_bench" && rt run --jobs 2 < /dev/null) > "$work/log" 2>&1 || { tail "$work/log"; exit 1; }
+"$here/../build.sh" "$work" core_bench 'dc_core dc_device dc_event dc_tables dc_toml dc_word' "$here/main.rt.txt" "$here/laps.rt.txt"
 "$here/../check/tables.sh" > "$work/large.toml"
 cp "$root/examples/small.toml" "$work/small.toml"
 for size in small large; do

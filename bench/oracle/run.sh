@@ -2,26 +2,13 @@
 # Prints how long the second opinion takes for a recording of 100,000 events of 64 buses of 16 streams: the replies, the
 # budgets and the sources' minimum, and a plain Rust program that answers the same; the best of five rounds of each, and
 # the ratio. The answers of both are the same. What earlier checks kept in out/ is taken along.
-# The gate reads every .rt file of the repository, and a benchmark prints another text each time: so its sources end in
-# .txt here.
 # usage: bench/oracle/run.sh
 set -eu
 here=$(cd "$(dirname "$0")" && pwd)
-root=$(cd "$here/../.." && pwd)
 work=$(mktemp -d)
 trap 'rm -rf "$work"' EXIT
-mkdir "$work/crates"
-cp "$root/HANDLES" "$work/"
-for crate in dc_word dc_bound dc_device dc_tables dc_toml dc_event dc_oracle; do
-    cp -a "$root/crates/$crate" "$work/crates/"
-    grep "^$crate:" "$root/crates.txt" >> "$work/crates.txt"
-done
-echo 'oracle_bench: dc_device dc_event dc_oracle dc_tables dc_toml dc_word' >> "$work/crates.txt"
-mkdir -p "$work/crates/oracle_bench/src"
-cp "$here/main.rt.txt" "$work/crates/oracle_bench/src/main.rt"
-cp "$here/../core/laps.rt.txt" "$work/crates/oracle_bench/src/laps.rt"
 rustc -O --edition 2021 -o "$work/peer" "$here/peer.rs"
-(cd "$work/crates/oracle_bench" && rt run --jobs 1 < /dev/null) > "$work/log" 2>&1 || { tail "$work/log"; exit 1; }
+"$here/../build.sh" "$work" oracle_bench 'dc_device dc_event dc_oracle dc_tables dc_toml dc_word' "$here/main.rt.txt" "$here/../core/laps.rt.txt"
 "$here/../check/tables.sh" > "$work/large.toml"
 "$work/crates/oracle_bench/out/oracle_bench" < "$work/large.toml" > "$work/proved"
 "$work/peer" > "$work/plain"
