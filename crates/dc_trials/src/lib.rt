@@ -8,6 +8,8 @@ mod fixture;
 #[cfg(test)]
 mod replays;
 #[cfg(test)]
+mod routing;
+#[cfg(test)]
 mod runs;
 #[cfg(test)]
 mod traces;
