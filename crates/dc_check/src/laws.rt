@@ -1,4 +1,5 @@
-//! What an accepted certificate means for every run: laws about the definitions, for calls that cite them. They do nothing.
+//! What an accepted certificate means for every run: laws about the definitions, for calls that cite them. They do nothing,
+//! but for the last, which answers a number.
 
 ghost use Rattle.std.specs.Prelude.{◌≡◌, ℕ, ◌≤◌, ◌↔◌, None};
 ghost use Rattle.dc_cert.specs.Claims.{Claims};
