@@ -1,6 +1,7 @@
 //! Worked tables: one bus with two labels, one router, one output with one label, and what one change to them breaks.
 
 mod broken;
+mod readers;
 
 use broken::{
     AT_THE_LIMITS, BREAKING_TWO_RULES, BREAKING_TWO_SHAPES, BY_PARAMETERS_AND_NAMES, BY_REFERENCES,
