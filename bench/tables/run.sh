@@ -1,6 +1,6 @@
 #!/bin/sh
 # Prints how fast a tables' text is read: by the TOML reader alone, as valid tables with all rules, and by Python's
-# tomllib. Without a file it reads the largest tables by streams.
+# tomllib; and how many tables a second are built from parts. Without a file it reads the largest tables by streams.
 # usage: bench/tables/run.sh [TABLES]
 set -eu
 here=$(cd "$(dirname "$0")" && pwd)
@@ -8,7 +8,7 @@ work=$(mktemp -d)
 trap 'rm -rf "$work"' EXIT
 text=${1:-$work/tables.toml}
 [ $# -gt 0 ] || "$here/../check/tables.sh" > "$text"
-"$here/../build.sh" "$work" tables_bench 'dc_device dc_toml toml' "$here/main.rt.txt"
+"$here/../build.sh" "$work" tables_bench 'dc_device dc_tables dc_toml toml' "$here/main.rt.txt"
 "$work/crates/tables_bench/out/tables_bench" < "$text" | grep ' a round'
 python3 - "$text" <<'P'
 import sys, time, tomllib

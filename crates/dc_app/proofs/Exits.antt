@@ -11,7 +11,8 @@ use Rattle.dc_device.specs.declared.reader.Part.TheVariants.{Long, Whole}
 use Rattle.dc_device.proofs.Known.{front_after, front_more}
 use Rattle.dc_device.proofs.LineLemmas.{NoFeed-append, spelled-append}
 use Rattle.dc_app.specs.Answer.{Answer, Asks, Causes, Ends, cut_short, Reports, after_all, failed_by, failure_text, fault, sink_failures_of}
-use Rattle.dc_app.specs.Decode.{answer_end, answer_text, answer_word, word_of}
+use Rattle.dc_app.specs.Decode.{answer_end, answer_text, answer_word}
+use Rattle.dc_event.specs.WordText.{word_of}
 use Rattle.dc_app.specs.Printed.{line_of}
 use Rattle.dc_app.specs.declared.answer.Failure.{Failure}
 use Rattle.dc_app.specs.declared.answer.Failure.TheVariants.{Source, Sink, Memory}

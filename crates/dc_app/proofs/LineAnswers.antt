@@ -5,7 +5,8 @@ use Rattle.dc_word.specs.declared.format.Format.{Format}
 use Rattle.dc_device.specs.Lines.{NoFeed, lines_of, onto_first}
 use Rattle.dc_device.proofs.LineLemmas.{NoFeed-push, lines_of_front, lines_of_rest, lines_of_whole}
 use Rattle.dc_app.specs.Answer.{fault}
-use Rattle.dc_app.specs.Decode.{answer_end, answer_lines, answer_text, answer_word, too_long, word_of}
+use Rattle.dc_app.specs.Decode.{answer_end, answer_lines, answer_text, answer_word, too_long}
+use Rattle.dc_event.specs.WordText.{word_of}
 
 within : (n m : ℕ) → n ≤ m → nat_lt m n ≡ false
 within n m h = grind (arith, nat_tests)

@@ -1,26 +1,10 @@
 -- What `decode` writes for a text of words.
-use Rattle.std.specs.Prelude.{ℕ, ◌+◌, ◌-◌, ◌*◌, List, [], ◌∷◌, length, ◌==◌, ◌&&◌, ◌||◌, Bool, nat_le, nat_lt, if◌then◌else◌, Option, Some, None, codes, option_and_then}
+use Rattle.std.specs.Prelude.{ℕ, ◌+◌, ◌-◌, List, [], ◌∷◌, length, ◌||◌, Bool, nat_lt, if◌then◌else◌, Option, Some, None, codes}
 use Rattle.dc_word.specs.declared.format.Format.{Format}
 use Rattle.dc_device.specs.Lines.{lines_of}
+use Rattle.dc_event.specs.WordText.{word_of}
 use Rattle.dc_app.specs.Answer.{Answer, after_all, fault}
 use Rattle.dc_app.specs.Printed.{line_of}
-
--- a hexadecimal digit in either case
-abbrev pub hex_value : ℕ → Option ℕ
-hex_value c =
-    if nat_le 48 c && nat_le c 57 then Some (c - 48)
-    else if nat_le 65 c && nat_le c 70 then Some (c - 55)
-    else if nat_le 97 c && nat_le c 102 then Some (c - 87)
-    else None
-
--- the number that the digits write, behind n
-abbrev pub number_behind : ℕ → List ℕ → Option ℕ
-number_behind n [] = Some n
-number_behind n (c ∷ cs) = option_and_then (λ d. number_behind (n * 16 + d) cs) (hex_value c)
-
--- a word is eight hexadecimal digits
-unfoldable pub word_of : List ℕ → Option ℕ
-word_of bytes = if length bytes == 8 then number_behind 0 bytes else None
 
 -- the answer to a line with its number, where `rest` answers the lines after it
 abbrev pub answer_word : Format → ℕ → Option ℕ → Answer → Answer

@@ -1,14 +1,6 @@
 -- Numbers as digits.
-use Rattle.std.specs.Prelude.{ℕ, ◌+◌, ◌/◌, ◌%◌, ◌^◌, List, [], ◌∷◌, nat_lt, if◌then◌else◌}
-
--- a digit of base 16 or below, in upper case
-abbrev pub digit : ℕ → ℕ
-digit d = if nat_lt d 10 then 48 + d else 55 + d
-
-abbrev pub eight_hex : ℕ → List ℕ
-eight_hex n =
-    digit (n / 2 ^ 28 % 16) ∷ digit (n / 2 ^ 24 % 16) ∷ digit (n / 2 ^ 20 % 16) ∷ digit (n / 2 ^ 16 % 16)
-    ∷ digit (n / 2 ^ 12 % 16) ∷ digit (n / 2 ^ 8 % 16) ∷ digit (n / 2 ^ 4 % 16) ∷ digit (n % 16) ∷ []
+use Rattle.std.specs.Prelude.{ℕ, ◌/◌, ◌%◌, ◌^◌, List, [], ◌∷◌}
+use Rattle.dc_event.specs.WordText.{digit}
 
 abbrev pub five_hex : ℕ → List ℕ
 five_hex n =

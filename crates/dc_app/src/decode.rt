@@ -3,42 +3,15 @@ ghost use Rattle.std.specs.Prelude.{◌≡◌, ◌≢◌, [], ◌∷◌, ◌++�
 ghost use Rattle.dc_device.specs.Bytes.{Gathers};
 ghost use Rattle.dc_device.specs.Device.{failures_of};
 ghost use Rattle.dc_app.specs.Answer.{Causes, Ends, Reports};
-ghost use Rattle.dc_app.specs.Decode.{answer_end, decode_text, hex_value, word_of};
+ghost use Rattle.dc_app.specs.Decode.{answer_end, decode_text};
 ghost use Rattle.dc_app.specs.Printed.{line_of};
 
 use crate::answer::{Failure, LIMIT, ask, end_at, report};
 use crate::print::print;
 use crate::text::Text;
 use dc_device::{Line, LineReader, LineWriter, Part, Sink, Source};
+use dc_event::read_word;
 use dc_word::{Format, Word};
-
-// The value of a hexadecimal digit in either case.
-fn digit_value(c: u8) -> Option<u8>
-    ensures value { result ≡ hex_value c }
-    ensures digit { IfSome result (λ d. d < 16) }
-{
-    match c {
-        b'0'..=b'9' => Some(c - b'0'),
-        b'A'..=b'F' => Some(c - 55),
-        b'a'..=b'f' => Some(c - 87),
-        _ => None,
-    }
-}
-
-// The word that a line writes: eight hexadecimal digits.
-#[tactic(auto, unfolding(crate::specs::Decode::word_of))]
-fn read_word(line: &[u8]) -> Option<Word>
-    ensures { result ≡ word_of line.now }
-{
-    if line.len() != 8 {
-        return None;
-    }
-    let mut n = 0;
-    for c in line {
-        n = n * 16 + u32::from(digit_value(*c)?);
-    }
-    Some(Word(n))
-}
 
 // Answers a text that ends behind these bytes of a line.
 fn end_inside<K: Sink>(

@@ -6,9 +6,31 @@ use Rattle.dc_event.specs.Emissions.{emission}
 use Rattle.dc_event.specs.declared.event.Event.{Event}
 use Rattle.dc_event.specs.declared.event.Event.TheVariants.{Tick, Arrive, Route, Send}
 use Rattle.dc_tables.specs.Names.{padded}
-use Rattle.dc_tables.specs.TableKeys.{no_keys}
+use Rattle.dc_tables.specs.TableKeys.{TableKeys}
 use Rattle.dc_tables.specs.TableRows.{TableRows}
+use Rattle.dc_tables.specs.declared.rows.Speed.TheVariants.{High}
 use Rattle.dc_word.specs.declared.format.Format.TheVariants.{Bnr}
+
+-- the names A; A-203 and A-204; R1; O; x, and what else their text says
+abbrev pub small_keys : TableKeys
+small_keys = record {
+  buses = padded (65 ∷ []) ∷ [];
+  streams = padded (65 ∷ 45 ∷ 50 ∷ 48 ∷ 51 ∷ []) ∷ padded (65 ∷ 45 ∷ 50 ∷ 48 ∷ 52 ∷ []) ∷ [];
+  routers = padded (82 ∷ 49 ∷ []) ∷ [];
+  outputs = padded (79 ∷ []) ∷ [];
+  labels = padded (120 ∷ []) ∷ [];
+  parameters =
+      record { label = 131; equipment = 1; format = Bnr; min_us = 10000; max_us = 20000 }
+      ∷ record { label = 132; equipment = 1; format = Bnr; min_us = 10000; max_us = 20000 }
+      ∷ [];
+  written = record {
+    bus_speeds = High ∷ [];
+    output_speeds = High ∷ [];
+    stream_equipment = 1 ∷ 1 ∷ [];
+    label_equipment = 1 ∷ [];
+    label_offsets = (0 ∷ []) ∷ [];
+  };
+}
 
 -- bus A brings labels 203 and 204 (octal) to router R, each at least 10 ticks of a millisecond apart; output O sends label x from the first
 abbrev pub small_tables : TableRows
@@ -22,13 +44,7 @@ small_tables = record {
   routers = record { steps = 1; within = 1; most = 2; visits = 0 ∷ [] } ∷ [];
   outputs = record { steps = 1; within = 2; gap = 1; frame = 15; entries = record { offset = 0; label = 0 } ∷ [] } ∷ [];
   labels = record { output = 0; label = 131; sdi = 0; format = Bnr; sources = 0 ∷ []; stale = 22; oldest = 30; least = 11; greatest = 19 } ∷ [];
-  keys = record no_keys {
-    buses = padded (65 ∷ []) ∷ [];
-    streams = padded (97 ∷ []) ∷ padded (98 ∷ []) ∷ [];
-    routers = padded (82 ∷ []) ∷ [];
-    outputs = padded (79 ∷ []) ∷ [];
-    labels = padded (120 ∷ []) ∷ [];
-  };
+  keys = small_keys;
 }
 
 -- their certificate, with this age of label x

@@ -13,6 +13,7 @@ mod trace_reader;
 
 pub use dc_device::{LineWriter, MemSink, MemSource, ReadSource, Sink, Source, WriteSink};
 pub use event::{Actor, Claim, Event, Reply};
+pub use line::read_word;
 pub use trace::{TraceCode, TraceFault, TraceStop};
 pub use trace_lines::TraceLines;
 pub use trace_reader::{TRACE_LIMIT, TraceReader};

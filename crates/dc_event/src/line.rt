@@ -23,7 +23,7 @@ fn digit_value(c: u8) -> Option<u8>
     }
 }
 
-/// The word that a text writes: eight hexadecimal digits.
+/// The word that a text writes: eight hexadecimal digits in either case, and nothing else.
 #[tactic(auto, unfolding(crate::specs::WordText::word_of))]
 pub fn read_word(text: &[u8]) -> Option<Word>
     ensures { result ≡ word_of text.now }

@@ -1,7 +1,8 @@
 use Rattle.std.proofs.Common.{◌≡◌, ◌+◌, ◌++◌, length, length-append, refl, ap, sym, ◌∙◌, arith, subst, None, Some, Err}
 use Rattle.dc_device.specs.Lines.{NoFeed}
 use Rattle.dc_device.proofs.LineLemmas.{NoFeed-append}
-use Rattle.dc_app.specs.Decode.{answer_text, word_of}
+use Rattle.dc_app.specs.Decode.{answer_text}
+use Rattle.dc_event.specs.WordText.{word_of}
 use Rattle.dc_app.proofs.Exits.{ask_ends, cut_ends, long_ends, says_ends, says_filled, says_first, says_next, word_ends, write_ends}
 use Rattle.dc_app.proofs.decode.answer.Goals as goal
 
