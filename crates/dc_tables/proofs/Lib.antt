@@ -20,3 +20,4 @@ pub mod Parted
 pub mod Counted
 pub mod Meeting
 pub mod Split
+pub mod Visited

@@ -1,7 +1,7 @@
 -- One more row.
-use Rattle.std.proofs.Common.{◌≡◌, ℕ, zero, suc, ◌+◌, ◌<◌, inl, inr, arith, subst, List, [], ◌∷◌, ◌++◌, length, get_or, drop, refl, sym, ap, ◌∙◌, add-one, append_assoc}
+use Rattle.std.proofs.Common.{◌≡◌, ℕ, zero, suc, ◌+◌, ◌<◌, ◌≤◌, Option, inl, inr, arith, subst, List, [], ◌∷◌, ◌++◌, length, get_or, drop, true, false, nat_lt, ◌==◌, refl, sym, ap, ◌∙◌, add-one, append_assoc}
 use Rattle.std.proofs.Math.Seq.{drop-cons}
-use Rattle.dc_tables.specs.RowsOf.{bus_row_of, bus_rows_from}
+use Rattle.dc_tables.specs.RowsOf.{bus_row_with, bus_row_of, bus_rows_from}
 use Rattle.dc_tables.specs.declared.rows.Bus.{Bus}
 use Rattle.dc_tables.specs.declared.parts.BusPart.{BusPart}
 use Rattle.dc_tables.specs.declared.parts.RouterPart.{RouterPart}
@@ -9,18 +9,84 @@ use Rattle.dc_tables.specs.declared.parts.OutputPart.{OutputPart}
 use Rattle.dc_tables.specs.declared.rows.Output.{Output}
 use Rattle.dc_tables.specs.declared.rows.OutputLabel.{OutputLabel}
 use Rattle.dc_tables.specs.declared.keys.PlacedEntry.{PlacedEntry}
+use Rattle.dc_tables.specs.Rules.{counts}
+use Rattle.dc_tables.specs.Visits.{visitors_of, first_of}
+use Rattle.dc_tables.specs.declared.visits.Visitors.{Visitors}
+use Rattle.std.proofs.lemmas.Grind.{get_or_default_zero}
+use Rattle.dc_tables.proofs.Apart.{counts_length, counts_at}
+use Rattle.dc_tables.proofs.Visited.{visitor_is}
 use Rattle.dc_tables.specs.RowsOf.{IsOutputRow, AreOutputs}
 use Rattle.std.specs.List.{All}
 use Rattle.std.proofs.lemmas.List.Elements.{All-push}
 use Rattle.std.proofs.lemmas.List.{get_or_append_left, length-append}
 use Rattle.std.proofs.Math.Seq.{get_or-append_seam}
+use Rattle.std.specs.List.{count_by}
 use Rattle.std.proofs.lemmas.Bool.{cases_lt}
+use Rattle.std.proofs.lemmas.Bool.Decides.{nat_tests}
+use Rattle.dc_tables.proofs.Owners.{one, counted, one_false, owners_fit}
 
-pub bus_rows_step : (owners : List ℕ) (routers : List RouterPart) (past : List Bus) (xs : List BusPart) (b : ℕ) (x : BusPart) → b < length xs → x ≡ get_or xs b x
-    → (past ++ (bus_row_of owners routers b x ∷ [])) ++ bus_rows_from owners routers (b + 1) (drop (b + 1) xs) ≡ past ++ bus_rows_from owners routers b (drop b xs)
-bus_rows_step owners routers past xs b x h e =
+-- one more row of a bus
+pub bus_rows_step : (owners : List ℕ) (routers : List RouterPart) (past : List Bus) (xs : List BusPart) (b : ℕ) (x : BusPart) (row : Bus) → b < length xs → x ≡ get_or xs b x → row ≡ bus_row_of owners routers b x
+    → (past ++ (row ∷ [])) ++ bus_rows_from owners routers (b + 1) (drop (b + 1) xs) ≡ past ++ bus_rows_from owners routers b (drop b xs)
+bus_rows_step owners routers past xs b x row h e same =
     let d : drop b xs ≡ x ∷ drop (suc b) xs = drop-cons xs b x h ∙ ap (λ y. y ∷ drop (suc b) xs) (sym e) in
-    rw (add-one, d) (append_assoc past (bus_row_of owners routers b x ∷ []) (bus_rows_from owners routers (suc b) (drop (suc b) xs)))
+    rw (same, add-one, d) (append_assoc past (bus_row_of owners routers b x ∷ []) (bus_rows_from owners routers (suc b) (drop (suc b) xs)))
+
+abbrev pub below : ℕ → List ℕ → ℕ
+below b xs = count_by (λ o. nat_lt o b) xs
+
+abbrev pub at : ℕ → List ℕ → ℕ
+at b xs = count_by (λ o. o == b) xs
+
+next_one : (x b : ℕ) → one (nat_lt x (b + 1)) ≡ one (nat_lt x b) + one (x == b)
+next_one x b =
+    elim (cases_lt x b) [
+      | inl l ↦
+          let s : nat_lt x (b + 1) ≡ true = grind (arith, nat_tests) in
+          let t : nat_lt x b ≡ true = grind (arith, nat_tests) in
+          let u : (x == b) ≡ false = grind (arith, nat_tests) in
+          rw (s, t, u) refl
+      | inr g ↦ elim (cases_lt b x) [
+        | inl l ↦
+            let s : nat_lt x (b + 1) ≡ false = grind (arith, nat_tests) in
+            let t : nat_lt x b ≡ false = grind (arith, nat_tests) in
+            let u : (x == b) ≡ false = grind (arith, nat_tests) in
+            rw (s, t, u) refl
+        | inr k ↦
+            let s : nat_lt x (b + 1) ≡ true = grind (arith, nat_tests) in
+            let t : nat_lt x b ≡ false = grind (arith, nat_tests) in
+            let u : (x == b) ≡ true = grind (arith, nat_tests) in
+            rw (s, t, u) refl
+      ]
+    ]
+
+-- the members of the owners up to this one
+pub below_next : (b : ℕ) (xs : List ℕ) → below (b + 1) xs ≡ below b xs + at b xs
+below_next b [] = refl
+below_next b (x ∷ xs) =
+    omega (arith, counted (λ o. nat_lt o (b + 1)) x xs, counted (λ o. nat_lt o b) x xs, counted (λ o. o == b) x xs, next_one x b, below_next b xs)
+
+pub below_none : (xs : List ℕ) → below 0 xs ≡ 0
+below_none [] = refl
+below_none (x ∷ xs) =
+    let f : nat_lt x 0 ≡ false = grind (arith, nat_tests) in
+    omega (arith, counted (λ o. nat_lt o 0) x xs, one_false (nat_lt x 0) f, below_none xs)
+
+-- how many members a bus has, read from those of all
+pub own_count : (owners all : List ℕ) (n b v : ℕ) → all ≡ counts owners n → b < n → v ≡ get_or all b v → v ≡ at b owners
+own_count owners all n b v h l e =
+    omega (arith, e, get_or_default_zero all b v (omega (arith, l, ap length h, counts_length owners n)), ap (λ xs. get_or xs b 0) h, counts_at owners n b l)
+
+-- the row of a bus, made of its streams and its visitors
+pub bus_row_is : (owners : List ℕ) (routers : List RouterPart) (b : ℕ) (x : BusPart) (first streams : ℕ) (found : Option Visitors) (row : Bus) → row ≡ bus_row_with first streams (first_of found) x
+    → first ≡ below b owners → streams ≡ at b owners → found ≡ visitors_of routers x.name → row ≡ bus_row_of owners routers b x
+bus_row_is owners routers b x first streams found row h f s v =
+    h ∙ ap (λ k. bus_row_with k streams (first_of found) x) f ∙ ap (λ k. bus_row_with (below b owners) k (first_of found) x) s
+    ∙ ap (λ k. bus_row_with (below b owners) (at b owners) k x) (visitor_is routers x.name found v)
+
+-- the streams of the buses so far are no more than all
+pub first_fits : (owners : List ℕ) (b first streams : ℕ) → first ≡ below b owners → streams ≡ at b owners → first + streams ≤ length owners
+first_fits owners b first streams f s = omega (arith, f, s, owners_fit b owners)
 
 pub all_push : (xs : List OutputLabel) (x : OutputLabel) → All (λ (r : OutputLabel). (r.label < 256) × (r.sdi < 4)) xs → (x.label < 256) × (x.sdi < 4) → All (λ (r : OutputLabel). (r.label < 256) × (r.sdi < 4)) (xs ++ (x ∷ []))
 all_push xs x h k = All-push (λ (r : OutputLabel). (r.label < 256) × (r.sdi < 4)) xs x h k

@@ -8,6 +8,7 @@ pub mod TableRows
 pub mod Keyed
 pub mod Bounds
 pub mod RowsOf
+pub mod Visits
 pub mod Placed
 pub mod Declares
 pub mod FaultText

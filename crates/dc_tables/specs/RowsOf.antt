@@ -22,15 +22,20 @@ use Rattle.dc_tables.specs.Rules.{parameter_of, stream_key, label_key, number_of
 use Rattle.dc_tables.specs.TableKeys.{TableKeys, WrittenKeys}
 use Rattle.dc_tables.specs.TableRows.{TableRows, output_row}
 
--- a bus: its streams are those of its number, after those of the buses before it; a router visits it
-abbrev pub bus_row_of : List ℕ → List RouterPart → ℕ → BusPart → Bus
-bus_row_of owners routers b part = record {
+-- a bus with these streams and this router
+abbrev pub bus_row_with : (first streams router : ℕ) → BusPart → Bus
+bus_row_with first streams router part = record {
   queue = part.queue;
   spacing = input_spacing part.speed;
-  first = count_by (λ o. nat_lt o b) owners;
-  streams = count_by (λ o. o == b) owners;
-  router = unwrap_or (position (visits_bus part.name) routers) 0;
+  first = first;
+  streams = streams;
+  router = router;
 }
+
+-- its streams are those of its number, after those of the buses before it; a router visits it
+abbrev pub bus_row_of : List ℕ → List RouterPart → ℕ → BusPart → Bus
+bus_row_of owners routers b part =
+    bus_row_with (count_by (λ o. nat_lt o b) owners) (count_by (λ o. o == b) owners) (unwrap_or (position (visits_bus part.name) routers) 0) part
 
 abbrev pub bus_rows_from : List ℕ → List RouterPart → ℕ → List BusPart → List Bus
 bus_rows_from owners routers b [] = []

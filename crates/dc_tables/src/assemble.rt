@@ -1,17 +1,20 @@
 //! The rows of tables that break no rule.
-ghost use Rattle.std.specs.Prelude.{All, ◌≡◌, ℕ, ◌+◌, ◌≤◌, ◌<◌, take, drop, ◌==◌, nat_lt, count_by, map, length, slice_index_or, IfOk, unwrap_or, position};
-ghost use Rattle.dc_tables.specs.RowsOf.{bus_row_of, bus_rows_from, stream_row_of, number_in, router_row_of, label_row_of, own_entries, IsFrameOf, IsOutputRow, AreOutputs};
-ghost use Rattle.dc_tables.specs.Rules.{visits_bus};
+ghost use Rattle.std.specs.Prelude.{All, ◌≡◌, ◌+◌, ◌≤◌, ◌<◌, take, drop, ◌==◌, map, length, IfOk};
+ghost use Rattle.dc_tables.specs.RowsOf.{bus_row_with, bus_rows_from, stream_row_of, number_in, router_row_of, label_row_of, own_entries, IsFrameOf, IsOutputRow, AreOutputs};
+ghost use Rattle.dc_tables.specs.Visits.{first_of};
 ghost use Rattle.dc_tables.specs.Placed.{AreFrom};
 ghost use Rattle.std.specs.List.{prefix_len};
+ghost use Rattle.std.specs.Str.{bytes_eq};
+ghost use Rattle.indexmap.specs.IndexMap.{get};
 
 use crate::index::{NameIndex, Parameters};
 use crate::keys::PlacedEntry;
 use crate::name::Name;
 use crate::parts::{BusPart, LabelPart, OutputPart, RouterPart, StreamPart};
-use crate::references::does_visit;
 use crate::rows::{Bus, Entries, Entry, Numbers, Output, OutputLabel, Router, Stream};
+use crate::shape::count_members;
 use crate::ticks::{input_spacing, output_gap, ticks_up};
+use crate::visits::{Visits, index_visits};
 use dc_word::Format;
 use std::alloc::{AllocError, Global};
 
@@ -30,47 +33,19 @@ fn numbers_of(alloc: Global, names: &NameIndex, wanted: &[Name]) -> Result<Numbe
     Ok(Numbers { items })
 }
 
-/// How many owners are below this one.
-fn count_before(owners: &[usize], owner: usize) -> usize
-    ensures { result ≡ count_by (λ o. nat_lt o owner) owners.now }
-{
-    owners.iter().filter(|o| **o < owner).count()
-}
-
-/// How many owners are this one.
-fn count_own(owners: &[usize], owner: usize) -> usize
-    ensures { result ≡ count_by (λ o. o == owner) owners.now }
-{
-    owners.iter().filter(|o| **o == owner).count()
-}
-
-/// The router that visits the bus of this name.
-fn router_of(routers: &[RouterPart], name: &Name) -> usize
-    ensures { result ≡ unwrap_or (position (visits_bus name.now) routers.now) 0 }
-{
-    first_visitor(routers, name).unwrap_or(0)
-}
-
-/// The first router that visits the bus of this name.
-fn first_visitor(routers: &[RouterPart], name: &Name) -> Option<usize>
-    ensures { result ≡ position (visits_bus name.now) routers.now }
-{
-    routers.iter().position(|r| does_visit(name, r))
-}
-
-fn bus_row(owners: &[usize], routers: &[RouterPart], bus: usize, part: &BusPart) -> Bus
-    ensures { result ≡ bus_row_of owners.now routers.now bus part.now }
+/// The row of a bus, given its visitors and its streams: the first, and how many.
+fn bus_row(visits: &Visits, first: usize, streams: usize, part: &BusPart) -> Bus
+    ensures { result ≡ bus_row_with first streams (first_of (get bytes_eq visits.now.known part.now.name)) part.now }
 {
     Bus {
         queue: part.queue,
         spacing: input_spacing(part.speed),
-        first: count_before(owners, bus),
-        streams: count_own(owners, bus),
-        router: router_of(routers, &part.name),
+        first,
+        streams,
+        router: visits.router_of(&part.name),
     }
 }
 
-#[tactic(auto, using(crate::proofs::RowsMade::bus_rows_step))]
 pub(crate) fn bus_rows(
     alloc: Global,
     owners: &[usize],
@@ -79,9 +54,14 @@ pub(crate) fn bus_rows(
 ) -> Result<Vec<Bus>, AllocError>
     ensures { IfOk result (λ v. v.items ≡ bus_rows_from owners.now routers.now 0 parts.now) }
 {
+    let counts = count_members(alloc, owners, parts.len())?;
+    let visits = index_visits(alloc, routers)?;
     let mut rows = Vec::new(alloc);
+    let mut first = 0;
     for (bus, part) in parts.iter().enumerate() {
-        rows.push(bus_row(owners, routers, bus, part))?;
+        let streams = counts[bus];
+        rows.push(bus_row(&visits, first, streams, part))?;
+        first += streams;
     }
     Ok(rows)
 }

@@ -1,6 +1,6 @@
 //! The rules in their order.
 ghost use Rattle.std.specs.Prelude.{All, Ok, ◌≡◌, ◌≤◌, map, length, IfOk, option_map, option_and_then, slice_get};
-ghost use Rattle.dc_tables.specs.Rules.{Tells, first_rules, later_rules, quantities, told, then_told, shape, totals, counts, doubled, doubled_name, same_parameter, parameter_key, overlap as overlap_of};
+ghost use Rattle.dc_tables.specs.Rules.{Tells, first_rules, later_rules, quantities, told, then_told, shape, totals, counts, doubled, doubled_name, same_parameter, parameter_key, overlap as overlap_of, first_unserved as unserved_bus};
 ghost use Rattle.dc_tables.specs.Rules.{first_inverted, first_quick, first_narrow, first_unknown_stream, first_unknown_label};
 ghost use Rattle.dc_tables.specs.Rules.{bus_names, stream_names, router_names, output_names, label_names, names, references, schedules, entries_from};
 ghost use Rattle.dc_tables.specs.Rules.{earlier, at_owner, breach_told, first_overfull, entry_owners, first_doubled_offset, first_doubled_label};
@@ -305,17 +305,20 @@ fn list_labels(alloc: Global, parts: &Parts) -> Result<Vec<Name>, AllocError>
     parts.labels.iter().map(|x| x.name).collect(alloc)
 }
 
-/// What tables name of one another, given the first stream that overlaps with one before it.
+/// What tables name of one another, given the first stream that overlaps with one before it and the first bus that no
+/// router visits, or two.
 fn check_references(
     parts: &Parts,
     parameters: &Parameters,
     names: &Names,
     overlap: Option<usize>,
+    unserved: Option<usize>,
 ) -> Result<(), BuildError>
     requires parameters { parameters.now ≡ parts.now.parameters }
     requires buses { names.now.buses ≡ bus_names parts.now }
     requires streams { names.now.streams ≡ stream_names parts.now }
     requires overlap { overlap ≡ doubled overlap_of parts.now.streams }
+    requires unserved { unserved ≡ unserved_bus parts.now.routers parts.now.buses }
     ensures { result ≡ references parts.now }
 {
     refuse(
@@ -339,11 +342,7 @@ fn check_references(
         Section::Label,
         first_lost_label(&names.streams, &parts.labels),
     )?;
-    refuse(
-        Code::T17,
-        Section::Bus,
-        first_unserved(&parts.routers, &parts.buses),
-    )?;
+    refuse(Code::T17, Section::Bus, unserved)?;
     refuse(
         Code::T18,
         Section::Label,
@@ -535,5 +534,6 @@ fn tell_references(
     ensures { Tells (references parts.now) result }
 {
     let overlap = first_overlap(alloc, &parts.streams).map_err(BuildError::Memory)?;
-    check_references(parts, parameters, names, overlap)
+    let unserved = first_unserved(alloc, &parts.routers, &parts.buses).map_err(BuildError::Memory)?;
+    check_references(parts, parameters, names, overlap, unserved)
 }

@@ -18,6 +18,7 @@ mod schedules;
 mod shape;
 mod tables;
 mod ticks;
+mod visits;
 mod written;
 
 pub use fault::{BuildError, Code, Section, TableFault};

@@ -1,6 +1,6 @@
 //! The rules on names that one table has of another.
-ghost use Rattle.std.specs.Prelude.{◌≡◌, is_some};
-ghost use Rattle.dc_tables.specs.Rules.{has_unknown, first_lost_router, first_lost_label, visits_bus, first_unserved};
+ghost use Rattle.std.specs.Prelude.{◌≡◌, is_some, IfOk};
+ghost use Rattle.dc_tables.specs.Rules.{has_unknown, first_lost_router, first_lost_label, first_unserved};
 ghost use Rattle.dc_tables.specs.Rules.{doubled_name, first_doubled_source};
 ghost use Rattle.std.specs.Str.{bytes_eq};
 ghost use Rattle.std.specs.List.{list_any};
@@ -8,6 +8,8 @@ ghost use Rattle.std.specs.List.{list_any};
 use crate::index::NameIndex;
 use crate::name::Name;
 use crate::parts::{BusPart, LabelPart, RouterPart};
+use crate::visits::index_visits;
+use std::alloc::{AllocError, Global};
 
 /// Whether one of these names is not there.
 fn has_unknown(names: &NameIndex, wanted: &[Name]) -> bool
@@ -30,18 +32,16 @@ pub(crate) fn first_lost_label(streams: &NameIndex, labels: &[LabelPart]) -> Opt
     labels.iter().position(|x| has_unknown(streams, &x.sources))
 }
 
-/// Whether the router visits the bus of this name.
-pub(crate) fn does_visit(name: &Name, router: &RouterPart) -> bool
-    ensures { result ≡ visits_bus name.now router.now }
-{
-    is_among(name, &router.visits)
-}
-
 /// The first bus that no router visits, or two.
-pub(crate) fn first_unserved(routers: &[RouterPart], buses: &[BusPart]) -> Option<usize>
-    ensures { result ≡ first_unserved routers.now buses.now }
+pub(crate) fn first_unserved(
+    alloc: Global,
+    routers: &[RouterPart],
+    buses: &[BusPart],
+) -> Result<Option<usize>, AllocError>
+    ensures { IfOk result (λ r. r ≡ first_unserved routers.now buses.now) }
 {
-    buses.iter().position(|b| routers.iter().filter(|r| does_visit(&b.name, r)).count() != 1)
+    let visits = index_visits(alloc, routers)?;
+    Ok(visits.first_unserved(buses))
 }
 
 /// Whether the name is one of these.
