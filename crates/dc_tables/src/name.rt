@@ -1,11 +1,12 @@
-ghost use Rattle.std.specs.Prelude.{◌≡◌, length};
+ghost use Rattle.std.specs.Prelude.{◌≡◌, [], ◌∷◌, length};
 ghost use Rattle.std.specs.List.{list_all, prefix_len};
 ghost use Rattle.dc_tables.specs.Names.{is_name_byte as is_spelling_byte, is_spelled as is_spelled_name, IsSpelled, name_of, text_of};
 
+use std::hash::{Hash, Hasher};
 use std::marker::Model;
 
 /// The name of a bus, stream, router, output or label: 1 to 16 of the characters A-Z, a-z, 0-9, `_` and `-`.
-#[derive(Clone, Copy, Debug, PartialEq, Eq, Hash)]
+#[derive(Clone, Copy, Debug, PartialEq, Eq)]
 pub struct Name([u8; 16]);
 
 impl Model for Name {
@@ -19,6 +20,17 @@ impl Model for Name {
     ghost invariant = { λ n. IsName n.0 };
 
     ghost inverse = { λ bytes. record { 0 = bytes } };
+}
+
+// One write of all bytes: the derived one makes a write of each.
+impl Hash for Name {
+    ghost hash_input = { λ name. name ∷ [] };
+
+    ghost respects_eq = { Prim.search (hashing, rules) };
+
+    fn hash<H: Hasher>(&self, state: &mut H) {
+        state.write(&self.0);
+    }
 }
 
 // Whether a byte is a letter, a digit, `_` or `-`.
