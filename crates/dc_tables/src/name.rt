@@ -1,5 +1,7 @@
 ghost use Rattle.std.specs.Prelude.{◌≡◌, [], ◌∷◌, length};
 ghost use Rattle.std.specs.List.{list_all, prefix_len};
+ghost use Rattle.std.specs.Cmp.Rules.{hashing};
+ghost use Rattle.std.proofs.Common.{rules};
 ghost use Rattle.dc_tables.specs.Names.{is_name_byte as is_spelling_byte, is_spelled as is_spelled_name, IsSpelled, name_of, text_of};
 
 use std::hash::{Hash, Hasher};
