@@ -2,7 +2,7 @@
 //! the last row of each kind, and for names and words that are not there.
 
 use super::{
-    A, A203, BusRow, LabelRow, O, OutputRow, P203, ParameterRow, R1, RouterRow, Rows, SMALL,
+    A, A203, B, BusRow, LabelRow, O, OutputRow, P203, ParameterRow, R1, RouterRow, Rows, SMALL,
     StreamRow, X, add_bus, add_output, add_parameter, add_router, add_stream, assert_entries,
     assert_numbers, assert_output, assert_sends, assert_word, parts_of, parts_of_64_buses, small,
 };
@@ -420,6 +420,60 @@ fn slow_tables_answer_with_their_speeds(rt: HostRuntime) -> Result<(), Fail> {
     assert_slow_output(&rt, &tables);
     assert_two_entries(&rt, &tables);
     assert_slow_bounds(&rt, &tables);
+    Ok(())
+}
+
+// The small tables with a second bus, which the router visits once in three steps.
+const IN_TURN: Rows = Rows {
+    buses: &[A, B],
+    routers: &[RouterRow {
+        visits: &["A", "B", "A"],
+        ..R1
+    }],
+    ..SMALL
+};
+
+fn assert_visits_in_turn(rt: &impl Abort, tables: &Tables) {
+    assert_eq!(rt; tables.router_count(), 1);
+    assert_eq!(rt; tables.router(0).visits.as_slice(), [0, 1, 0].as_slice());
+    assert_eq!(rt; tables.visit(0, 0), (0, 1));
+    assert_eq!(rt; tables.visit(0, 2), (0, 0));
+    assert_eq!(rt; tables.visit(0, 4), (1, 2));
+}
+
+fn assert_second_bus(rt: &impl Abort, tables: &Tables) {
+    assert_eq!(rt; tables.bus_count(), 2);
+    let row = tables.bus(1);
+    assert_eq!(rt; (row.first, row.streams, row.router), (2, 1, 0));
+    let streams = tables.bus_streams(1);
+    assert_eq!(rt; streams.len(), 1);
+    assert_eq!(rt; streams[0], stream_row(rt, 1, 0o203));
+}
+
+// Label 203 is declared on both buses, label 204 on the first alone.
+fn assert_words_of_two_buses(rt: &impl Abort, tables: &Tables) {
+    let word = the_word(rt, 0o203);
+    assert_word(rt, tables, 0, word, Some(0));
+    assert_word(rt, tables, 1, word, Some(2));
+    assert_word(rt, tables, 1, the_word(rt, 0o204), None);
+}
+
+fn assert_bounds_in_turn(rt: &impl Abort, tables: &Tables) {
+    assert_receives(rt, tables, 0, 1, (2, 0));
+    assert_receives(rt, tables, 0, 4, (2, 2));
+    assert_receives(rt, tables, 1, 2, (1, 0));
+    assert_receives(rt, tables, 1, 3, (1, 1));
+    assert_receives(rt, tables, 1, 11, (2, 3));
+}
+
+#[test]
+fn tables_of_two_buses_answer_in_turn(rt: HostRuntime) -> Result<(), Fail> {
+    let alloc = rt.alloc();
+    let tables = Tables::build(alloc, parts_of(alloc, IN_TURN)?)?;
+    assert_visits_in_turn(&rt, &tables);
+    assert_second_bus(&rt, &tables);
+    assert_words_of_two_buses(&rt, &tables);
+    assert_bounds_in_turn(&rt, &tables);
     Ok(())
 }
 
