@@ -56,3 +56,34 @@ place_text Label index = section_text Label ++ codes " " ++ decimal index
 -- as `T16 at router 0` or `T02 at top`
 abbrev pub table_fault_text : TableFault → List ℕ
 table_fault_text f = code_text f.code ++ codes " at " ++ place_text f.section f.index
+
+-- what each rule says, in words
+abbrev pub explanation : Code → List ℕ
+explanation T01 = codes "the text is over its limit, not UTF-8 or no TOML document"
+explanation T02 = codes "`version` is absent or not the number 1"
+explanation T03 = codes "a wanted key is absent"
+explanation T04 = codes "a key is unknown"
+explanation T05 = codes "a value is not of its key's kind"
+explanation T06 = codes "a number is outside its range"
+explanation T07 = codes "a text is not in its spelling"
+explanation T08 = codes "a list, or a total over the tables, is outside its limits"
+explanation T09 = codes "a parameter is doubled"
+explanation T10 = codes "min_us is over max_us"
+explanation T11 = codes "the stream's parameter has an input minimum below one tick"
+explanation T12 = codes "the label's parameter leaves no output interval"
+explanation T13 = codes "a name is doubled within its kind"
+explanation T14 = codes "a parameter that is named is not there"
+explanation T15 = codes "two streams of the bus have one label, and equal SDI or one of them any"
+explanation T16 = codes "visits or sources hold a name that is not there"
+explanation T17 = codes "the bus is in the visits of no router, or of two routers"
+explanation T18 = codes "a source is doubled in the label"
+explanation T19 = codes "the label's format is not that of each of its sources"
+explanation T20 = codes "an offset is not below the frame"
+explanation T21 = codes "two entries of the output have one offset"
+explanation T22 = codes "two labels of the output have one label and SDI"
+explanation T23 = codes "the router's steps are more than most x within"
+explanation T24 = codes "the output's steps x gap are more than within"
+
+-- the words with the place, as `a source is doubled in the label (at label 2)`
+abbrev pub explained : TableFault → List ℕ
+explained f = explanation f.code ++ codes " (at " ++ place_text f.section f.index ++ codes ")"

@@ -1,7 +1,7 @@
-ghost use Rattle.std.specs.Prelude.{◌≡◌, ◌≤◌, length};
+ghost use Rattle.std.specs.Prelude.{◌≡◌, ◌≤◌, length, Some};
 ghost use Rattle.dc_tables.specs.declared.fault.BuildError.TheVariants.{Refused, Memory};
 ghost use Rattle.dc_tables.specs.Rules.{told, breach, earlier, breach_told};
-ghost use Rattle.dc_tables.specs.FaultText.{code_text, section_text};
+ghost use Rattle.dc_tables.specs.FaultText.{code_text, explained, explanation, section_text};
 
 use std::alloc::AllocError;
 use std::fmt;
@@ -117,7 +117,9 @@ impl Code {
     }
 
     /// What the rule says, in words.
-    pub fn explanation(self) -> &'static str {
+    pub fn explanation(self) -> &'static str
+        ensures { result.now ≡ explanation self }
+    {
         match self {
             Code::T01 => "the text is over its limit, not UTF-8 or no TOML document",
             Code::T02 => "`version` is absent or not the number 1",
@@ -133,13 +135,6 @@ impl Code {
             Code::T12 => "the label's parameter leaves no output interval",
             Code::T13 => "a name is doubled within its kind",
             Code::T14 => "a parameter that is named is not there",
-            _ => self.later_explanation(),
-        }
-    }
-
-    /// The rules from T15 on.
-    fn later_explanation(self) -> &'static str {
-        match self {
             Code::T15 => "two streams of the bus have one label, and equal SDI or one of them any",
             Code::T16 => "visits or sources hold a name that is not there",
             Code::T17 => "the bus is in the visits of no router, or of two routers",
@@ -150,7 +145,6 @@ impl Code {
             Code::T22 => "two labels of the output have one label and SDI",
             Code::T23 => "the router's steps are more than most x within",
             Code::T24 => "the output's steps x gap are more than within",
-            _ => "",
         }
     }
 }
@@ -174,6 +168,8 @@ impl Section {
 }
 
 impl fmt::Display for Section {
+    ghost output = { λ section. Some (section_text section) };
+
     fn fmt<W: fmt::Write>(&self, f: &mut fmt::Formatter<W>) -> fmt::Result {
         let text = self.text();
         write!(f, "{text}")
@@ -181,12 +177,14 @@ impl fmt::Display for Section {
 }
 
 impl fmt::Display for TableFault {
+    ghost output = { λ fault. Some (explained fault) };
+
     fn fmt<W: fmt::Write>(&self, f: &mut fmt::Formatter<W>) -> fmt::Result {
         let section = self.section;
         let index = self.index;
         let words = self.code.explanation();
         match section {
-            Section::Top => write!(f, "{words} (at the top)"),
+            Section::Top => write!(f, "{words} (at {section})"),
             _ => write!(f, "{words} (at {section} {index})"),
         }
     }
