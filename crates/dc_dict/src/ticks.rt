@@ -1,5 +1,5 @@
 ghost use Rattle.std.specs.Prelude.{◌≡◌, ◌+◌, ◌*◌, ◌<◌, ◌≤◌, IfOk};
-ghost use Rattle.dc_dict.specs.Ticks.{in_interval, out_interval};
+ghost use Rattle.dc_dict.specs.Ticks.{in_minimum, in_maximum, out_minimum, out_maximum, in_interval, out_interval};
 
 use crate::fault::DictFault;
 use crate::parameter::Parameter;
@@ -9,6 +9,38 @@ use crate::parameter::Parameter;
 pub struct Interval {
     pub min: u32,
     pub max: u32,
+}
+
+/// The least interval on an input: its whole ticks.
+pub fn in_minimum(min_us: u32, tick_us: u32) -> u32
+    requires { 0 < tick_us }
+    ensures { result ≡ in_minimum min_us tick_us }
+{
+    min_us / tick_us
+}
+
+/// The greatest interval on an input: the ticks that it begins.
+pub fn in_maximum(max_us: u32, tick_us: u32) -> u32
+    requires { 0 < tick_us }
+    ensures { result ≡ in_maximum max_us tick_us }
+{
+    max_us.div_ceil(tick_us)
+}
+
+/// The least interval on an output: a tick more than it begins.
+pub fn out_minimum(min_us: u32, tick_us: u32) -> u64
+    requires { 0 < tick_us }
+    ensures { result ≡ out_minimum min_us tick_us }
+{
+    u64::from(min_us.div_ceil(tick_us)) + 1
+}
+
+/// The greatest interval on an output: a tick less than its whole ones.
+pub fn out_maximum(max_us: u32, tick_us: u32) -> u32
+    requires { 0 < tick_us }
+    ensures { result ≡ out_maximum max_us tick_us }
+{
+    (max_us / tick_us).saturating_sub(1)
 }
 
 /// The interval of a parameter's words on an input, for a tick of `tick_us` microseconds. It leans to the safe side:
@@ -22,13 +54,13 @@ pub fn in_ticks(row: &Parameter, tick_us: u32) -> Result<Interval, DictFault>
     ensures value { result ≡ in_interval row.now.min_us row.now.max_us tick_us }
     ensures covers { IfOk result (λ i. (i.min * tick_us ≤ row.now.min_us) × (row.now.max_us ≤ i.max * tick_us)) }
 {
-    let min = row.min_us / tick_us;
+    let min = in_minimum(row.min_us, tick_us);
     if min < 1 {
         return Err(DictFault::NoTicks);
     }
     Ok(Interval {
         min,
-        max: row.max_us.div_ceil(tick_us),
+        max: in_maximum(row.max_us, tick_us),
     })
 }
 
@@ -43,14 +75,14 @@ pub fn out_ticks(row: &Parameter, tick_us: u32) -> Result<Interval, DictFault>
     ensures value { result ≡ out_interval row.now.min_us row.now.max_us tick_us }
     ensures inside { IfOk result (λ i. (row.now.min_us + tick_us ≤ i.min * tick_us) × (i.max * tick_us + tick_us ≤ row.now.max_us)) }
 {
-    let min = row.min_us.div_ceil(tick_us);
-    let max = row.max_us / tick_us;
-    if max < 2 || max - 2 < min {
+    let min = out_minimum(row.min_us, tick_us);
+    let max = out_maximum(row.max_us, tick_us);
+    if u64::from(max) < min {
         return Err(DictFault::NoTicks);
     }
     Ok(Interval {
-        min: min + 1,
-        max: max - 1,
+        min: min as u32,
+        max,
     })
 }
 
@@ -70,6 +102,10 @@ mod tests {
             min_us: 10_000,
             max_us: 20_000,
         };
+        assert_eq!(rt; in_minimum(10_000, 3000), 3);
+        assert_eq!(rt; in_maximum(20_000, 3000), 7);
+        assert_eq!(rt; out_minimum(10_000, 3000), 5);
+        assert_eq!(rt; out_maximum(20_000, 3000), 5);
         assert_eq!(rt; in_ticks(&row, 1000), Ok(Interval { min: 10, max: 20 }));
         assert_eq!(rt; in_ticks(&row, 3000), Ok(Interval { min: 3, max: 7 }));
         assert_eq!(rt; in_ticks(&row, 10_001), Err(DictFault::NoTicks));

@@ -17,7 +17,8 @@ use Rattle.dc_tables.specs.declared.parts.RouterPart.{RouterPart}
 use Rattle.dc_tables.specs.declared.parts.OutputPart.{OutputPart}
 use Rattle.dc_tables.specs.declared.parts.LabelPart.{LabelPart}
 use Rattle.dc_tables.specs.Document.{Document, stream_owners}
-use Rattle.dc_tables.specs.Ticks.{input_minimum, input_maximum, output_minimum, output_maximum, output_gap, input_spacing}
+use Rattle.dc_dict.specs.Ticks.{in_minimum, in_maximum, out_minimum, out_maximum}
+use Rattle.dc_tables.specs.Ticks.{output_gap, input_spacing}
 use Rattle.dc_tables.specs.Rules.{parameter_of, stream_key, label_key, number_of, visits_bus, entries_from, bus_names, stream_names, router_names, output_names, label_names}
 use Rattle.dc_tables.specs.TableKeys.{TableKeys, WrittenKeys}
 use Rattle.dc_tables.specs.TableRows.{TableRows, output_row}
@@ -47,8 +48,8 @@ stream_row_of tick parameters s = record {
   bus = s.bus;
   label = s.label;
   sdi = s.sdi;
-  minimum = option_map_or (λ p. input_minimum tick p.min_us) (parameter_of parameters (stream_key s)) 0;
-  maximum = option_map_or (λ p. input_maximum tick p.max_us) (parameter_of parameters (stream_key s)) 0;
+  minimum = option_map_or (λ p. in_minimum p.min_us tick) (parameter_of parameters (stream_key s)) 0;
+  maximum = option_map_or (λ p. in_maximum p.max_us tick) (parameter_of parameters (stream_key s)) 0;
 }
 
 -- the number of a name
@@ -68,8 +69,8 @@ label_row_of tick parameters streams x = record {
   sources = map (number_in streams) x.sources.items;
   stale = x.stale;
   oldest = x.age;
-  least = option_map_or (λ p. output_minimum tick p.min_us) (parameter_of parameters (label_key x)) 0;
-  greatest = option_map_or (λ p. output_maximum tick p.max_us) (parameter_of parameters (label_key x)) 0;
+  least = option_map_or (λ p. out_minimum p.min_us tick) (parameter_of parameters (label_key x)) 0;
+  greatest = option_map_or (λ p. out_maximum p.max_us tick) (parameter_of parameters (label_key x)) 0;
 }
 
 -- the entries of an output in the order of the text

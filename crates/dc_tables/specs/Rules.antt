@@ -1,5 +1,5 @@
 -- The rules of tables in the order in which they are tested, and the first that is broken.
-use Rattle.std.specs.Prelude.{◌≡◌, ℕ, zero, suc, ◌+◌, ◌*◌, ◌/◌, Bool, true, false, ◌==◌, ◌&&◌, ◌||◌, not, nat_lt, nat_le, if◌then◌else◌, Option, Some, None, is_some, is_none, option_map, option_and_then, Result, Ok, Err, List, [], ◌∷◌, ◌++◌, length, map, count_by, position, slice_get, slice_index}
+use Rattle.std.specs.Prelude.{◌≡◌, ℕ, zero, suc, ◌*◌, Bool, true, false, ◌==◌, ◌&&◌, ◌||◌, not, nat_lt, nat_le, if◌then◌else◌, Option, Some, None, is_some, is_none, option_map, option_and_then, Result, Ok, Err, List, [], ◌∷◌, ◌++◌, length, map, count_by, position, slice_get, slice_index}
 use Rattle.std.specs.List.{list_any}
 use Rattle.std.specs.Option.{option_map_or}
 use Rattle.std.specs.Str.{bytes_eq}
@@ -23,7 +23,8 @@ use Rattle.dc_tables.specs.declared.parts.RouterPart.{RouterPart}
 use Rattle.dc_tables.specs.declared.parts.OutputPart.{OutputPart}
 use Rattle.dc_tables.specs.declared.parts.LabelPart.{LabelPart}
 use Rattle.dc_tables.specs.Document.{Document, stream_owners, label_owners}
-use Rattle.dc_tables.specs.Ticks.{input_minimum, output_minimum, output_gap}
+use Rattle.dc_dict.specs.Ticks.{in_minimum, out_minimum, out_maximum}
+use Rattle.dc_tables.specs.Ticks.{output_gap}
 
 -- ---- what is told
 
@@ -207,12 +208,12 @@ first_inverted parameters = position (λ p. nat_lt p.max_us p.min_us) parameters
 -- a parameter that is there and has an input minimum below one tick
 abbrev pub too_quick : ℕ → Option ParameterPart → Bool
 too_quick tick None = false
-too_quick tick (Some p) = nat_lt (input_minimum tick p.min_us) 1
+too_quick tick (Some p) = nat_lt (in_minimum p.min_us tick) 1
 
 -- a parameter that is there and leaves no output interval
 abbrev pub no_interval : ℕ → Option ParameterPart → Bool
 no_interval tick None = false
-no_interval tick (Some p) = nat_lt (p.max_us / tick) (output_minimum tick p.min_us + 1)
+no_interval tick (Some p) = nat_lt (out_maximum p.max_us tick) (out_minimum p.min_us tick)
 
 abbrev pub first_quick : ℕ → List ParameterPart → List StreamPart → Option ℕ
 first_quick tick parameters streams = position (λ s. too_quick tick (parameter_of parameters (stream_key s))) streams

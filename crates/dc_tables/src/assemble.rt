@@ -13,8 +13,9 @@ use crate::name::Name;
 use crate::parts::{BusPart, LabelPart, OutputPart, RouterPart, StreamPart};
 use crate::rows::{Bus, Entries, Entry, Numbers, Output, OutputLabel, Router, Stream};
 use crate::shape::count_members;
-use crate::ticks::{input_spacing, output_gap, ticks_up};
+use crate::ticks::{input_spacing, output_gap};
 use crate::visits::{Visits, index_visits};
+use dc_dict::{in_maximum, in_minimum, out_maximum, out_minimum};
 use dc_word::Format;
 use std::alloc::{AllocError, Global};
 
@@ -72,7 +73,7 @@ fn stream_row(tick_us: u32, parameters: &Parameters, part: &StreamPart) -> Strea
 {
     let (minimum, maximum) = match parameters.find(part.key()) {
         None => (0, 0),
-        Some(p) => (p.min_us / tick_us, ticks_up(tick_us, p.max_us)),
+        Some(p) => (in_minimum(p.min_us, tick_us), in_maximum(p.max_us, tick_us)),
     };
     Stream {
         bus: part.bus,
@@ -143,8 +144,8 @@ fn label_row(
         None => (Format::Bnr, 0, 0),
         Some(p) => (
             p.format,
-            ticks_up(tick_us, p.min_us) + 1,
-            (p.max_us / tick_us).saturating_sub(1),
+            out_minimum(p.min_us, tick_us) as u32,
+            out_maximum(p.max_us, tick_us),
         ),
     };
     Ok(OutputLabel {

@@ -6,7 +6,7 @@ ghost use Rattle.dc_tables.specs.Rules.{first_unknown_stream, first_unknown_labe
 use crate::index::Parameters;
 use crate::keys::ParameterKey;
 use crate::parts::{LabelPart, ParameterPart, StreamPart};
-use crate::ticks::ticks_up;
+use dc_dict::{in_minimum, out_maximum, out_minimum};
 
 impl StreamPart {
     /// What names the stream's parameter.
@@ -46,7 +46,7 @@ fn is_too_quick(tick_us: u32, parameter: Option<ParameterPart>) -> bool
 {
     match parameter {
         None => false,
-        Some(p) => p.min_us / tick_us < 1,
+        Some(p) => in_minimum(p.min_us, tick_us) < 1,
     }
 }
 
@@ -57,10 +57,7 @@ fn leaves_no_interval(tick_us: u32, parameter: Option<ParameterPart>) -> bool
 {
     match parameter {
         None => false,
-        Some(p) => {
-            let least = u64::from(ticks_up(tick_us, p.min_us)) + 1;
-            u64::from(p.max_us / tick_us) < least + 1
-        }
+        Some(p) => u64::from(out_maximum(p.max_us, tick_us)) < out_minimum(p.min_us, tick_us),
     }
 }
 
