@@ -4,8 +4,8 @@ ghost use Rattle.dc_tables.specs.Rules.{told, breach, earlier, breach_told};
 ghost use Rattle.dc_tables.specs.FaultText.{code_text, explained, explanation, section_text};
 
 use std::alloc::AllocError;
+use std::error::Error;
 use std::fmt;
-use thiserror::Error;
 
 /// The rules of tables, in the order in which they are tested.
 #[derive(Clone, Copy, Debug, PartialEq, Eq)]
@@ -58,7 +58,7 @@ pub struct TableFault {
 }
 
 /// Why tables were not built.
-#[derive(Debug, Drop, Error)]
+#[derive(Debug, Drop, thiserror::Error)]
 pub enum BuildError {
     #[error("{0}")]
     Refused(TableFault),
@@ -189,6 +189,8 @@ impl fmt::Display for TableFault {
         }
     }
 }
+
+impl Error for TableFault {}
 
 /// The refusal of a rule at the first index at which it is broken, if it is.
 pub(crate) fn refuse(code: Code, section: Section, found: Option<usize>) -> Result<(), BuildError>
