@@ -2,18 +2,30 @@
 
 RT := rt
 
-.PHONY: run build test
+# How many crates are proved side by side by `make build`: one a processor, at most four. Each takes 1 to 4 GB.
+JOBS := $(shell n=$$(nproc 2>/dev/null || echo 1); [ "$$n" -lt 4 ] || n=4; echo $$n)
 
-# Decodes one word, with no proof: seconds from a fresh clone.
+.PHONY: run build test edits edits-apply
+
+# Decodes one word, with no proof: about a minute from a fresh clone.
 run:
 	@cd crates/dc429 && $(RT) try -- decode bnr < stdin
 
-# The proved program, at build/dc429.
+# The proved program, at build/dc429: first the libraries that it stands on, side by side.
 build:
 	@mkdir -p build
+	@cd crates/dc429 && $(RT) all check --jobs $(JOBS)
 	@cd crates/dc429 && $(RT) run -- decode bnr < stdin
 	@cp crates/dc429/out/dc429 build/dc429
 	@echo "built build/dc429"
 
 test:
 	@$(RT) ci
+
+# The edits outside the gate, of one crate or of all: the prover must refuse each.
+edits:
+	@scripts/edits $(CRATE)
+
+# Whether each edit, in the gate and outside, still applies: a second, no proof.
+edits-apply:
+	@scripts/edits_apply.py $(CRATE)

@@ -6,19 +6,19 @@ use Rattle.dc_cert.specs.Claims.{Claims}
 use Rattle.dc_cert.specs.Faults.{fault_text}
 use Rattle.dc_cert.specs.Reading.{certificate_of, document_of}
 use Rattle.dc_cert.specs.declared.fault.Fault.{Fault}
-use Rattle.dc_cert.specs.declared.fault.Code.TheVariants.{K1}
+use Rattle.dc_cert.specs.declared.fault.CertRule.TheVariants.{NotJson}
 use Rattle.dc_cert.specs.declared.fault.Place.TheVariants.{Top}
 use Rattle.dc_check.specs.Accepts.{Accepts}
 use Rattle.dc_check.specs.Certified.{AcceptedKeepTheirClaims}
 use Rattle.dc_check.specs.Verdict.{verdict_of}
-use Rattle.dc_tables.specs.FaultText.{table_fault_text}
+use Rattle.dc_parts.specs.FaultText.{table_fault_text}
 use Rattle.dc_tables.specs.TableRows.{TableRows}
-use Rattle.dc_tables.specs.declared.fault.TableFault.{TableFault}
+use Rattle.dc_parts.specs.declared.fault.TableFault.{TableFault}
 use Rattle.dc_toml.specs.Reading.{tables_of}
 use Rattle.dc_toml.specs.Told.{AreTablesOf}
-use Rattle.dc_app.specs.Answer.{Raises, Reports, failed_by, one_line, sink_failures_of, status_of}
-use Rattle.dc_tables.specs.declared.fault.BuildError.TheVariants.{Refused as RefusedTables}
-use Rattle.dc_app.specs.Check.{Certifies, CheckAnswers, Judges, JudgesTexts, ReportsCheck, accepted_text, judged_answer}
+use Rattle.dc_app.specs.Answer.{Answer, Any, Raises, Reports, Told, failed_by, one_line, sink_failures_of, status_of}
+use Rattle.dc_parts.specs.declared.fault.BuildError.TheVariants.{Refused as RefusedTables}
+use Rattle.dc_app.specs.Check.{AreCertified, Certifies, CheckAnswers, Judges, JudgesTexts, ReportsCheck, accepted_text, judged_answer}
 use Rattle.dc_app.specs.Inputs.{Loads}
 use Rattle.dc_app.specs.declared.answer.Failure.{Failure}
 use Rattle.dc_app.specs.declared.answer.Failure.TheVariants.{Source, Sink, Memory}
@@ -34,14 +34,14 @@ accepted_judged t claims line keep ok none is =
     (rw (none, is) refl, (λ zero_is. record { claims = claims; read = refl; accepted = ok; kept = keep claims ok }))
 
 no_json : Fault
-no_json = record { code = K1; place = Top }
+no_json = record { rule = NotJson; place = Top }
 
 -- a text past its limit is no certificate
-long_text : (text : List ℕ) → 1048576 < length text → certificate_of text ≡ Err (record { code = K1; place = Top })
+long_text : (text : List ℕ) → 1048576 < length text → certificate_of text ≡ Err (record { rule = NotJson; place = Top })
 unfolding document_of
 long_text text h = rw (over (length text) 1048576 h) refl
 
-pub long_judged : (t : TableRows) (r : Option (List ℕ)) (line : List ℕ) (fault : Fault) → IfSome r (λ text. 1048576 < length text) → fault ≡ record { code = K1; place = Top }
+pub long_judged : (t : TableRows) (r : Option (List ℕ)) (line : List ℕ) (fault : Fault) → IfSome r (λ text. 1048576 < length text) → fault ≡ record { rule = NotJson; place = Top }
     → line ≡ codes "unreadable " ++ fault_text fault → IfSome r (λ text. Judges t (certificate_of text) line (Ok 2))
 long_judged t None line fault long at is = tt
 long_judged t (Some text) line fault long at is = (rw (long_text text long, is, at) refl, (λ e. absurd (omega arith)))
@@ -79,17 +79,60 @@ both_raised a a' b b' (Err Memory) e h = omega arith
 
 -- ---- the report
 
-grown : (a a' : ℕ) (result : Result ℕ Failure) → Raises a a' result → a ≤ a'
-grown a a' (Ok status) h = omega arith
-grown a a' (Err Source) h = omega arith
-grown a a' (Err Sink) h = omega arith
-grown a a' (Err Memory) h = omega arith
-
 source_not_sink : Source ≢ Sink
 source_not_sink e = cc
 
 memory_not_sink : Memory ≢ Sink
 memory_not_sink e = cc
+
+module _ (line : List ℕ) (old new : Option (List ℕ)) (a a' k mid k' : ℕ) where
+  -- what was judged was written, and what failed was told
+  pub tells : (Is : Answer → Type 0) (judged ended : Result ℕ Failure) → Is (judged_answer line judged) → Raises a a' judged → mid ≡ k + sink_failures_of ended → mid ≤ k'
+      → IfOk ended (λ status. status < 3) → IfErr ended (λ e. e ≢ Sink → judged ≡ Err e)
+      → Reports old new (failed_by ended) (k' - k) (judged_answer line judged) (status_of ended) → Told Is old new a a' k k' (status_of ended)
+  tells Is judged (Ok status) is raised counted rise low other told =
+      record {
+        answer = judged_answer line judged;
+        failure = Sink;
+        is = is;
+        reports = told;
+        counted = λ e. absurd (omega arith);
+        memory = λ e. absurd (omega arith);
+      }
+  tells Is judged (Err Source) is raised counted rise low other told =
+      record {
+        answer = judged_answer line judged;
+        failure = Source;
+        is = is;
+        reports = told;
+        counted = λ e. rw (other source_not_sink) at raised;
+        memory = λ e f. absurd (cc);
+      }
+  tells Is judged (Err Sink) is raised counted rise low other told =
+      record {
+        answer = judged_answer line judged;
+        failure = Sink;
+        is = is;
+        reports = told;
+        counted = λ e. omega arith;
+        memory = λ e f. absurd (cc);
+      }
+  tells Is judged (Err Memory) is raised counted rise low other told =
+      record {
+        answer = judged_answer line judged;
+        failure = Memory;
+        is = is;
+        reports = told;
+        counted = λ e. rw (other memory_not_sink) at raised;
+        memory = λ e f. rw (other memory_not_sink) refl;
+      }
+
+  pub check_told : (judged ended : Result ℕ Failure) (status : ℕ) → Raises a a' judged → mid ≡ k + sink_failures_of ended → mid ≤ k' → IfOk ended (λ status. status < 3)
+      → IfErr ended (λ e. e ≢ Sink → judged ≡ Err e) → status ≡ status_of ended → Reports old new (failed_by ended) (k' - k) (judged_answer line judged) status
+      → Told Any old new a a' k k' status
+  check_told judged ended status raised counted rise low other is told =
+      let P : ℕ → Type 0 = λ n. Reports old new (failed_by ended) (k' - k) (judged_answer line judged) n in
+      subst (λ n. Told Any old new a a' k k' n) (sym is) (tells Any judged ended tt raised counted rise low other (subst P is told))
 
 module _ (rows text line : List ℕ) (old new : Option (List ℕ)) (a a' k mid k' : ℕ) where
   -- a line or none, which is not there whole
@@ -97,56 +140,23 @@ module _ (rows text line : List ℕ) (old new : Option (List ℕ)) (a a' k mid k
   part_answers (Ok status) h = inl h.0
   part_answers (Err failure) h = inr refl
 
-  reports : (judged ended : Result ℕ Failure) → JudgesTexts rows text line judged → Raises a a' judged → mid ≡ k + sink_failures_of ended → mid ≤ k'
-      → IfOk ended (λ status. status < 3) → IfOk ended (λ status. judged ≡ Ok status) → IfErr ended (λ e. e ≢ Sink → judged ≡ Err e)
-      → Reports old new (failed_by ended) (k' - k) (judged_answer line judged) (status_of ended)
-      → ReportsCheck rows text old new (a + k) (a' + k') (k' - k) (status_of ended)
-  reports judged (Ok status) says raised counted rise low same other told =
-      let here = rw same at says in
-      record {
-        answer = judged_answer line judged;
-        failure = Sink;
-        answers = rw (lt-ltb status 3 low, same) here.0;
-        reports = told;
-        counted = λ e. absurd (omega arith);
-        certified = here.1;
-      }
-  reports judged (Err Source) says raised counted rise low same other told =
-      let risen = rw (other source_not_sink) at raised in
-      record {
-        answer = judged_answer line judged;
-        failure = Source;
-        answers = part_answers judged says;
-        reports = told;
-        counted = λ e. omega (arith, risen);
-        certified = λ e. absurd (omega arith);
-      }
-  reports judged (Err Sink) says raised counted rise low same other told =
-      let risen = grown a a' judged raised in
-      record {
-        answer = judged_answer line judged;
-        failure = Sink;
-        answers = part_answers judged says;
-        reports = told;
-        counted = λ e. omega (arith, risen);
-        certified = λ e. absurd (omega arith);
-      }
-  reports judged (Err Memory) says raised counted rise low same other told =
-      record {
-        answer = judged_answer line judged;
-        failure = Memory;
-        answers = part_answers judged says;
-        reports = told;
-        counted = λ e. tt;
-        certified = λ e. absurd (omega arith);
-      }
+  answers : (judged ended : Result ℕ Failure) → JudgesTexts rows text line judged → IfOk ended (λ status. status < 3) → IfOk ended (λ status. judged ≡ Ok status)
+      → CheckAnswers rows text (nat_lt (status_of ended) 3) (judged_answer line judged)
+  answers judged (Ok status) says low same = let here = rw same at says in rw (lt-ltb status 3 low, same) here.0
+  answers judged (Err failure) says low same = part_answers judged says
 
-  -- what was judged was written, and what failed was told
+  certified : (judged ended : Result ℕ Failure) → JudgesTexts rows text line judged → IfOk ended (λ status. judged ≡ Ok status) → status_of ended ≡ 0 → AreCertified rows text
+  certified judged (Ok status) says same = let here = rw same at says in here.1
+  certified judged (Err failure) says same = λ e. absurd (omega arith)
+
   pub check_reports : (judged ended : Result ℕ Failure) (status : ℕ) → JudgesTexts rows text line judged → Raises a a' judged → mid ≡ k + sink_failures_of ended → mid ≤ k'
       → IfOk ended (λ status. status < 3) → IfOk ended (λ status. judged ≡ Ok status) → IfErr ended (λ e. e ≢ Sink → judged ≡ Err e) → status ≡ status_of ended
       → Reports old new (failed_by ended) (k' - k) (judged_answer line judged) status
-      → ReportsCheck rows text old new (a + k) (a' + k') (k' - k) status
+      → ReportsCheck rows text old new a a' k k' status
   check_reports judged ended status says raised counted rise low same other is told =
       let P : ℕ → Type 0 = λ n. Reports old new (failed_by ended) (k' - k) (judged_answer line judged) n in
-      let Q : ℕ → Type 0 = λ n. ReportsCheck rows text old new (a + k) (a' + k') (k' - k) n in
-      subst Q (sym is) (reports judged ended says raised counted rise low same other (subst P is told))
+      let Q : ℕ → Type 0 = λ n. ReportsCheck rows text old new a a' k k' n in
+      subst Q (sym is) (record {
+        told = tells line old new a a' k mid k' (CheckAnswers rows text (nat_lt (status_of ended) 3)) judged ended (answers judged ended says low same) raised counted rise low other (subst P is told);
+        certified = certified judged ended says same;
+      })

@@ -1,23 +1,23 @@
 -- How each exit of an engine ends the answer.
-use Rattle.std.proofs.Common.{◌≡◌, ◌≢◌, ℕ, ◌+◌, ◌-◌, ◌<◌, ◌≤◌, List, [], ◌∷◌, ◌++◌, length, length-append, add-zero, refl, sym, ◌∙◌, ap, subst, append_assoc, append-nil, arith, true, false, codes, take, Option, Some, None, IfErr, IfOk, IfSome, Result, Ok, Err, ◌⊎◌, inl, inr}
+use Rattle.std.proofs.Common.{◌≡◌, ◌≢◌, ℕ, Bool, ◌+◌, ◌-◌, ◌<◌, ◌≤◌, List, [], ◌∷◌, ◌++◌, length, length-append, add-zero, refl, sym, ◌∙◌, ap, subst, append_assoc, append-nil, arith, true, false, codes, take, Option, Some, None, IfErr, IfOk, IfSome, Result, Ok, Err, ◌⊎◌, inl, inr}
 use Rattle.std.proofs.KnownBytes.{Appends-nil, Appends-trans}
 use Rattle.std.proofs.Math.Seq.{take-append-add}
 use Rattle.std.specs.Io.KnownBytes.{Appends, Consumes, IsAtEnd, Keeps, prepend_known}
 use Rattle.dc_word.specs.declared.format.Format.{Format}
 use Rattle.dc_device.specs.Bytes.{AppendsFront, Gathered, Writes}
-use Rattle.dc_device.specs.Device.{failures_of}
+use Rattle.dc_device.specs.Device.{Settles, failures_of}
 use Rattle.dc_device.specs.Lines.{Held, NoFeed, ReadsOn, spelled}
 use Rattle.dc_device.specs.declared.reader.Part.TheVariants.{Long, Whole}
-use Rattle.dc_device.proofs.Known.{front_after, front_more}
-use Rattle.dc_device.proofs.LineLemmas.{NoFeed-append, spelled-append}
-use Rattle.dc_app.specs.Answer.{Answer, Asks, Causes, Ends, cut_short, Reports, after_all, failed_by, failure_text, fault, sink_failures_of}
+use Rattle.dc_device.specs.lemmas.Known.{front_after, front_more}
+use Rattle.dc_device.specs.lemmas.LineLemmas.{NoFeed-append, spelled-append}
+use Rattle.dc_app.specs.Answer.{Answer, Asks, Causes, Ends, EndsSome, IsCounted, LeavesSink, Raises, Reports, SettlesBy, Told, cut_short, after_all, failed_by, failure_text, fault, nothing, sink_failures_of, status_of}
 use Rattle.dc_app.specs.Decode.{answer_end, answer_text, answer_word}
 use Rattle.dc_event.specs.WordText.{word_of}
 use Rattle.dc_app.specs.Printed.{line_of}
 use Rattle.dc_app.specs.declared.answer.Failure.{Failure}
 use Rattle.dc_app.specs.declared.answer.Failure.TheVariants.{Source, Sink, Memory}
 use Rattle.dc_app.proofs.LineAnswers.{answer_cut, answer_long, answer_whole}
-use Rattle.dc_app.proofs.Says.{Says}
+use Rattle.dc_app.proofs.Says.{Says, waits}
 
 -- a last write behind what was gathered
 pub writes_after : {T E : Type 0} (r s t : Option (List ℕ)) (a b xs : List ℕ) (result : Result T E) → Gathered r a s b xs → Writes s t b result
@@ -312,3 +312,92 @@ pub decode_reports : (r old mid new : Option (List ℕ)) (answer : List ℕ → 
 decode_reports None old mid new answer ended sink sink' sink'' status ends other low more reports = tt
 decode_reports (Some text) old mid new answer ended sink sink' sink'' status ends other low more reports =
     device_reports old new (answer text) ended (sink'' - sink) status other (reports old (answer text) sink low more ends)
+
+-- ---- pulls
+
+-- the source gave more
+pub ask_asks : (held filled : List ℕ) (room left room' asked asked' bound : ℕ) → asked + (room + waits held) ≤ bound → length held + left ≡ room → room' ≡ left → filled ≢ []
+    → asked' ≤ asked + 1 → asked' + (room' + waits filled) ≤ bound
+ask_asks held [] room left room' asked asked' bound before e f some more = absurd (some refl)
+ask_asks [] (b ∷ bs) room left room' asked asked' bound before e f some more = omega (arith, before, e, f, more)
+ask_asks (x ∷ xs) (b ∷ bs) room left room' asked asked' bound before e f some more = omega (arith, before, e, f, more)
+
+-- a line was read
+pub line_asks : (front held rest : List ℕ) (room left asked bound : ℕ) → asked + (room + waits held) ≤ bound → length front + 1 + left ≡ room → asked + (left + waits rest) ≤ bound
+line_asks front held [] room left asked bound before e = omega (arith, before, e)
+line_asks front held (b ∷ bs) room left asked bound before e = omega (arith, before, e)
+
+-- ---- how a sink is left
+
+pub done_left : (before sink : ℕ) (last hidden : Bool) → sink ≡ before → hidden ≡ false → LeavesSink before sink last hidden
+done_left before sink last hidden same seen = record { seen = λ _. seen; last = λ other. absurd (other same) }
+
+pub failed_left : (before sink : ℕ) (last hidden : Bool) → sink ≡ before + 1 → last ≡ true → LeavesSink before sink last hidden
+failed_left before sink last hidden more is = record { seen = λ same. absurd (omega arith); last = λ _. (more, is) }
+
+-- what failed was told, or not
+pub told_left : {T E : Type 0} (result : Result T E) (before sink sink' : ℕ) (last hidden : Bool) → sink ≡ before → sink' ≡ sink + failures_of result → Settles result last hidden
+    → LeavesSink before sink' last hidden
+told_left (Ok x) before sink sink' last hidden same count settled = done_left before sink' last hidden (omega arith) settled
+told_left (Err e) before sink sink' last hidden same count settled = failed_left before sink' last hidden (omega arith) settled
+
+-- a result of the source or of memory has counted no failure of the sink
+pub no_sink_failure : (ended : Result ℕ Failure) (failure given : Failure) (before sink : ℕ) → ended ≡ Err given → given ≡ failure → failure ≢ Sink → sink ≡ before + sink_failures_of ended → sink ≡ before
+no_sink_failure ended Source given before sink is this other count = let n = rw (is, this) at count in omega (arith, n)
+no_sink_failure ended Memory given before sink is this other count = let n = rw (is, this) at count in omega (arith, n)
+no_sink_failure ended Sink given before sink is this other count = absurd (other refl)
+
+-- ---- what is told
+
+-- something was said, and the end
+pub some_ends : (a b c : Option (List ℕ)) (waiting : List ℕ) (done : List (List ℕ)) (last : Answer) (result : Result ℕ Failure) → Gathered a [] b waiting (spelled done)
+    → Ends b waiting c last result → EndsSome a c result
+some_ends a b c waiting done last result gathered ends = (after_all done last, ends_after a b c waiting done last result gathered ends)
+
+pub none_ends : (old : Option (List ℕ)) (failure : Failure) → Ends old [] old nothing (Err failure)
+none_ends old Source = (0, Appends-nil old)
+none_ends old Memory = (0, Appends-nil old)
+none_ends old Sink = ([], [], refl, Appends-nil old)
+
+counted : (ended : Result ℕ Failure) (source source' sink sink' sink'' : ℕ) → IfOk ended (λ status. status < 3) → Raises source source' ended → sink' ≡ sink + sink_failures_of ended → sink' ≤ sink''
+    → status_of ended ≡ 3 → IsCounted (failed_by ended) source source' sink sink''
+counted (Ok status) source source' sink sink' sink'' low raises more rise is = absurd (omega arith)
+counted (Err Source) source source' sink sink' sink'' low raises more rise is = raises
+counted (Err Sink) source source' sink sink' sink'' low raises more rise is = omega arith
+counted (Err Memory) source source' sink sink' sink'' low raises more rise is = raises
+
+no_lines : (ended : Result ℕ Failure) (answer : Answer) → (ended ≡ Err Memory → answer.lines ≡ []) → IfOk ended (λ status. status < 3) → failed_by ended ≡ Memory → answer.lines ≡ []
+no_lines (Ok status) answer none low is = absurd (cc)
+no_lines (Err failure) answer none low is = none (ap (λ f. let r : Result ℕ Failure = Err f in r) is)
+
+told_of : (Is : Answer → Type 0) (old mid new : Option (List ℕ)) (ended : Result ℕ Failure) (answer : Answer) (source source' sink sink' sink'' status : ℕ) → Is answer
+    → (ended ≡ Err Memory → answer.lines ≡ []) → Ends old [] mid answer ended → IfOk ended (λ status. status < 3) → Raises source source' ended → sink' ≡ sink + sink_failures_of ended
+    → sink' ≤ sink'' → status ≡ status_of ended
+    → ((old : Option (List ℕ)) (answer : Answer) (before : ℕ) → IfOk ended (λ status. status < 3) → sink' ≡ before + sink_failures_of ended → Ends old [] mid answer ended
+    → Reports old new (failed_by ended) (sink'' - before) answer status)
+    → Told Is old new source source' sink sink'' status
+told_of Is old mid new ended answer source source' sink sink' sink'' status is none ends low raises more rise same reports = record {
+  answer = answer;
+  failure = failed_by ended;
+  is = is;
+  reports = reports old answer sink low more ends;
+  counted = λ h. counted ended source source' sink sink' sink'' low raises more rise (sym same ∙ h);
+  memory = λ _ h. no_lines ended answer none low h;
+}
+
+-- how an engine is reported that answered so, and where memory was refused left its sink as it was
+pub any_told : (Is : Answer → Type 0) (old mid new : Option (List ℕ)) (ended : Result ℕ Failure) (source source' sink sink' sink'' status : ℕ) → (answer : Answer) × Is answer × Ends old [] mid answer ended
+    → (ended ≡ Err Memory → (mid ≡ old) × Is nothing) → IfOk ended (λ status. status < 3) → Raises source source' ended → sink' ≡ sink + sink_failures_of ended
+    → sink' ≤ sink'' → status ≡ status_of ended
+    → ((old : Option (List ℕ)) (answer : Answer) (before : ℕ) → IfOk ended (λ status. status < 3) → sink' ≡ before + sink_failures_of ended → Ends old [] mid answer ended
+    → Reports old new (failed_by ended) (sink'' - before) answer status)
+    → Told Is old new source source' sink sink'' status
+any_told Is old mid new (Ok x) source source' sink sink' sink'' status (answer, is, ends) quiet low raises more rise same reports =
+    told_of Is old mid new (Ok x) answer source source' sink sink' sink'' status is (λ e. absurd (cc)) ends low raises more rise same reports
+any_told Is old mid new (Err Source) source source' sink sink' sink'' status (answer, is, ends) quiet low raises more rise same reports =
+    told_of Is old mid new (Err Source) answer source source' sink sink' sink'' status is (λ e. absurd (cc)) ends low raises more rise same reports
+any_told Is old mid new (Err Sink) source source' sink sink' sink'' status (answer, is, ends) quiet low raises more rise same reports =
+    told_of Is old mid new (Err Sink) answer source source' sink sink' sink'' status is (λ e. absurd (cc)) ends low raises more rise same reports
+any_told Is old mid new (Err Memory) source source' sink sink' sink'' status some quiet low raises more rise same reports =
+    let (untouched, is) = quiet refl in
+    told_of Is old mid new (Err Memory) nothing source source' sink sink' sink'' status is (λ _. refl) (subst (λ m. Ends old [] m nothing (Err Memory)) (sym untouched) (none_ends old Memory)) low raises more rise same reports

@@ -3,7 +3,7 @@ use Rattle.std.proofs.Common.{◌≡◌, ◌≢◌, ℕ, ◌+◌, ◌-◌, ◌<�
 use Rattle.std.proofs.lemmas.Bool.Decides.{eqb_tells, nat_tests}
 use Rattle.dc_word.specs.declared.format.Format.{Format}
 use Rattle.dc_device.specs.Lines.{NoFeed, lines_of, onto_first}
-use Rattle.dc_device.proofs.LineLemmas.{NoFeed-push, lines_of_front, lines_of_rest, lines_of_whole}
+use Rattle.dc_device.specs.lemmas.LineLemmas.{NoFeed-push, lines_of_front, lines_of_rest, lines_of_whole}
 use Rattle.dc_app.specs.Answer.{fault}
 use Rattle.dc_app.specs.Decode.{answer_end, answer_lines, answer_text, answer_word, too_long}
 use Rattle.dc_event.specs.WordText.{word_of}

@@ -2,10 +2,10 @@
 use Rattle.std.proofs.Common.{◌≡◌, ℕ, ◌<◌, ◌≤◌, List, length, refl, sym, ◌∙◌, ap, subst, arith, true, false, nat_le, Option, Some, None, IfSome, Result, Ok, Err, inl, inr}
 use Rattle.std.proofs.lemmas.Bool.Decides.{nat_tests}
 use Rattle.dc_tables.specs.TableRows.{TableRows}
-use Rattle.dc_tables.specs.declared.fault.TableFault.{TableFault}
+use Rattle.dc_parts.specs.declared.fault.TableFault.{TableFault}
 use Rattle.dc_toml.specs.Reading.{document_of, tables_of}
 use Rattle.dc_toml.specs.Told.{TellsTables}
-use Rattle.dc_app.specs.Inputs.{Loads, ReadsText, no_document}
+use Rattle.dc_app.specs.Inputs.{Loads, OnlyBehind, ReadsText, no_document}
 use Rattle.dc_app.specs.declared.inputs.Unloaded.{Unloaded}
 use Rattle.dc_app.specs.declared.inputs.Unloaded.TheVariants.{Refused, Failed}
 
@@ -26,3 +26,13 @@ pub read_loads : (r : Option (List ℕ)) (bytes items : List ℕ) (result : Resu
     → IfSome r (λ text. Loads (tables_of text) result)
 read_loads None bytes items result e h told = tt
 read_loads (Some text) bytes items result e h told = subst (λ text. Loads (tables_of text) result) (e ∙ h) told
+
+-- the tables were read, and what comes behind them may be asked for
+pub behind_read : (r : Option (List ℕ)) (t : TableRows) (untouched : Type 0) → IfSome r (λ text. Loads (tables_of text) (Ok t)) → IfSome r (λ text. OnlyBehind (tables_of text) untouched)
+behind_read None t untouched told = tt
+behind_read (Some text) t untouched told = inl (t, told)
+
+-- it was not asked for
+pub behind_kept : (r : Option (List ℕ)) (untouched : Type 0) → untouched → IfSome r (λ text. OnlyBehind (tables_of text) untouched)
+behind_kept None untouched h = tt
+behind_kept (Some text) untouched h = inr h

@@ -1,17 +1,17 @@
 -- How each exit of a replay ends its answer.
-use Rattle.std.proofs.Common.{◌≡◌, ℕ, ◌+◌, ◌≤◌, inl, inr, Bool, true, false, ◌||◌, cond, List, [], ◌∷◌, ◌++◌, length, length-append, ◌^◌, refl, sym, ◌∙◌, ap, subst, append_assoc, append-nil, arith, Option, Some, None, IfSome, Result, Ok, Err}
+use Rattle.std.proofs.Common.{◌≡◌, ℕ, ◌+◌, ◌<◌, ◌≤◌, inl, inr, Bool, true, false, ◌||◌, cond, List, [], ◌∷◌, ◌++◌, length, length-append, ◌^◌, refl, sym, ◌∙◌, ap, subst, append_assoc, append-nil, arith, Option, Some, None, IfSome, Result, Ok, Err}
 use Rattle.std.proofs.KnownBytes.{Appends-nil}
 use Rattle.std.proofs.lemmas.Grind.{flat_map-append}
 use Rattle.std.specs.List.{flat_map}
 use Rattle.std.specs.Io.KnownBytes.{Appends}
 use Rattle.dc_bound.specs.Places.{each_place}
-use Rattle.dc_bound.specs.FirstPlaces.{each_place-push}
+use Rattle.dc_bound.specs.lemmas.FirstPlaces.{each_place-push}
 use Rattle.dc_device.specs.Bytes.{AppendsFront, Gathered}
 use Rattle.dc_device.specs.Lines.{spelled}
-use Rattle.dc_device.proofs.Known.{front_more}
+use Rattle.dc_device.specs.lemmas.Known.{front_more}
 use Rattle.dc_tables.specs.TableRows.{TableRows}
 use Rattle.dc_bound.specs.Run.{ticks}
-use Rattle.dc_event.specs.Reading.{IsOver, Reading, Stays, Tells, TellsEvent, event_in_front, no_more}
+use Rattle.dc_event.specs.Reading.{IsOver, Reading, Stays, Tells, TellsEvent, event_in_front, no_more, pulls_left}
 use Rattle.dc_event.specs.ReplyText.{event_lines, is_told, reply_line, run_lines}
 use Rattle.dc_event.specs.TraceText.{Trace, trace_of}
 use Rattle.dc_event.specs.declared.event.Event.{Event}
@@ -19,7 +19,7 @@ use Rattle.dc_event.specs.declared.trace.TraceFault.{TraceFault}
 use Rattle.dc_event.specs.declared.trace.TraceStop.{TraceStop}
 use Rattle.dc_event.specs.declared.trace.TraceStop.TheVariants.{End, Fault, Broken}
 use Rattle.dc_core.specs.Standing.{MayFollow}
-use Rattle.dc_app.specs.Answer.{Answer, Ends, after_all, is_whole, nothing}
+use Rattle.dc_app.specs.Answer.{Answer, Ends, EndsSome, after_all, is_whole, nothing}
 use Rattle.dc_app.specs.Refusals.{StopsBy, refused, stop_end}
 use Rattle.dc_app.specs.Replay.{AllFollow, EndsBy, GoesOn, WritesTrace}
 use Rattle.dc_app.specs.Steps.{StandsAt, Steps}
@@ -28,7 +28,7 @@ use Rattle.dc_app.specs.declared.answer.Failure.TheVariants.{Sink, Memory}
 use Rattle.dc_app.specs.declared.steps.Progress.{Progress}
 use Rattle.dc_app.specs.declared.steps.Refusal.{Refusal}
 use Rattle.dc_app.specs.declared.steps.Step.{Step}
-use Rattle.dc_app.proofs.Exits.{by_text, ends_after, gathered_lines, gathered_pushed}
+use Rattle.dc_app.proofs.Exits.{by_text, ends_after, gathered_lines, gathered_pushed, some_ends}
 use Rattle.dc_app.proofs.Said.{Said, behind}
 
 -- ---- runs
@@ -203,6 +203,19 @@ module _ (t : TableRows) (all : Bool) (from : Option (List ℕ)) where
         (rest, stayed later last rest (stayed left later rest at kept) pulled, whole);
   }
 
+  -- ---- the same, whatever the source gives
+
+  pub said_some : (left : Option Trace) (p : Progress) (old new end : Option (List ℕ)) (waiting : List ℕ) (last : Answer) (result : Result ℕ Failure) → Said t all from left p old new waiting
+      → Ends new waiting end last result → EndsSome old end result
+  said_some left p old new end waiting last result s ends = some_ends old new end waiting (run_lines t all s.done) last result s.gathered ends
+
+  -- lines that could not be written
+  pub cut_some : (left : Option Trace) (p : Progress) (old new end : Option (List ℕ)) (waiting : List ℕ) (lines : List (List ℕ)) (failure : Failure) → Said t all from left p old new waiting
+      → AppendsFront new end (waiting ++ spelled lines) → failure ≡ Sink → EndsSome old end (Err failure)
+  cut_some left p old new end waiting lines failure s failed is =
+      let last : Answer = record { lines = lines; status = 0 } in
+      rw is (said_some left p old new end waiting last (Err Sink) s failed)
+
   -- nothing was written
   pub none_written : (old : Option (List ℕ)) → IfSome from (λ text. WritesTrace t all text old old (Err Memory))
   none_written old = by_text from (λ text. WritesTrace t all text old old (Err Memory)) (λ text is. (
@@ -236,3 +249,15 @@ pub not_stopped : (stopped : Option TraceStop) (told : Result Event TraceStop) (
     → IfSome stopped (λ stop. (Some told ≡ Some (Err stop)) × (new ≡ old)) → stopped ≡ None
 not_stopped None told e old new is again = refl
 not_stopped (Some stop) told e old new is (same, kept) = absurd (cc)
+
+-- needing more leaves no more to pull
+pub pulls_needed : (stopped stopped' : Option TraceStop) (held held' : List ℕ) (room room' : ℕ) → stopped ≡ None → stopped' ≡ None → held' ≡ [] → length held + room' ≡ room
+    → pulls_left stopped' room' held' ≤ pulls_left stopped room held
+pulls_needed stopped stopped' [] held' room room' a b c e = rw (a, b, c) (omega (arith, e))
+pulls_needed stopped stopped' (x ∷ xs) held' room room' a b c e = rw (a, b, c) (omega (arith, e))
+
+-- nor does an event that was told
+pub pulls_told : (stopped stopped' : Option TraceStop) (held held' : List ℕ) (room room' : ℕ) → stopped ≡ None → stopped' ≡ None → room' < room
+    → pulls_left stopped' room' held' ≤ pulls_left stopped room held
+pulls_told stopped stopped' held [] room room' a b e = rw (a, b) (omega (arith, e))
+pulls_told stopped stopped' held (x ∷ xs) room room' a b e = rw (a, b) (omega (arith, e))

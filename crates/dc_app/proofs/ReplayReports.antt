@@ -3,12 +3,13 @@ use Rattle.std.proofs.Common.{◌≡◌, ℕ, ◌+◌, ◌-◌, ◌<◌, ◌≤�
 use Rattle.std.proofs.KnownBytes.{Appends-nil}
 use Rattle.std.proofs.lemmas.Bool.Decides.{nat_tests}
 use Rattle.dc_tables.specs.TableRows.{TableRows}
-use Rattle.dc_tables.specs.declared.fault.BuildError.TheVariants.{Refused as RefusedTables}
-use Rattle.dc_tables.specs.declared.fault.TableFault.{TableFault}
+use Rattle.dc_parts.specs.declared.fault.BuildError.TheVariants.{Refused as RefusedTables}
+use Rattle.dc_parts.specs.declared.fault.TableFault.{TableFault}
 use Rattle.dc_toml.specs.Reading.{tables_of}
-use Rattle.dc_app.specs.Answer.{Answer, Ends, IsCounted, Raises, Reports, failed_by, is_whole, nothing, sink_failures_of, status_of}
+use Rattle.dc_app.specs.Answer.{Answer, Any, Ends, EndsSome, Raises, Reports, Told, failed_by, is_whole, nothing, sink_failures_of, status_of}
 use Rattle.dc_app.specs.Inputs.{Loads}
 use Rattle.dc_app.specs.Refusals.{tables_end}
+use Rattle.dc_app.proofs.Exits.{any_told, none_ends}
 use Rattle.dc_app.specs.Replay.{AnswersTexts, ReplayAnswers, ReportsReplay, WritesReplay, WritesTrace}
 use Rattle.dc_app.specs.declared.answer.Failure.{Failure}
 use Rattle.dc_app.specs.declared.answer.Failure.TheVariants.{Source, Sink, Memory}
@@ -34,11 +35,6 @@ refused_replays (Some rows) None all fault old new waiting result loads empty en
 refused_replays (Some rows) (Some text) all fault old new waiting result loads empty ends =
     (tables_end fault, replay_either all rows text (is_whole result) (tables_end fault) (Err (RefusedTables fault), loads, refl), subst (λ w. Ends old w new (tables_end fault) result) empty ends)
 
-none_ends : (old : Option (List ℕ)) (failure : Failure) → Ends old [] old nothing (Err failure)
-none_ends old Source = (0, Appends-nil old)
-none_ends old Memory = (0, Appends-nil old)
-none_ends old Sink = ([], [], refl, Appends-nil old)
-
 -- the tables' text was not read
 pub failed_replays : (r s : Option (List ℕ)) (all : Bool) (failure : Failure) (old : Option (List ℕ)) → IfSome r (λ rows. IfSome s (λ text. WritesReplay all rows text old old (Err failure)))
 failed_replays None s all failure old = tt
@@ -52,25 +48,28 @@ whole_status : (ended : Result ℕ Failure) → IfOk ended (λ status. status < 
 whole_status (Ok status) low = rw (below status 3 low) refl
 whole_status (Err failure) low = refl
 
-counted : (ended : Result ℕ Failure) (source source' sink sink' sink'' : ℕ) → IfOk ended (λ status. status < 3) → Raises source source' ended → sink' ≡ sink + sink_failures_of ended → sink' ≤ sink''
-    → status_of ended ≡ 3 → IsCounted (failed_by ended) (source + sink) (source' + sink'')
-counted (Ok status) source source' sink sink' sink'' low raises more rise is = absurd (omega arith)
-counted (Err Source) source source' sink sink' sink'' low raises more rise is = omega arith
-counted (Err Sink) source source' sink sink' sink'' low raises more rise is = omega arith
-counted (Err Memory) source source' sink sink' sink'' low raises more rise is = tt
-
 pub replay_reports : (r s : Option (List ℕ)) (all : Bool) (old mid new : Option (List ℕ)) (ended : Result ℕ Failure) (source source' sink sink' sink'' status : ℕ)
-    → IfSome r (λ rows. IfSome s (λ text. WritesReplay all rows text old mid ended)) → IfOk ended (λ status. status < 3) → Raises source source' ended → sink' ≡ sink + sink_failures_of ended
-    → sink' ≤ sink'' → status ≡ status_of ended
+    → IfSome r (λ rows. IfSome s (λ text. WritesReplay all rows text old mid ended)) → (ended ≡ Err Memory → mid ≡ old) → IfOk ended (λ status. status < 3) → Raises source source' ended
+    → sink' ≡ sink + sink_failures_of ended → sink' ≤ sink'' → status ≡ status_of ended
     → ((old : Option (List ℕ)) (answer : Answer) (before : ℕ) → IfOk ended (λ status. status < 3) → sink' ≡ before + sink_failures_of ended → Ends old [] mid answer ended
     → Reports old new (failed_by ended) (sink'' - before) answer status)
-    → IfSome r (λ rows. IfSome s (λ text. ReportsReplay all rows text old new (source + sink) (source' + sink'') (sink'' - sink) status))
-replay_reports None s all old mid new ended source source' sink sink' sink'' status writes low raises more rise is reports = tt
-replay_reports (Some rows) None all old mid new ended source source' sink sink' sink'' status writes low raises more rise is reports = tt
-replay_reports (Some rows) (Some text) all old mid new ended source source' sink sink' sink'' status (answer, answers, ends) low raises more rise is reports = record {
-  answer = answer;
-  failure = failed_by ended;
-  answers = subst (λ whole. ReplayAnswers all rows text whole answer) (whole_status ended low ∙ ap (λ n. nat_lt n 3) (sym is)) answers;
-  reports = reports old answer sink low more ends;
-  counted = λ h. counted ended source source' sink sink' sink'' low raises more rise (sym is ∙ h);
-}
+    → IfSome r (λ rows. IfSome s (λ text. ReportsReplay all rows text old new source source' sink sink'' status))
+replay_reports None s all old mid new ended source source' sink sink' sink'' status writes quiet low raises more rise is reports = tt
+replay_reports (Some rows) None all old mid new ended source source' sink sink' sink'' status writes quiet low raises more rise is reports = tt
+replay_reports (Some rows) (Some text) all old mid new ended source source' sink sink' sink'' status (answer, answers, ends) quiet low raises more rise is reports =
+    let whole : is_whole ended ≡ nat_lt status 3 = whole_status ended low ∙ ap (λ n. nat_lt n 3) (sym is) in
+    any_told (ReplayAnswers all rows text (nat_lt status 3)) old mid new ended source source' sink sink' sink'' status (answer, subst (λ whole. ReplayAnswers all rows text whole answer) whole answers, ends)
+    (λ refused. (quiet refused, subst (λ whole. ReplayAnswers all rows text whole nothing) (sym (ap is_whole refused) ∙ whole) (inr refl)))
+    low raises more rise is reports
+
+pub replay_told : (old mid new : Option (List ℕ)) (ended : Result ℕ Failure) (source source' sink sink' sink'' status : ℕ) → EndsSome old mid ended → (ended ≡ Err Memory → mid ≡ old)
+    → IfOk ended (λ status. status < 3) → Raises source source' ended → sink' ≡ sink + sink_failures_of ended → sink' ≤ sink'' → status ≡ status_of ended
+    → ((old : Option (List ℕ)) (answer : Answer) (before : ℕ) → IfOk ended (λ status. status < 3) → sink' ≡ before + sink_failures_of ended → Ends old [] mid answer ended
+    → Reports old new (failed_by ended) (sink'' - before) answer status)
+    → Told Any old new source source' sink sink'' status
+replay_told old mid new ended source source' sink sink' sink'' status (answer, ends) quiet low raises more rise is reports =
+    any_told Any old mid new ended source source' sink sink' sink'' status (answer, tt, ends) (λ refused. (quiet refused, tt)) low raises more rise is reports
+
+-- the first fault of the tables' text was written
+pub refused_some : (old new : Option (List ℕ)) (waiting : List ℕ) (answer : Answer) (result : Result ℕ Failure) → waiting ≡ [] → Ends old waiting new answer result → EndsSome old new result
+refused_some old new waiting answer result empty ends = (answer, subst (λ w. Ends old w new answer result) empty ends)

@@ -3,7 +3,7 @@ use Rattle.std.proofs.Common.{◌≡◌, ℕ, ◌+◌, List, [], ◌∷◌, ◌+
 use Rattle.dc_bound.specs.Run.{ticks}
 use Rattle.dc_tables.specs.TableRows.{TableRows}
 use Rattle.dc_event.specs.Replies.{reply}
-use Rattle.dc_event.specs.RunPush.{tick-push}
+use Rattle.dc_event.specs.lemmas.RunPush.{tick-push}
 use Rattle.dc_event.specs.Time.{ends, tick_after}
 use Rattle.dc_event.specs.declared.event.Event.{Event}
 use Rattle.dc_event.specs.declared.event.Reply.{Reply}

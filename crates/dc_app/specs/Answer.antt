@@ -1,5 +1,5 @@
 -- What a command writes: lines and an exit status; and what of it there is where a device fails.
-use Rattle.std.specs.Prelude.{◌≡◌, ℕ, ◌+◌, ◌<◌, ◌≤◌, ◌⊎◌, List, [], ◌∷◌, ◌++◌, take, Option, Result, Ok, Err, Bool, true, false, codes, decimal}
+use Rattle.std.specs.Prelude.{◌≡◌, ◌≢◌, ℕ, ◌-◌, ◌+◌, ◌<◌, ◌≤◌, ◌⊎◌, List, [], ◌∷◌, ◌++◌, take, Option, Result, Ok, Err, Bool, true, false, codes, decimal}
 use Rattle.std.specs.Io.KnownBytes.{Appends}
 use Rattle.dc_device.specs.Bytes.{AppendsFront}
 use Rattle.dc_device.specs.Lines.{Fills, spelled}
@@ -102,8 +102,46 @@ abbrev pub status_of : Result ℕ Failure → ℕ
 status_of (Ok status) = status
 status_of (Err failure) = 3
 
--- a failed device has been counted; memory is refused uncounted
-abbrev pub IsCounted : Failure → ℕ → ℕ → Type 0
-IsCounted Source old new = old < new
-IsCounted Sink old new = old < new
-IsCounted Memory old new = Unit {0}
+-- A failed device has been counted, of the sources or as the sink; where memory was refused, no source has failed.
+abbrev pub IsCounted : Failure → ℕ → ℕ → ℕ → ℕ → Type 0
+IsCounted Source sources sources' sink sink' = sources < sources'
+IsCounted Sink sources sources' sink sink' = sink < sink'
+IsCounted Memory sources sources' sink sink' = sources' ≡ sources
+
+-- whatever the sources give: what is written, until something fails, is that of some answer
+abbrev pub EndsSome : Option (List ℕ) → Option (List ℕ) → Result ℕ Failure → Type 0
+EndsSome old new result = (answer : Answer) × Ends old [] new answer result
+
+-- What a command reports of an answer that is such, where its sources and its sink failed so often before and behind it:
+-- what it tells to have failed has failed, and where memory was refused, no line stands before that.
+pub record Told (Is : Answer → Type 0) (old new : Option (List ℕ)) (sources sources' sink sink' status : ℕ) : Type 0 where
+  pub answer : Answer
+  pub failure : Failure
+  pub is : Is answer
+  pub reports : Reports old new failure (sink' - sink) answer status
+  pub counted : status ≡ 3 → IsCounted failure sources sources' sink sink'
+  pub memory : status ≡ 3 → failure ≡ Memory → answer.lines ≡ []
+
+-- any answer
+abbrev pub Any : Answer → Type 0
+Any answer = Unit {0}
+
+-- Behind calls of a sink: where the engine got to its end, nothing is hidden; where the sink failed, its last call did.
+abbrev pub SettlesBy : {T : Type 0} → Result T Failure → Bool → Bool → Type 0
+SettlesBy (Ok x) last_failed hidden = hidden ≡ false
+SettlesBy (Err Source) last_failed hidden = Unit {0}
+SettlesBy (Err Sink) last_failed hidden = last_failed ≡ true
+SettlesBy (Err Memory) last_failed hidden = Unit {0}
+
+-- How a command leaves its sink: everyone sees all that it took; or one call failed, and it was the last.
+pub record LeavesSink (failed failed' : ℕ) (last_failed hidden : Bool) : Type 0 where
+  pub seen : failed' ≡ failed → hidden ≡ false
+  pub last : failed' ≢ failed → (failed' ≡ failed + 1) × (last_failed ≡ true)
+
+-- how many pulls gave no byte, where a source was asked for more
+abbrev pub dry_in : Result Bool Failure → ℕ
+dry_in (Ok true) = 0
+dry_in (Ok false) = 1
+dry_in (Err Source) = 1
+dry_in (Err Sink) = 0
+dry_in (Err Memory) = 0

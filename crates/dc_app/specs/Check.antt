@@ -5,19 +5,20 @@ use Rattle.dc_cert.specs.Faults.{fault_text}
 use Rattle.dc_cert.specs.Reading.{Reading, certificate_of}
 use Rattle.dc_check.specs.Accepts.{Accepts}
 use Rattle.dc_check.specs.Certified.{KeepsItsClaims}
+use Rattle.dc_check.specs.FaultText.{condition_code}
 use Rattle.dc_check.specs.Verdict.{verdict_of}
 use Rattle.dc_check.specs.declared.fault.CheckFault.{CheckFault}
-use Rattle.dc_check.specs.declared.fault.Code.{Code}
-use Rattle.dc_check.specs.declared.fault.Code.TheVariants.{C01, C02, C03, C04, C05, C06, C07, C08, C09, C10, C11, C12}
+use Rattle.dc_check.specs.declared.fault.Condition.{Condition}
+use Rattle.dc_check.specs.declared.fault.Condition.TheVariants.{NamesDiffer, BacklogTooSmall, DelayTooSmall}
 use Rattle.dc_check.specs.declared.fault.Part.{Part}
 use Rattle.dc_check.specs.declared.fault.Part.TheVariants.{Inputs, Outputs, Labels}
-use Rattle.dc_tables.specs.Names.{text_of}
+use Rattle.dc_parts.specs.Names.{text_of}
 use Rattle.dc_tables.specs.TableRows.{TableRows}
-use Rattle.dc_tables.specs.declared.fault.BuildError.{BuildError}
-use Rattle.dc_tables.specs.declared.fault.BuildError.TheVariants.{Refused, Memory as NoMemory}
+use Rattle.dc_parts.specs.declared.fault.BuildError.{BuildError}
+use Rattle.dc_parts.specs.declared.fault.BuildError.TheVariants.{Refused, Memory as NoMemory}
 use Rattle.dc_toml.specs.Reading.{tables_of}
 use Rattle.dc_toml.specs.Told.{TellsTables, AreTablesOf}
-use Rattle.dc_app.specs.Answer.{Answer, IsCounted, Reports, one_line, unreadable}
+use Rattle.dc_app.specs.Answer.{Answer, Told, one_line, unreadable}
 use Rattle.dc_app.specs.Refusals.{tables_end}
 use Rattle.dc_app.specs.declared.answer.Failure.{Failure}
 use Rattle.dc_app.specs.declared.answer.Failure.TheVariants.{Source, Sink, Memory}
@@ -25,28 +26,14 @@ use Rattle.dc_app.specs.declared.answer.Failure.TheVariants.{Source, Sink, Memor
 -- ---- the line of a fault
 
 -- whether it is of a list as a whole; whether it names a window
-abbrev pub is_of_a_list : Code → Bool
-is_of_a_list C01 = true
+abbrev pub is_of_a_list : Condition → Bool
+is_of_a_list NamesDiffer = true
 is_of_a_list _ = false
 
-abbrev pub names_window : Code → Bool
-names_window C04 = true
-names_window C06 = true
+abbrev pub names_window : Condition → Bool
+names_window BacklogTooSmall = true
+names_window DelayTooSmall = true
 names_window _ = false
-
-abbrev pub verdict_code_text : Code → List ℕ
-verdict_code_text C01 = codes "C01"
-verdict_code_text C02 = codes "C02"
-verdict_code_text C03 = codes "C03"
-verdict_code_text C04 = codes "C04"
-verdict_code_text C05 = codes "C05"
-verdict_code_text C06 = codes "C06"
-verdict_code_text C07 = codes "C07"
-verdict_code_text C08 = codes "C08"
-verdict_code_text C09 = codes "C09"
-verdict_code_text C10 = codes "C10"
-verdict_code_text C11 = codes "C11"
-verdict_code_text C12 = codes "C12"
 
 -- a list; one of its members
 abbrev pub list_text : Part → List ℕ
@@ -66,16 +53,16 @@ member_name t Outputs index = text_of (slice_index_or t.keys.outputs index [])
 member_name t Labels index = text_of (slice_index_or t.keys.labels index [])
 
 abbrev pub window_text : CheckFault → List ℕ
-window_text fault = if names_window fault.code then codes " window " ++ decimal fault.window else []
+window_text fault = if names_window fault.condition then codes " window " ++ decimal fault.window else []
 
 abbrev pub place_text : TableRows → CheckFault → List ℕ
 place_text t fault =
-    if is_of_a_list fault.code then list_text fault.part
+    if is_of_a_list fault.condition then list_text fault.part
     else member_text fault.part ++ member_name t fault.part fault.index ++ window_text fault
 
 -- as `refused C06 input A window 1`
 unfoldable pub refused_text : TableRows → CheckFault → List ℕ
-refused_text t fault = codes "refused " ++ verdict_code_text fault.code ++ codes " " ++ place_text t fault
+refused_text t fault = codes "refused " ++ condition_code fault.condition ++ codes " " ++ place_text t fault
 
 -- as `accepted inputs 1 outputs 1 labels 1`
 unfoldable pub accepted_text : TableRows → List ℕ
@@ -145,12 +132,8 @@ judged_answer line (Err failure) = record { lines = []; status = 3 }
 
 -- ---- what is reported
 
--- What `check` reports, where so many failures of its devices were counted before and behind it; with status 0 the
--- certificate keeps its claims.
-pub record ReportsCheck (tables certificate : List ℕ) (old new : Option (List ℕ)) (failures failures' sink_failures status : ℕ) : Type 0 where
-  pub answer : Answer
-  pub failure : Failure
-  pub answers : CheckAnswers tables certificate (nat_lt status 3) answer
-  pub reports : Reports old new failure sink_failures answer status
-  pub counted : status ≡ 3 → IsCounted failure failures failures'
+-- What `check` reports, where its sources and its sink failed so often before and behind it; with status 0 the certificate
+-- keeps its claims.
+pub record ReportsCheck (tables certificate : List ℕ) (old new : Option (List ℕ)) (sources sources' sink sink' status : ℕ) : Type 0 where
+  pub told : Told (CheckAnswers tables certificate (nat_lt status 3)) old new sources sources' sink sink' status
   pub certified : status ≡ 0 → AreCertified tables certificate

@@ -1,13 +1,13 @@
 -- Tables from a source.
-use Rattle.std.specs.Prelude.{◌≡◌, ℕ, ◌<◌, List, length, Result, Ok, Err, alloc_error}
+use Rattle.std.specs.Prelude.{◌≡◌, ◌⊎◌, ℕ, ◌<◌, List, length, Result, Ok, Err, alloc_error}
 use Rattle.std.specs.Global.{Vec}
-use Rattle.dc_tables.specs.declared.fault.BuildError.TheVariants.{Refused as RefusedTables}
-use Rattle.dc_tables.specs.declared.fault.Code.TheVariants.{T01}
-use Rattle.dc_tables.specs.declared.fault.Section.TheVariants.{Top}
-use Rattle.dc_tables.specs.declared.fault.TableFault.{TableFault}
+use Rattle.dc_parts.specs.declared.fault.BuildError.TheVariants.{Refused as RefusedTables}
+use Rattle.dc_parts.specs.declared.fault.TableRule.TheVariants.{NotToml}
+use Rattle.dc_parts.specs.declared.fault.Section.TheVariants.{Top}
+use Rattle.dc_parts.specs.declared.fault.TableFault.{TableFault}
 use Rattle.dc_tables.specs.TableRows.{TableRows}
 use Rattle.dc_toml.specs.Faults.{Reading}
-use Rattle.dc_toml.specs.Told.{TellsTables}
+use Rattle.dc_toml.specs.Told.{AreTablesOf, TellsTables}
 use Rattle.dc_toml.specs.Written.{Written}
 use Rattle.dc_app.specs.declared.answer.Failure.TheVariants.{Source, Sink, Memory}
 use Rattle.dc_app.specs.declared.inputs.Unloaded.{Unloaded}
@@ -15,7 +15,7 @@ use Rattle.dc_app.specs.declared.inputs.Unloaded.TheVariants.{Refused, Failed}
 
 -- the fault of a text that is too long, not UTF-8 or no TOML document
 abbrev pub no_document : TableFault
-no_document = record { code = T01; section = Top; index = 0 }
+no_document = record { rule = NotToml; section = Top; index = 0 }
 
 -- the whole text, or that it is longer than tables may be; something else may fail with any text
 abbrev pub ReadsText : List ℕ → Result (Vec ℕ) Unloaded → Type 0
@@ -36,3 +36,7 @@ failed_in (Err (Refused fault)) = 0
 failed_in (Err (Failed Source)) = 1
 failed_in (Err (Failed Sink)) = 0
 failed_in (Err (Failed Memory)) = 0
+
+-- what comes behind the tables is asked for only where their text, that reads so, is that of tables; else it is untouched
+abbrev pub OnlyBehind : Reading Written → Type 0 → Type 0
+OnlyBehind reading untouched = ((rows : TableRows) × AreTablesOf reading rows) ⊎ untouched

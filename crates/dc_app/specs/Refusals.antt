@@ -1,41 +1,33 @@
 -- The last line of a replay.
 use Rattle.std.specs.Prelude.{◌≡◌, ◌≢◌, ◌<◌, ℕ, Result, Ok, Err, Option, Some, None, List, [], ◌∷◌, ◌++◌, codes, decimal}
-use Rattle.dc_tables.specs.FaultText.{table_fault_text}
+use Rattle.dc_parts.specs.FaultText.{table_fault_text}
 use Rattle.dc_tables.specs.TableRows.{TableRows}
-use Rattle.dc_tables.specs.declared.fault.TableFault.{TableFault}
+use Rattle.dc_parts.specs.declared.fault.TableFault.{TableFault}
 use Rattle.dc_event.specs.ReplyText.{name_at}
 use Rattle.dc_event.specs.declared.event.Actor.{Actor}
 use Rattle.dc_event.specs.declared.event.Actor.TheVariants.{Wire, Router, Output, Clock}
 use Rattle.dc_event.specs.declared.event.Event.{Event}
 use Rattle.dc_event.specs.declared.event.Event.TheVariants.{Route, Send}
-use Rattle.dc_event.specs.declared.trace.TraceCode.{TraceCode}
-use Rattle.dc_event.specs.declared.trace.TraceCode.TheVariants.{E1, E2, E3, E4, E5, E6}
+use Rattle.dc_event.specs.TraceFaults.{line_rule_code}
 use Rattle.dc_event.specs.declared.trace.TraceFault.{TraceFault}
 use Rattle.dc_event.specs.declared.trace.TraceStop.{TraceStop}
 use Rattle.dc_event.specs.declared.trace.TraceStop.TheVariants.{End, Fault, Broken}
+use Rattle.dc_core.specs.FaultText.{step_fault_code}
 use Rattle.dc_core.specs.declared.fault.StepFault.{StepFault}
-use Rattle.dc_core.specs.declared.fault.StepFault.TheVariants.{Spent, TooSoon, Owed, TickLimit}
+use Rattle.dc_core.specs.declared.fault.StepFault.TheVariants.{Spent, TooSoon, Owed}
 use Rattle.dc_app.specs.declared.answer.Failure.{Failure}
 use Rattle.dc_app.specs.declared.answer.Failure.TheVariants.{Source, Sink, Memory}
 use Rattle.dc_app.specs.Answer.{Answer, fault, nothing, unreadable}
 
-abbrev pub trace_code_text : TraceCode → List ℕ
-trace_code_text E1 = codes "E1"
-trace_code_text E2 = codes "E2"
-trace_code_text E3 = codes "E3"
-trace_code_text E4 = codes "E4"
-trace_code_text E5 = codes "E5"
-trace_code_text E6 = codes "E6"
-
 -- behind the events of a trace: nothing, or its fault
 abbrev pub trace_end : Option TraceFault → Answer
 trace_end None = nothing
-trace_end (Some f) = fault (trace_code_text f.code) f.line
+trace_end (Some f) = fault (line_rule_code f.rule) f.line
 
 -- where a reader of a trace stops
 abbrev pub stop_end : TraceStop → Answer
 stop_end End = nothing
-stop_end (Fault f) = fault (trace_code_text f.code) f.line
+stop_end (Fault f) = fault (line_rule_code f.rule) f.line
 stop_end Broken = nothing
 
 -- a result behind a reader's stop: it tells of a failed source just where the reader does
@@ -55,13 +47,16 @@ actor_name t (Router r) = name_at t.keys.routers r
 actor_name t (Output o) = name_at t.keys.outputs o
 actor_name t Clock = []
 
--- why an event is refused; a trace names no unknown numbers
+-- the actor that an event is refused for, behind a space
+abbrev pub culprit_text : TableRows → StepFault → Event → List ℕ
+culprit_text t Spent (Route r) = codes " " ++ name_at t.keys.routers r
+culprit_text t TooSoon (Send o) = codes " " ++ name_at t.keys.outputs o
+culprit_text t (Owed a) e = codes " " ++ actor_name t a
+culprit_text t _ e = []
+
+-- why an event is refused
 abbrev pub cause_text : TableRows → StepFault → Event → List ℕ
-cause_text t Spent (Route r) = codes "spent " ++ name_at t.keys.routers r
-cause_text t TooSoon (Send o) = codes "early " ++ name_at t.keys.outputs o
-cause_text t (Owed a) e = codes "owed " ++ actor_name t a
-cause_text t TickLimit e = codes "ticks"
-cause_text t _ e = codes "unknown"
+cause_text t f e = step_fault_code f ++ culprit_text t f e
 
 -- the line of the event of this line's number that is refused
 unfoldable pub refused_text : TableRows → Event → StepFault → ℕ → List ℕ

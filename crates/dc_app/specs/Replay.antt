@@ -1,8 +1,8 @@
 -- What `replay` answers to the texts of tables and of a trace.
 use Rattle.std.specs.Prelude.{◌≡◌, ◌⊎◌, ℕ, ◌+◌, nat_lt, Bool, true, false, Option, List, [], ◌∷◌, ◌++◌, length, Result, Ok, Err}
 use Rattle.dc_tables.specs.TableRows.{TableRows}
-use Rattle.dc_tables.specs.declared.fault.BuildError.{BuildError}
-use Rattle.dc_tables.specs.declared.fault.BuildError.TheVariants.{Refused, Memory}
+use Rattle.dc_parts.specs.declared.fault.BuildError.{BuildError}
+use Rattle.dc_parts.specs.declared.fault.BuildError.TheVariants.{Refused, Memory}
 use Rattle.dc_toml.specs.Reading.{tables_of}
 use Rattle.dc_toml.specs.Told.{TellsTables}
 use Rattle.dc_event.specs.ReplyText.{run_lines}
@@ -12,7 +12,7 @@ use Rattle.dc_event.specs.declared.trace.TraceFault.{TraceFault}
 use Rattle.dc_core.specs.Standing.{IsFault, MayFollow}
 use Rattle.dc_core.specs.declared.fault.StepFault.{StepFault}
 use Rattle.dc_app.specs.declared.answer.Failure.{Failure}
-use Rattle.dc_app.specs.Answer.{Answer, Ends, IsCounted, Reports, after_all, is_whole}
+use Rattle.dc_app.specs.Answer.{Answer, Ends, Told, after_all, is_whole}
 use Rattle.dc_app.specs.Refusals.{refused, tables_end, trace_end}
 
 -- each event may follow those before it, where `past` stands before the first
@@ -67,10 +67,7 @@ WritesTrace t all text old new result = (answer : Answer) × Replays t all (trac
 abbrev pub WritesReplay : Bool → List ℕ → List ℕ → Option (List ℕ) → Option (List ℕ) → Result ℕ Failure → Type 0
 WritesReplay all tables text old new result = (answer : Answer) × ReplayAnswers all tables text (is_whole result) answer × Ends old [] new answer result
 
--- What `replay` reports, where so many failures of its devices were counted before and behind it
-pub record ReportsReplay (all : Bool) (tables text : List ℕ) (old new : Option (List ℕ)) (failures failures' sink_failures status : ℕ) : Type 0 where
-  pub answer : Answer
-  pub failure : Failure
-  pub answers : ReplayAnswers all tables text (nat_lt status 3) answer
-  pub reports : Reports old new failure sink_failures answer status
-  pub counted : status ≡ 3 → IsCounted failure failures failures'
+-- What `replay` reports, where its sources and its sink failed so often before and behind it
+abbrev pub ReportsReplay : Bool → List ℕ → List ℕ → Option (List ℕ) → Option (List ℕ) → ℕ → ℕ → ℕ → ℕ → ℕ → Type 0
+ReportsReplay all tables text old new sources sources' sink sink' status =
+    Told (ReplayAnswers all tables text (nat_lt status 3)) old new sources sources' sink sink' status

@@ -1,8 +1,8 @@
 //! What every engine does alike: it ends with a fault, with a failure, or asks for more.
-ghost use Rattle.std.specs.Prelude.{◌≡◌, ◌≢◌, ℕ, List, Option, [], ◌∷◌, ◌++◌, ◌+◌, ◌-◌, ◌^◌, ◌<◌, ◌≤◌, length, IfErr, IfOk};
+ghost use Rattle.std.specs.Prelude.{◌≡◌, ◌≢◌, ℕ, List, Option, [], ◌∷◌, ◌++◌, ◌+◌, ◌-◌, ◌^◌, ◌<◌, ◌≤◌, length, IfErr, IfOk, Err, false};
 ghost use Rattle.dc_device.specs.Bytes.{Writes};
-ghost use Rattle.dc_device.specs.Device.{failures_of};
-ghost use Rattle.dc_app.specs.Answer.{Answer, Asks, Causes, Ends, Reports, failed_by, fault, fault_text, sink_failures_of, status_of};
+ghost use Rattle.dc_device.specs.Device.{Settles, failures_of};
+ghost use Rattle.dc_app.specs.Answer.{Answer, Asks, Causes, Ends, LeavesSink, Reports, SettlesBy, dry_in, failed_by, fault, fault_text, sink_failures_of, status_of};
 
 use crate::text::{Text, append, append_number};
 use dc_device::{Broken, LineReader, LineWriter, Sink, Source};
@@ -38,6 +38,7 @@ pub fn end_with<K: Sink>(writer: &mut LineWriter, sink: &mut K, line: &[u8]) -> 
         (writer.old ++ (line.now ++ 10 ∷ [])) result }
     ensures empty { writer.new ≡ [] }
     ensures count { K.failed sink.new ≡ K.failed sink.old + failures_of result }
+    ensures settled { Settles result (K.last_failed sink.new) (K.hidden sink.new) }
 {
     writer.line(sink, line)?;
     writer.flush(sink)
@@ -56,6 +57,7 @@ pub fn end_at<K: Sink>(
     ensures empty { writer.new ≡ [] }
     ensures count { K.failed sink.new ≡ K.failed sink.old + failures_of result }
     ensures sink { IfErr result (λ e. e ≡ Failure.Sink) }
+    ensures settled { SettlesBy result (K.last_failed sink.new) (K.hidden sink.new) }
     ensures status { IfOk result (λ status. status ≡ 2) }
 {
     let mut text = Text::new();
@@ -66,7 +68,7 @@ pub fn end_at<K: Sink>(
     }
 }
 
-/// Asks the source for more, when the sink holds all that was written.
+/// Asks the source for more, when everyone sees all that was written.
 pub fn ask<S: Source, K: Sink>(
     reader: &mut LineReader,
     source: &mut S,
@@ -82,10 +84,13 @@ pub fn ask<S: Source, K: Sink>(
     ensures room { reader.new.room ≡ reader.old.room }
     ensures cause { Causes (S.failed source.old) (S.failed source.new) (K.failed sink.old)
         (K.failed sink.new) result }
+    ensures settled { SettlesBy result (K.last_failed sink.new) (K.hidden sink.new) }
+    ensures pulls { S.asked source.new ≤ S.asked source.old + 1 }
+    ensures dry_pulls { S.dry source.new ≤ S.dry source.old + dry_in result }
 {
     match writer.flush(sink) {
         Err(_) => Err(Failure::Sink),
-        Ok(()) => match reader.fill(source, writer) {
+        Ok(()) => match reader.fill(source, writer, sink) {
             Ok(more) => Ok(more),
             Err(_) => Err(Failure::Source),
         },
@@ -103,6 +108,9 @@ pub fn report<K: Sink>(ended: Result<u8, Failure>, writer: &mut LineWriter, sink
     ensures status { result ≡ status_of ended }
     ensures rise { K.failed sink.old ≤ K.failed sink.new }
     ensures quiet { IfOk ended (λ status. K.failed sink.new ≡ K.failed sink.old) }
+    ensures silent { ended ≡ Err Failure.Sink → sink.new ≡ sink.old }
+    ensures left { (before : ℕ) → K.failed sink.old ≡ before + sink_failures_of ended → SettlesBy ended (K.last_failed sink.old) (K.hidden sink.old)
+        → LeavesSink before (K.failed sink.new) (K.last_failed sink.new) (K.hidden sink.new) }
 {
     match ended {
         Ok(status) => status,

@@ -1,16 +1,19 @@
 //! `check`: the verdict on a certificate, in one line.
 ghost use Rattle.std.specs.Prelude.{◌≡◌, ◌≢◌, ℕ, List, [], ◌+◌, ◌-◌, ◌^◌, ◌<◌, ◌≤◌, IfErr, IfOk, IfSome, Some, Ok};
+ghost use Rattle.dc_device.specs.Device.{AsksUpTo};
+ghost use Rattle.dc_toml.specs.Reading.{tables_of};
 ghost use Rattle.dc_cert.specs.Claims.{claims_of};
 ghost use Rattle.dc_cert.specs.Reading.{certificate_of};
-ghost use Rattle.dc_app.specs.Answer.{Ends, Raises, sink_failures_of};
+ghost use Rattle.dc_app.specs.Answer.{Any, Ends, LeavesSink, Raises, SettlesBy, Told, sink_failures_of};
 ghost use Rattle.dc_app.specs.Check.{Judges, JudgesTexts, ReportsCheck, judged_answer};
+ghost use Rattle.dc_app.specs.Inputs.{OnlyBehind};
 
 use crate::answer::{Failure, end_with, report};
 use crate::inputs::{Unloaded, load};
 use crate::judgement::{print_accepted, print_cert_fault, print_refused};
 use crate::print::print_table_fault;
 use crate::text::Text;
-use dc_cert::{CertFault, Certificate, Code, Fault, Place, TEXT_LIMIT, read_cert};
+use dc_cert::{CertFault, CertRule, Certificate, Fault, Place, TEXT_LIMIT, read_cert};
 use dc_check::laws::{accepted_certificates_keep_their_claims, no_fault_is_acceptance};
 use dc_check::verdict;
 use dc_device::{LineWriter, Sink, Source, Unread, read_at_most};
@@ -62,6 +65,7 @@ fn judge_source<C: Source>(
     requires { C.failed certificate.old + 1 < 2 ^ 64 }
     ensures answer { IfSome (C.remaining certificate.old) (λ text. Judges tables.now (certificate_of text) line.new.items result) }
     ensures source { Raises (C.failed certificate.old) (C.failed certificate.new) result }
+    ensures asks { AsksUpTo 1048576 (C.asked certificate.old) (C.asked certificate.new) (C.dry certificate.old) (C.dry certificate.new) }
     ensures sink { IfErr result (λ e. e ≢ Failure.Sink) }
     ensures status { IfOk result (λ status. status < 3) }
 {
@@ -71,7 +75,7 @@ fn judge_source<C: Source>(
             print_cert_fault(
                 line,
                 Fault {
-                    code: Code::K1,
+                    rule: CertRule::NotJson,
                     place: Place::Top,
                 },
             );
@@ -94,6 +98,9 @@ fn judge_sources<T: Source, C: Source>(
     ensures answer { (rows text : List ℕ) → T.remaining tables.old ≡ Some rows → C.remaining certificate.old ≡ Some text
         → JudgesTexts rows text line.new.items result }
     ensures source { Raises (T.failed tables.old + C.failed certificate.old) (T.failed tables.new + C.failed certificate.new) result }
+    ensures asks_tables { AsksUpTo 1048576 (T.asked tables.old) (T.asked tables.new) (T.dry tables.old) (T.dry tables.new) }
+    ensures asks_certificate { AsksUpTo 1048576 (C.asked certificate.old) (C.asked certificate.new) (C.dry certificate.old) (C.dry certificate.new) }
+    ensures order { IfSome (T.remaining tables.old) (λ rows. OnlyBehind (tables_of rows) (certificate.new ≡ certificate.old)) }
     ensures sink { IfErr result (λ e. e ≢ Failure.Sink) }
     ensures status { IfOk result (λ status. status < 3) }
 {
@@ -124,6 +131,7 @@ fn say<K: Sink>(
     ensures status { IfOk result (λ status. status < 3) }
     ensures same { IfOk result (λ status. judged ≡ Ok status) }
     ensures failure { IfErr result (λ e. e ≢ Failure.Sink → judged ≡ Err e) }
+    ensures settled { SettlesBy result (K.last_failed sink.new) (K.hidden sink.new) }
 {
     match judged {
         Ok(status) => match end_with(writer, sink, line) {
@@ -139,7 +147,8 @@ fn say<K: Sink>(
 ///
 /// The answer is the exit status: 0 where the certificate is accepted, and then it keeps its claims in every admissible
 /// run of the tables; 1 where it is refused; 2 where a text can't be read; 3 where a device failed or memory was
-/// refused: then `failed device` or `failed memory` was written, or, where a push or flush failed, nothing more.
+/// refused: then `failed device` or `failed memory` was written, and nothing else. A push or flush that failed is the last
+/// call of the sink, and a pull that gave no byte the last of its source.
 pub fn run_check<T: Source, C: Source, K: Sink>(
     alloc: Global,
     tables: &mut T,
@@ -151,9 +160,15 @@ pub fn run_check<T: Source, C: Source, K: Sink>(
     requires sink { K.failed sink.old + 1 < 2 ^ 64 }
     ensures reports { (rows text : List ℕ) → T.remaining tables.old ≡ Some rows → C.remaining certificate.old ≡ Some text
         → ReportsCheck rows text (K.contents sink.old) (K.contents sink.new)
-        (T.failed tables.old + C.failed certificate.old + K.failed sink.old)
-        (T.failed tables.new + C.failed certificate.new + K.failed sink.new)
-        (K.failed sink.new - K.failed sink.old) result }
+        (T.failed tables.old + C.failed certificate.old) (T.failed tables.new + C.failed certificate.new)
+        (K.failed sink.old) (K.failed sink.new) result }
+    ensures told { Told Any (K.contents sink.old) (K.contents sink.new)
+        (T.failed tables.old + C.failed certificate.old) (T.failed tables.new + C.failed certificate.new)
+        (K.failed sink.old) (K.failed sink.new) result }
+    ensures asks_tables { AsksUpTo 1048576 (T.asked tables.old) (T.asked tables.new) (T.dry tables.old) (T.dry tables.new) }
+    ensures asks_certificate { AsksUpTo 1048576 (C.asked certificate.old) (C.asked certificate.new) (C.dry certificate.old) (C.dry certificate.new) }
+    ensures order { IfSome (T.remaining tables.old) (λ rows. OnlyBehind (tables_of rows) (certificate.new ≡ certificate.old)) }
+    ensures left { LeavesSink (K.failed sink.old) (K.failed sink.new) (K.last_failed sink.new) (K.hidden sink.new) }
     ensures quiet { result < 3 → T.failed tables.new + C.failed certificate.new + K.failed sink.new
         ≡ T.failed tables.old + C.failed certificate.old + K.failed sink.old }
     ensures status { result ≤ 3 }

@@ -1,8 +1,8 @@
 //! `decode`: words in, their lines out.
-ghost use Rattle.std.specs.Prelude.{◌≡◌, ◌≢◌, [], ◌∷◌, ◌++◌, ◌+◌, ◌-◌, ◌^◌, ◌<◌, ◌≤◌, IfErr, IfOk, IfSome};
+ghost use Rattle.std.specs.Prelude.{◌≡◌, ◌≢◌, [], ◌∷◌, ◌++◌, ◌+◌, ◌-◌, ◌^◌, ◌<◌, ◌≤◌, IfErr, IfOk, IfSome, false, true};
 ghost use Rattle.dc_device.specs.Bytes.{Gathers};
-ghost use Rattle.dc_device.specs.Device.{failures_of};
-ghost use Rattle.dc_app.specs.Answer.{Causes, Ends, Reports};
+ghost use Rattle.dc_device.specs.Device.{AsksUpTo, failures_of};
+ghost use Rattle.dc_app.specs.Answer.{Causes, Ends, LeavesSink, Reports, SettlesBy};
 ghost use Rattle.dc_app.specs.Decode.{answer_end, decode_text};
 ghost use Rattle.dc_app.specs.Printed.{line_of};
 
@@ -21,11 +21,13 @@ fn end_inside<K: Sink>(
     sink: &mut K,
 ) -> Result<u8, Failure>
     requires seen { writer.old ≡ [] }
+    requires shown { K.hidden sink.old ≡ false }
     requires countable { K.failed sink.old + 1 < 2 ^ 64 }
     ensures bytes { Ends (K.contents sink.old) [] (K.contents sink.new) (answer_end number line.now) result }
     ensures empty { writer.new ≡ [] }
     ensures count { K.failed sink.new ≡ K.failed sink.old + failures_of result }
     ensures sink { IfErr result (λ e. e ≡ Failure.Sink) }
+    ensures settled { SettlesBy result (K.last_failed sink.new) (K.hidden sink.new) }
     ensures status { IfOk result (λ status. status < 3) }
 {
     match line {
@@ -46,6 +48,7 @@ fn write_word<K: Sink>(
         (line_of format word ++ 10 ∷ []) result }
     ensures count { K.failed sink.new ≡ K.failed sink.old + failures_of result }
     ensures sink { IfErr result (λ e. e ≡ Failure.Sink) }
+    ensures last { IfErr result (λ e. K.last_failed sink.new ≡ true) }
 {
     let mut text = Text::new();
     print(&mut text, format, word);
@@ -71,6 +74,8 @@ fn answer<S: Source, K: Sink>(
     ensures cause { Causes (S.failed source.old) (S.failed source.new) (K.failed sink.old)
         (K.failed sink.new) result }
     ensures device { IfErr result (λ e. e ≢ Failure.Memory) }
+    ensures settled { SettlesBy result (K.last_failed sink.new) (K.hidden sink.new) }
+    ensures asks { AsksUpTo 9223372036854775807 (S.asked source.old) (S.asked source.new) (S.dry source.old) (S.dry source.new) }
     ensures status { IfOk result (λ status. status < 3) }
 {
     let mut reader = LineReader::new(LIMIT);
@@ -100,11 +105,12 @@ fn answer<S: Source, K: Sink>(
 }
 
 /// Decodes the words on a source, one a line, onto a sink, with no memory but two fixed buffers. Each line that is
-/// due stands on the sink before the source is asked for more.
+/// due is shown before the source is asked for more.
 ///
 /// The answer is the exit status: 0 at the end of the text; 2 at the first faulty line, whose fault was written behind
 /// the lines before it; 3 where a device failed. After a failed pull whole lines of the answer and then
-/// `failed device` were written; after a failed push or flush nothing more was.
+/// `failed device` were written; a push or flush that failed is the last call of the sink, and so is a pull that
+/// gave no byte of the source.
 pub fn run_decode<S: Source, K: Sink>(format: Format, source: &mut S, sink: &mut K) -> u8
     requires source { S.failed source.old + 1 < 2 ^ 64 }
     requires sink { K.failed sink.old + 1 < 2 ^ 64 }
@@ -115,6 +121,8 @@ pub fn run_decode<S: Source, K: Sink>(format: Format, source: &mut S, sink: &mut
         → S.failed source.old + K.failed sink.old < S.failed source.new + K.failed sink.new }
     ensures quiet { result < 3
         → (S.failed source.new ≡ S.failed source.old) × (K.failed sink.new ≡ K.failed sink.old) }
+    ensures asks { AsksUpTo 9223372036854775807 (S.asked source.old) (S.asked source.new) (S.dry source.old) (S.dry source.new) }
+    ensures left { LeavesSink (K.failed sink.old) (K.failed sink.new) (K.last_failed sink.new) (K.hidden sink.new) }
     ensures status { result ≤ 3 }
 {
     let mut writer = LineWriter::new();

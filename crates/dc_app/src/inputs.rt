@@ -1,11 +1,13 @@
 //! Tables from a source.
 ghost use Rattle.std.specs.Prelude.{◌≡◌, ◌≢◌, ◌+◌, ◌^◌, ◌<◌, IfErr, IfSome};
+ghost use Rattle.dc_device.specs.Device.{AsksUpTo};
 ghost use Rattle.dc_toml.specs.Reading.{tables_of};
 ghost use Rattle.dc_app.specs.Inputs.{Loads, ReadsText, failed_in};
 
 use crate::answer::Failure;
 use dc_device::{Source, Unread, read_at_most};
-use dc_tables::{BuildError, Code, Section, TableFault, Tables};
+use dc_parts::{BuildError, Section, TableFault, TableRule};
+use dc_tables::Tables;
 use dc_toml::{TEXT_LIMIT, read_tables};
 use std::alloc::Global;
 
@@ -23,6 +25,7 @@ fn read_text<S: Source>(alloc: Global, source: &mut S) -> Result<Vec<u8>, Unload
     requires { S.failed source.old + 1 < 2 ^ 64 }
     ensures text { IfSome (S.remaining source.old) (λ text. ReadsText text result) }
     ensures count { S.failed source.new ≡ S.failed source.old + failed_in result }
+    ensures asks { AsksUpTo 1048576 (S.asked source.old) (S.asked source.new) (S.dry source.old) (S.dry source.new) }
     ensures sink { IfErr result (λ e. e ≢ Unloaded.Failed Failure.Sink) }
 {
     match read_at_most(alloc, source, TEXT_LIMIT) {
@@ -30,7 +33,7 @@ fn read_text<S: Source>(alloc: Global, source: &mut S) -> Result<Vec<u8>, Unload
         Err(Unread::Device) => Err(Unloaded::Failed(Failure::Source)),
         Err(Unread::Memory) => Err(Unloaded::Failed(Failure::Memory)),
         Err(Unread::TooLong) => Err(Unloaded::Refused(TableFault {
-            code: Code::T01,
+            rule: TableRule::NotToml,
             section: Section::Top,
             index: 0,
         })),
@@ -58,6 +61,7 @@ pub fn load<S: Source>(alloc: Global, source: &mut S) -> Result<Tables, Unloaded
     requires { S.failed source.old + 1 < 2 ^ 64 }
     ensures tables { IfSome (S.remaining source.old) (λ text. Loads (tables_of text) result) }
     ensures count { S.failed source.new ≡ S.failed source.old + failed_in result }
+    ensures asks { AsksUpTo 1048576 (S.asked source.old) (S.asked source.new) (S.dry source.old) (S.dry source.new) }
     ensures sink { IfErr result (λ e. e ≢ Unloaded.Failed Failure.Sink) }
 {
     match read_text(alloc, source) {

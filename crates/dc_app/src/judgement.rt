@@ -3,47 +3,29 @@ ghost use Rattle.std.specs.Prelude.{◌≡◌, ◌++◌, ◌+◌, ◌<◌, ◌�
 ghost use Rattle.arrayvec.specs.ArrayVec.{array_vec_len};
 ghost use Rattle.dc_cert.specs.Faults.{fault_text};
 ghost use Rattle.dc_check.specs.Placed.{IsPlaced, part_count};
-ghost use Rattle.dc_app.specs.Check.{accepted_text, is_of_a_list, list_text, member_name, member_text, names_window, place_text, refused_text, verdict_code_text, window_text};
+ghost use Rattle.dc_app.specs.Check.{accepted_text, is_of_a_list, list_text, member_name, member_text, names_window, place_text, refused_text, window_text};
 ghost use Rattle.std.specs.Prelude.{codes};
 
 use crate::text::{Text, append, append_number};
 use dc_cert::Fault;
-use dc_check::{CheckFault, Code, Part};
+use dc_check::{CheckFault, Condition, Part};
 use dc_tables::Tables;
 
-// Whether a code is of a list as a whole.
-fn is_list_code(code: Code) -> bool
-    ensures { result ≡ is_of_a_list code }
+// Whether a condition is of a list as a whole.
+fn is_of_list(condition: Condition) -> bool
+    ensures { result ≡ is_of_a_list condition }
 {
-    matches!(code, Code::C01)
+    matches!(condition, Condition::NamesDiffer)
 }
 
-// Whether a code names a window.
-fn has_window(code: Code) -> bool
-    ensures { result ≡ names_window code }
+// Whether a condition names a window.
+fn has_window(condition: Condition) -> bool
+    ensures { result ≡ names_window condition }
 {
-    matches!(code, Code::C04 | Code::C06)
-}
-
-// The code as it is printed.
-fn code(code: Code) -> &'static [u8]
-    ensures text { result.now ≡ verdict_code_text code }
-    ensures short { length result.now ≤ 3 }
-{
-    match code {
-        Code::C01 => b"C01",
-        Code::C02 => b"C02",
-        Code::C03 => b"C03",
-        Code::C04 => b"C04",
-        Code::C05 => b"C05",
-        Code::C06 => b"C06",
-        Code::C07 => b"C07",
-        Code::C08 => b"C08",
-        Code::C09 => b"C09",
-        Code::C10 => b"C10",
-        Code::C11 => b"C11",
-        Code::C12 => b"C12",
-    }
+    matches!(
+        condition,
+        Condition::BacklogTooSmall | Condition::DelayTooSmall
+    )
 }
 
 // The name of a list.
@@ -83,12 +65,12 @@ fn name(tables: &Tables, part: Part, index: usize) -> &[u8]
     }
 }
 
-// Puts the window at the end, where the code names one.
+// Puts the window at the end, where the condition names one.
 fn append_window(text: &mut Text, fault: CheckFault)
     requires { array_vec_len text.old ≤ 60 }
     ensures { text.new.items ≡ text.old.items ++ window_text fault }
 {
-    if has_window(fault.code) {
+    if has_window(fault.condition) {
         append(text, b" window ");
         append_number(text, u64::from(fault.window));
     }
@@ -100,7 +82,7 @@ fn append_place(text: &mut Text, tables: &Tables, fault: CheckFault)
     requires place { IsPlaced tables.now fault }
     ensures { text.new.items ≡ text.old.items ++ place_text tables.now fault }
 {
-    if is_list_code(fault.code) {
+    if is_of_list(fault.condition) {
         append(text, list(fault.part));
         return;
     }
@@ -117,7 +99,7 @@ pub fn print_refused(text: &mut Text, tables: &Tables, fault: CheckFault)
 {
     text.clear();
     append(text, b"refused ");
-    append(text, code(fault.code));
+    append(text, fault.condition.code().as_bytes());
     append(text, b" ");
     append_place(text, tables, fault);
 }

@@ -1,11 +1,11 @@
 //! The printed line of a word.
 ghost use Rattle.std.specs.Prelude.{◌≡◌, ◌++◌, ◌+◌, ◌≤◌, length, codes, decimal};
 ghost use Rattle.arrayvec.specs.ArrayVec.{array_vec_len};
-ghost use Rattle.dc_tables.specs.FaultText.{table_fault_text};
+ghost use Rattle.dc_parts.specs.FaultText.{table_fault_text};
 ghost use Rattle.dc_app.specs.Printed.{data_text, line_of, parity_text, status_text};
 
 use crate::text::{Text, append, append_number, decimal_5, digit_of, hex_5, hex_8, octal_3};
-use dc_tables::{Section, TableFault};
+use dc_parts::{Section, TableFault};
 use dc_word::{Format, Status, Word};
 use itoa::Buffer;
 
@@ -80,7 +80,7 @@ pub fn print_table_fault(text: &mut Text, fault: TableFault)
 {
     text.clear();
     append(text, b"unreadable ");
-    append(text, fault.code.text().as_bytes());
+    append(text, fault.rule.code().as_bytes());
     append(text, b" at ");
     append(text, fault.section.text().as_bytes());
     match fault.section {

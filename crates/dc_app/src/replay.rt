@@ -1,12 +1,16 @@
 //! `replay`: a recorded trace through the concentrator.
-ghost use Rattle.std.specs.Prelude.{◌≡◌, ◌≢◌, [], ◌∷◌, ◌++◌, ◌+◌, ◌-◌, ◌^◌, ◌<◌, ◌≤◌, ◌||◌, cond, length, IfErr, IfOk, IfSome};
+ghost use Rattle.std.specs.Prelude.{◌≡◌, ◌≢◌, [], ◌∷◌, ◌++◌, ◌+◌, ◌-◌, ◌^◌, ◌<◌, ◌≤◌, ◌||◌, cond, length, IfErr, IfOk, IfSome, Err, true};
+ghost use Rattle.dc_device.specs.Device.{AsksUpTo};
+ghost use Rattle.dc_toml.specs.Reading.{tables_of};
 ghost use Rattle.dc_device.specs.Bytes.{Gathers};
 ghost use Rattle.dc_device.specs.Device.{failures_of};
 ghost use Rattle.dc_device.specs.Lines.{spelled};
 ghost use Rattle.dc_core.specs.CoreSteps.{rows_of};
 ghost use Rattle.dc_event.specs.ReplyText.{is_told, reply_line};
-ghost use Rattle.dc_app.specs.Answer.{Ends, Raises, is_whole, sink_failures_of};
-ghost use Rattle.dc_app.specs.Refusals.{StopsBy, refused, stop_end, tables_end, trace_code_text};
+ghost use Rattle.dc_event.specs.TraceFaults.{line_rule_code};
+ghost use Rattle.dc_app.specs.Answer.{Any, Ends, EndsSome, LeavesSink, Raises, SettlesBy, Told, is_whole, sink_failures_of};
+ghost use Rattle.dc_app.specs.Inputs.{OnlyBehind};
+ghost use Rattle.dc_app.specs.Refusals.{StopsBy, refused, stop_end, tables_end};
 ghost use Rattle.dc_app.specs.Replay.{ReportsReplay, WritesReplay, WritesTrace};
 ghost use Rattle.dc_app.specs.Steps.{StandsAt};
 
@@ -18,24 +22,18 @@ use crate::steps::{Progress, Refusal, Step};
 use crate::text::Text;
 use dc_core::Core;
 use dc_device::{LineWriter, Sink, Source};
-use dc_event::{TRACE_LIMIT, TraceCode, TraceLines, TraceStop};
-use dc_tables::{TableFault, Tables};
+use dc_event::{LineRule, TRACE_LIMIT, TraceLines, TraceStop};
+use dc_parts::TableFault;
+use dc_tables::Tables;
 use std::alloc::Global;
 use std::sync::Arc;
 
-// The code of a fault of a trace.
-fn code_text(code: TraceCode) -> &'static [u8]
-    ensures text { result.now ≡ trace_code_text code }
-    ensures short { length result.now ≤ 8 }
+// The code of a rule that a line breaks.
+fn code_of(rule: LineRule) -> &'static [u8]
+    ensures text { result.now ≡ line_rule_code rule }
+    ensures short { length result.now ≤ 2 }
 {
-    match code {
-        TraceCode::E1 => b"E1",
-        TraceCode::E2 => b"E2",
-        TraceCode::E3 => b"E3",
-        TraceCode::E4 => b"E4",
-        TraceCode::E5 => b"E5",
-        TraceCode::E6 => b"E6",
-    }
+    rule.code().as_bytes()
 }
 
 // Pushes what waits, where the trace tells no more events.
@@ -45,9 +43,10 @@ fn end_by<K: Sink>(stop: TraceStop, writer: &mut LineWriter, sink: &mut K) -> Re
     ensures empty { writer.new ≡ [] }
     ensures count { K.failed sink.new ≡ K.failed sink.old + sink_failures_of result }
     ensures stops { StopsBy stop result }
+    ensures settled { SettlesBy result (K.last_failed sink.new) (K.hidden sink.new) }
 {
     if let TraceStop::Fault(fault) = stop {
-        return end_at(writer, sink, code_text(fault.code), fault.line);
+        return end_at(writer, sink, code_of(fault.rule), fault.line);
     }
     match writer.flush(sink) {
         Err(_) => Err(Failure::Sink),
@@ -70,6 +69,7 @@ fn end_refused<K: Sink>(
     ensures empty { writer.new ≡ [] }
     ensures count { K.failed sink.new ≡ K.failed sink.old + failures_of result }
     ensures sink { IfErr result (λ e. e ≡ Failure.Sink) }
+    ensures settled { SettlesBy result (K.last_failed sink.new) (K.hidden sink.new) }
     ensures status { IfOk result (λ status. status < 3) }
 {
     let mut text = Text::new();
@@ -91,6 +91,7 @@ fn end_unloaded<K: Sink>(
     ensures empty { writer.new ≡ [] }
     ensures count { K.failed sink.new ≡ K.failed sink.old + failures_of result }
     ensures sink { IfErr result (λ e. e ≡ Failure.Sink) }
+    ensures settled { SettlesBy result (K.last_failed sink.new) (K.hidden sink.new) }
     ensures status { IfOk result (λ status. status < 3) }
 {
     let mut text = Text::new();
@@ -114,6 +115,7 @@ fn say<K: Sink>(
         (spelled (cond (all || is_told step.reply) (reply_line tables.now step.tick step.event step.reply ∷ []) [])) result }
     ensures count { K.failed sink.new ≡ K.failed sink.old + failures_of result }
     ensures sink { IfErr result (λ e. e ≡ Failure.Sink) }
+    ensures last { IfErr result (λ e. K.last_failed sink.new ≡ true) }
 {
     if !is_printed(all, step.reply) {
         return Ok(());
@@ -142,6 +144,10 @@ fn answer<S: Source, K: Sink>(
     requires sink { K.failed sink.old + 1 < 2 ^ 64 }
     ensures answer { IfSome (S.remaining trace.old) (λ text.
         WritesTrace tables.now all text (K.contents sink.old) (K.contents sink.new) result) }
+    ensures some { EndsSome (K.contents sink.old) (K.contents sink.new) result }
+    ensures settled { SettlesBy result (K.last_failed sink.new) (K.hidden sink.new) }
+    ensures asks { AsksUpTo 1073741824 (S.asked trace.old) (S.asked trace.new) (S.dry trace.old) (S.dry trace.new) }
+    ensures device { IfErr result (λ e. e ≢ Failure.Memory) }
     ensures empty { writer.new ≡ [] }
     ensures source { Raises (S.failed trace.old) (S.failed trace.new) result }
     ensures sink { K.failed sink.new ≡ K.failed sink.old + sink_failures_of result }
@@ -152,7 +158,7 @@ fn answer<S: Source, K: Sink>(
         match lines.advance() {
             None => match writer.flush(sink) {
                 Err(_) => return Err(Failure::Sink),
-                Ok(()) => lines.pull(trace, writer),
+                Ok(()) => lines.pull(trace, writer, sink),
             },
             Some(Err(stop)) => return end_by(stop, writer, sink),
             Some(Ok(event)) => match progress.step(event) {
@@ -180,6 +186,10 @@ fn answer_on<S: Source, K: Sink>(
     requires sink { K.failed sink.old + 1 < 2 ^ 64 }
     ensures answer { IfSome (S.remaining trace.old) (λ text.
         WritesTrace tables all text (K.contents sink.old) (K.contents sink.new) result) }
+    ensures some { EndsSome (K.contents sink.old) (K.contents sink.new) result }
+    ensures settled { SettlesBy result (K.last_failed sink.new) (K.hidden sink.new) }
+    ensures asks { AsksUpTo 1073741824 (S.asked trace.old) (S.asked trace.new) (S.dry trace.old) (S.dry trace.new) }
+    ensures memory { result ≡ Err Failure.Memory → sink.new ≡ sink.old }
     ensures empty { writer.new ≡ [] }
     ensures source { Raises (S.failed trace.old) (S.failed trace.new) result }
     ensures sink { K.failed sink.new ≡ K.failed sink.old + sink_failures_of result }
@@ -217,6 +227,12 @@ fn replay<T: Source, S: Source, K: Sink>(
     requires sink { K.failed sink.old + 1 < 2 ^ 64 }
     ensures answer { IfSome (T.remaining tables.old) (λ rows. IfSome (S.remaining trace.old) (λ text.
         WritesReplay all rows text (K.contents sink.old) (K.contents sink.new) result)) }
+    ensures some { EndsSome (K.contents sink.old) (K.contents sink.new) result }
+    ensures settled { SettlesBy result (K.last_failed sink.new) (K.hidden sink.new) }
+    ensures asks_tables { AsksUpTo 1048576 (T.asked tables.old) (T.asked tables.new) (T.dry tables.old) (T.dry tables.new) }
+    ensures asks_trace { AsksUpTo 1073741824 (S.asked trace.old) (S.asked trace.new) (S.dry trace.old) (S.dry trace.new) }
+    ensures order { IfSome (T.remaining tables.old) (λ rows. OnlyBehind (tables_of rows) (trace.new ≡ trace.old)) }
+    ensures memory { result ≡ Err Failure.Memory → sink.new ≡ sink.old }
     ensures empty { writer.new ≡ [] }
     ensures source { Raises (T.failed tables.old + S.failed trace.old) (T.failed tables.new + S.failed trace.new) result }
     ensures sink { K.failed sink.new ≡ K.failed sink.old + sink_failures_of result }
@@ -231,12 +247,13 @@ fn replay<T: Source, S: Source, K: Sink>(
 }
 
 /// Replays a recorded trace through the concentrator of a tables' text, onto a sink: each reply as a line, or only those
-/// that tell of a word that is sent or lost. Each line that is due stands on the sink before the trace is asked for more.
+/// that tell of a word that is sent or lost. Each line that is due is shown before the trace is asked for more.
 ///
 /// The answer is the exit status: 0 at the end of the trace; 1 at the first event that may not follow, 2 at the first
 /// fault of the tables or of the trace, whose line was written behind the lines before it; 3 where a device failed or
-/// memory was refused. After a failed pull whole lines of the answer and then `failed device` or `failed memory` were
-/// written; after a failed push or flush nothing more was.
+/// memory was refused. After a failed pull whole lines of the answer and then `failed device` were written, and where
+/// memory was refused `failed memory` alone. A push or flush that failed is the last call of the sink, and a pull that
+/// gave no byte the last of its source.
 pub fn run_replay<T: Source, S: Source, K: Sink>(
     alloc: Global,
     all: bool,
@@ -249,9 +266,15 @@ pub fn run_replay<T: Source, S: Source, K: Sink>(
     requires sink { K.failed sink.old + 1 < 2 ^ 64 }
     ensures reports { IfSome (T.remaining tables.old) (λ rows. IfSome (S.remaining trace.old) (λ text.
         ReportsReplay all rows text (K.contents sink.old) (K.contents sink.new)
-        (T.failed tables.old + S.failed trace.old + K.failed sink.old)
-        (T.failed tables.new + S.failed trace.new + K.failed sink.new)
-        (K.failed sink.new - K.failed sink.old) result)) }
+        (T.failed tables.old + S.failed trace.old) (T.failed tables.new + S.failed trace.new)
+        (K.failed sink.old) (K.failed sink.new) result)) }
+    ensures told { Told Any (K.contents sink.old) (K.contents sink.new)
+        (T.failed tables.old + S.failed trace.old) (T.failed tables.new + S.failed trace.new)
+        (K.failed sink.old) (K.failed sink.new) result }
+    ensures asks_tables { AsksUpTo 1048576 (T.asked tables.old) (T.asked tables.new) (T.dry tables.old) (T.dry tables.new) }
+    ensures asks_trace { AsksUpTo 1073741824 (S.asked trace.old) (S.asked trace.new) (S.dry trace.old) (S.dry trace.new) }
+    ensures order { IfSome (T.remaining tables.old) (λ rows. OnlyBehind (tables_of rows) (trace.new ≡ trace.old)) }
+    ensures left { LeavesSink (K.failed sink.old) (K.failed sink.new) (K.last_failed sink.new) (K.hidden sink.new) }
     ensures quiet { result < 3 → T.failed tables.new + S.failed trace.new + K.failed sink.new
         ≡ T.failed tables.old + S.failed trace.old + K.failed sink.old }
     ensures status { result ≤ 3 }

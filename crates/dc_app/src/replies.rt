@@ -3,7 +3,7 @@ ghost use Rattle.std.specs.Prelude.{◌≡◌, ◌++◌, ◌+◌, ◌≤◌, ◌
 ghost use Rattle.arrayvec.specs.ArrayVec.{array_vec_len};
 ghost use Rattle.dc_event.specs.ReplyText.{arrival_text, is_told as is_told_reply, name_at, reply_line, routing_text, sending_text};
 ghost use Rattle.dc_event.specs.WordText.{eight_hex};
-ghost use Rattle.dc_app.specs.Refusals.{actor_name, cause_text, refused_text};
+ghost use Rattle.dc_app.specs.Refusals.{actor_name, cause_text, culprit_text, refused_text};
 
 use crate::steps::{Refusal, Step};
 use crate::text::{Text, append, append_number, hex_8};
@@ -72,6 +72,7 @@ fn append_arrival(text: &mut Text, word: Word, reply: Reply)
         }
         Reply::BadParity => append_word(text, b" parity ", word),
         Reply::Undeclared => append_word(text, b" undeclared ", word),
+        Reply::TooEarly => append_word(text, b" early ", word),
         Reply::Overrun => append_word(text, b" overrun ", word),
         Reply::Latched => append_word(text, b" latched ", word),
         _ => {}
@@ -167,28 +168,37 @@ fn actor_text(tables: &Tables, actor: Actor) -> &[u8]
     }
 }
 
+// Puts the actor that an event was refused for at the end.
+fn append_culprit(text: &mut Text, tables: &Tables, event: Event, fault: StepFault)
+    requires { array_vec_len text.old + 20 ≤ 96 }
+    ensures items { text.new.items ≡ text.old.items ++ culprit_text tables.now fault event }
+    ensures len { array_vec_len text.new ≤ array_vec_len text.old + 17 }
+{
+    match (fault, event) {
+        (StepFault::Spent, Event::Route(router)) => {
+            append(text, b" ");
+            append(text, router_text(tables, router));
+        }
+        (StepFault::TooSoon, Event::Send(output)) => {
+            append(text, b" ");
+            append(text, output_text(tables, output));
+        }
+        (StepFault::Owed(actor), _) => {
+            append(text, b" ");
+            append(text, actor_text(tables, actor));
+        }
+        _ => {}
+    }
+}
+
 // Puts why an event was refused at the end.
 fn append_cause(text: &mut Text, tables: &Tables, event: Event, fault: StepFault)
     requires { array_vec_len text.old + 30 ≤ 96 }
     ensures items { text.new.items ≡ text.old.items ++ cause_text tables.now fault event }
-    ensures len { array_vec_len text.new ≤ array_vec_len text.old + 22 }
+    ensures len { array_vec_len text.new ≤ array_vec_len text.old + 24 }
 {
-    match (fault, event) {
-        (StepFault::Spent, Event::Route(router)) => {
-            append(text, b"spent ");
-            append(text, router_text(tables, router));
-        }
-        (StepFault::TooSoon, Event::Send(output)) => {
-            append(text, b"early ");
-            append(text, output_text(tables, output));
-        }
-        (StepFault::Owed(actor), _) => {
-            append(text, b"owed ");
-            append(text, actor_text(tables, actor));
-        }
-        (StepFault::TickLimit, _) => append(text, b"ticks"),
-        _ => append(text, b"unknown"),
-    }
+    append(text, fault.code().as_bytes());
+    append_culprit(text, tables, event, fault);
 }
 
 /// The line of an event that was refused.

@@ -50,3 +50,8 @@ due_by_frames off frame es tick = tick / frame * length es + count_by (λ e. nat
 -- `count` tells the number of entries due by each tick: entry n is among them where it is due
 abbrev pub IsDueCount : (due count : ℕ → ℕ) → Type 0
 IsDueCount due count = (n t : ℕ) → (n < count t) ↔ (due n ≤ t)
+
+-- `least` is the least span of k + 1 neighbouring entries that begin with one below n, and is met
+pub record IsLeastSpan (frame : ℕ) (offsets : List ℕ) (k n least : ℕ) : Type 0 where
+  pub met : (i : ℕ) × (due frame offsets (i + k) ≡ due frame offsets i + least)
+  pub below : (i : ℕ) → i < n → due frame offsets i + least ≤ due frame offsets (i + k)

@@ -53,6 +53,11 @@ HoldAtLeast n d whole ts = (u : ℕ) → u + d ≤ whole → n ≤ count_in u d 
 abbrev pub HoldAtMost : (n d : ℕ) → List ℕ → Type 0
 HoldAtMost n d ts = (u : ℕ) → count_in u d ts ≤ n
 
+-- the tick of the last of these up to the tick after `whole` whole ones, None where there is none
+abbrev pub IsLast : Option ℕ → ℕ → List ℕ → Type 0
+IsLast None whole ts = count_in 0 (suc whole) ts ≡ 0
+IsLast (Some k) whole ts = (k ≤ whole) × (1 ≤ count_in k 1 ts) × (count_in (suc k) (whole - k) ts ≡ 0)
+
 -- any d consecutive ticks, d at least 1, hold at most d * tick / spacing + 1 of these
 abbrev pub HoldsWire : (tick spacing : ℕ) → List ℕ → Type 0
 HoldsWire tick spacing ts = (d : ℕ) → 1 ≤ d → HoldAtMost (d * tick / spacing + 1) d ts

@@ -3,11 +3,12 @@
 ghost use Rattle.std.specs.Prelude.{◌≡◌, ℕ, ◌+◌, ◌-◌, ◌*◌, ◌/◌, ◌^◌, ◌<◌, ◌≤◌, ◌↔◌, ◌++◌, List, length, min, refl, MatchOption};
 ghost use Rattle.std.specs.List.{sum_by};
 ghost use Rattle.dc_bound.specs.Window.{count_in, ticks_of, IsNextJump, HoldAtMost, HoldsWire, Spaced, wire_cap};
-ghost use Rattle.dc_bound.specs.Visited.{NeverFall};
-ghost use Rattle.dc_bound.specs.Sums.{SumAllows, SumAllows-count, SumAllows-prefix, sum_zero, sum_monotone, sum_bounded};
-ghost use Rattle.dc_bound.specs.Counts.{ceil_zero, ceil_mono, ceil_bounded, both_zero, both_mono, both_bounded, both_holds, wire_mono, wire_bounded, wire_holds, wire_prefix};
-ghost use Rattle.dc_bound.specs.Budget.{one_each_holds, one_each_prefix};
-ghost use Rattle.dc_bound.specs.Jumps.{earlier_jump, later_jump};
+ghost use Rattle.dc_bound.specs.Turns.{NeverFall};
+ghost use Rattle.dc_bound.specs.Tags.{SumAllows};
+ghost use Rattle.dc_bound.specs.lemmas.Sums.{SumAllows-count, SumAllows-prefix, sum_zero, sum_monotone, sum_bounded};
+ghost use Rattle.dc_bound.specs.lemmas.Counts.{ceil_zero, ceil_mono, ceil_bounded, both_zero, both_mono, both_bounded, both_holds, wire_mono, wire_bounded, wire_holds, wire_prefix};
+ghost use Rattle.dc_bound.specs.lemmas.Budget.{one_each_holds, one_each_prefix};
+ghost use Rattle.dc_bound.specs.Window.{earlier_jump, later_jump};
 
 // The greatest number of ticks of a window.
 const LONGEST: u64 = 1_000_000;
@@ -270,7 +271,7 @@ impl<A: ArrivalBound, B: ArrivalBound> ArrivalBound for Both<A, B> {
 }
 
 // A jump that is known by its tick count, if it is not past the longest window.
-fn jump_at(ticks: u64) -> Option<u32>
+pub(crate) fn jump_at(ticks: u64) -> Option<u32>
     ensures { MatchOption result (1000000 < ticks) (λ j. (j ≡ ticks) × (j ≤ 1000000)) }
 {
     if ticks <= LONGEST {
@@ -292,7 +293,7 @@ fn earlier(one: Option<u32>, other: Option<u32>) -> Option<u32>
 }
 
 // The later of two jumps, where there are two.
-fn later(one: Option<u32>, other: Option<u32>) -> Option<u32>
+pub(crate) fn later(one: Option<u32>, other: Option<u32>) -> Option<u32>
     ensures { result ≡ later_jump one other }
 {
     match (one, other) {

@@ -2,8 +2,10 @@
 
 ghost use Rattle.std.specs.Prelude.{◌≡◌, ℕ, ◌+◌, ◌*◌, ◌<◌, ◌≤◌, ◌↔◌, List, length};
 ghost use Rattle.dc_bound.specs.Window.{IsNextJump};
-ghost use Rattle.dc_bound.specs.Due.{due, IsDue, Offsets};
-ghost use Rattle.dc_bound.specs.Spans.{cyclic_cap, IsLeastSpan, cyclic_zero, cap_grows, cyclic_bounded, cyclic_holds, due_prefix};
+ghost use Rattle.dc_bound.specs.Frame.{due, IsDue, Offsets};
+ghost use Rattle.dc_bound.specs.Frame.{cyclic_cap};
+ghost use Rattle.dc_bound.specs.lemmas.Spans.{cyclic_zero, cap_grows, cyclic_bounded, cyclic_holds, due_prefix};
+ghost use Rattle.dc_bound.specs.Frame.{IsLeastSpan};
 
 use crate::arrival::ArrivalBound;
 

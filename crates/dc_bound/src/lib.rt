@@ -4,10 +4,12 @@
 
 mod arrival;
 mod cyclic;
+mod jitter;
 mod service;
 
 pub use arrival::{ArrivalBound, Both, Sporadic, SumOf, Wire};
 pub use cyclic::Cyclic;
+pub use jitter::{Capped, Jittered};
 pub use service::{Paced, ServiceBound, Visits};
 
 #[cfg(test)]

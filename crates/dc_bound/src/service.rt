@@ -2,9 +2,11 @@
 
 ghost use Rattle.std.specs.Prelude.{◌≡◌, ℕ, ◌+◌, ◌*◌, ◌/◌, ◌%◌, ◌^◌, ◌<◌, ◌≤◌, ◌↔◌, List, length};
 ghost use Rattle.dc_bound.specs.Window.{count_in, HoldAtLeast};
-ghost use Rattle.dc_bound.specs.Budget.{pace_zero, pace_mono, pace_holds};
-ghost use Rattle.dc_bound.specs.Cycle.{among, is_at, fewest_visits, fewest_visits_zero, fewest_visits_mono};
-ghost use Rattle.dc_bound.specs.Visited.{VisitsInTurn, in_turn_holds};
+ghost use Rattle.dc_bound.specs.lemmas.Budget.{pace_zero, pace_mono, pace_holds};
+ghost use Rattle.dc_bound.specs.Rounds.{among, is_at, fewest_visits};
+ghost use Rattle.dc_bound.specs.lemmas.Cycle.{fewest_visits_zero, fewest_visits_mono};
+ghost use Rattle.dc_bound.specs.Turns.{VisitsInTurn};
+ghost use Rattle.dc_bound.specs.lemmas.Visited.{in_turn_holds};
 
 /// What so many consecutive whole ticks serve at least.
 pub trait ServiceBound {
@@ -129,7 +131,7 @@ fn visit(visits: &[usize], bus: usize, n: usize) -> u64
 }
 
 // How many of the first k steps visit the bus.
-#[tactic(auto, unfolding(crate::specs::Cycle::among))]
+#[tactic(auto, unfolding(crate::specs::Rounds::among))]
 fn visits_in_front(visits: &[usize], bus: usize, k: usize) -> u64
     requires few { length visits.now ≤ 256 }
     requires round { k ≤ length visits.now }

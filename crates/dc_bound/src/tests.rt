@@ -2,7 +2,10 @@
 
 ghost use Rattle.std.specs.Prelude.{◌≡◌, ℕ, ◌<◌, ◌≤◌, length, slice_index};
 
-use crate::{ArrivalBound, Both, Cyclic, Paced, ServiceBound, Sporadic, SumOf, Visits, Wire};
+use crate::{
+    ArrivalBound, Both, Capped, Cyclic, Jittered, Paced, ServiceBound, Sporadic, SumOf, Visits,
+    Wire,
+};
 use std::process::Abort;
 
 // The caps at some tick counts, through the bound.
@@ -59,6 +62,66 @@ fn sporadic_rounds_up(rt: HostRuntime) {
         &Sporadic::new(1),
         &[(999_999, Some(1_000_000)), (1_000_000, None)],
     );
+}
+
+#[test]
+fn jitter_lets_words_come_together(rt: HostRuntime) {
+    let late = Jittered::new(10, 10);
+    assert_caps(
+        &rt,
+        &late,
+        &[
+            (0, 0),
+            (1, 2),
+            (10, 2),
+            (11, 3),
+            (20, 3),
+            (21, 4),
+            (1_000_000, 100_001),
+        ],
+    );
+    assert_jumps(
+        &rt,
+        &late,
+        &[
+            (0, Some(1)),
+            (1, Some(11)),
+            (11, Some(21)),
+            (999_990, Some(999_991)),
+            (999_991, None),
+        ],
+    );
+    assert_jumps(
+        &rt,
+        &Jittered::new(10, 3),
+        &[(0, Some(1)), (1, Some(8)), (8, Some(18))],
+    );
+    assert_caps(&rt, &Jittered::new(10, 0), &[(0, 0), (10, 1), (11, 2)]);
+    assert_jumps(&rt, &Jittered::new(10, 0), &[(0, Some(1)), (1, Some(11))]);
+    assert_caps(
+        &rt,
+        &Jittered::new(1, 1_000_000_000),
+        &[(0, 0), (1, 1_000_000_001)],
+    );
+}
+
+#[test]
+fn a_wire_caps_a_sum_where_there_is_one(rt: HostRuntime) {
+    let members = [Jittered::new(10, 10), Jittered::new(10, 10)];
+    let with_wire = Capped::new(SumOf::new(0, &members), Some(Wire::new(1000, 350)));
+    assert_caps(
+        &rt,
+        &with_wire,
+        &[(0, 0), (1, 3), (2, 4), (6, 4), (10, 4), (11, 6)],
+    );
+    assert_jumps(
+        &rt,
+        &with_wire,
+        &[(0, Some(1)), (1, Some(2)), (2, Some(11))],
+    );
+    let policed = Capped::new(SumOf::new(0, &members), None);
+    assert_caps(&rt, &policed, &[(0, 0), (1, 4), (10, 4), (11, 6)]);
+    assert_jumps(&rt, &policed, &[(0, Some(1)), (1, Some(11))]);
 }
 
 #[test]

@@ -1,5 +1,5 @@
 -- The window tests and the busy-window law, over the moves of a queue.
-use Rattle.std.specs.Prelude.{◌≡◌, ℕ, ◌+◌, ◌-◌, ◌<◌, ◌≤◌, List, ◌++◌, length}
+use Rattle.std.specs.Prelude.{◌≡◌, ℕ, ◌+◌, ◌-◌, ◌<◌, ◌≤◌, List, ◌++◌, length, Option, MatchOption}
 use Rattle.dc_bound.specs.Window.{count_in}
 use Rattle.dc_bound.specs.Moves.{Move, ticks_in, visit_ticks, entries, ins, passed, arrived_tick}
 
@@ -30,6 +30,11 @@ DelayBounded a s window delay = EachWindow (DelayAt a s delay) window
 -- w is the first from 1 to the window at which P fails
 abbrev pub IsLeastFailing : (ℕ → Type 0) → ℕ → ℕ → Type 0
 IsLeastFailing P window w = (1 ≤ w) × (w ≤ window) × (¬ P w) × ((v : ℕ) → 1 ≤ v → v < w → P v)
+
+-- what was found is the first from `first` to `last` at which P fails; nothing, where P holds at each
+abbrev pub IsFirstBetween : (ℕ → Type 0) → (first last : ℕ) → Option ℕ → Type 0
+IsFirstBetween P first last found =
+    MatchOption found ((v : ℕ) → first ≤ v → v ≤ last → P v) (λ w. (first ≤ w) × (w ≤ last) × (¬ P w) × ((v : ℕ) → first ≤ v → v < w → P v))
 
 -- the backlog is bounded at each place of each run
 abbrev pub QueueBacklog : (a : ℕ → ℕ) (allows : List (ℕ × ℕ) → Type 0) (s : ℕ → ℕ) (window backlog : ℕ) → Type 0

@@ -1,2 +1,4 @@
 pub mod BusyWindow
-pub mod Law
+pub mod Least
+-- lemmas that laws and crates above cite
+pub mod lemmas

@@ -1,4 +1,4 @@
-//! The busy-window law: exact tests of a window, and what they say of every run of a queue.
+//! The busy-window law: exact tests of a window, and what they say of every run of a queue that keeps its bounds.
 //!
 //! An arrival bound caps what comes to a queue in so many ticks, a service floor says how many visits so many whole
 //! ticks hold. A window of ticks *closes* where its ticks but the first are visited at least as often as words come in
@@ -6,10 +6,15 @@
 //! stretch needs to be looked at past its first window.
 #![tactic(auto)]
 
-ghost use Rattle.std.specs.Prelude.{◌≡◌, ℕ, ◌<◌, ◌≤◌, ◌↔◌, Some, MatchOption, IsTrue};
+ghost use Rattle.std.specs.Prelude.{◌≤◌, ◌↔◌, MatchOption, IsTrue};
 ghost use Rattle.dc_busy.specs.BusyWindow.{Closes, BacklogAt, BacklogBounded, DelayAt, DelayBounded, IsLeastFailing, QueueBacklog, QueueDelay, QueueInTime};
 
+mod between;
+mod least;
+
+pub use between::failures_between;
 use dc_bound::{ArrivalBound, ServiceBound};
+pub use least::{least_delay, least_window, most_backlog};
 
 /// Whether a window closes: as many visits in its ticks but the first as may come in all of them. `window` is 1 to
 /// 100,000.
@@ -88,31 +93,7 @@ pub fn first_failures<A: ArrivalBound, S: ServiceBound>(
     ensures backlog { MatchOption result.0 (BacklogBounded (A.cap arrivals.now) (S.floor service.now) window backlog) (λ w. IsLeastFailing (BacklogAt (A.cap arrivals.now) (S.floor service.now) backlog) window w) }
     ensures delay { MatchOption result.1 (DelayBounded (A.cap arrivals.now) (S.floor service.now) window delay) (λ w. IsLeastFailing (DelayAt (A.cap arrivals.now) (S.floor service.now) delay) window w) }
 {
-    let mut overfull = None;
-    let mut overdue = None;
-    let mut ticks = 1;
-    while ticks <= window {
-        let (most, jump) = arrivals.at_most_and_jump(ticks);
-        let waiting = most.saturating_sub(service.at_least(ticks.saturating_sub(2)));
-        overfull = found_or_above(overfull, ticks, waiting, backlog);
-        let taken = service.at_least(ticks - 1 + delay);
-        overdue = found_or_above(overdue, ticks, most, taken);
-        if overfull.is_some() && overdue.is_some() {
-            return (overfull, overdue);
-        }
-        ticks = jump.unwrap_or(window + 1);
-    }
-    (overfull, overdue)
-}
-
-// What was found before, else this number of ticks where the count is above the limit.
-fn found_or_above(found: Option<u32>, ticks: u32, count: u64, limit: u64) -> Option<u32>
-    ensures { MatchOption found (MatchOption result (count ≤ limit) (λ w. (w ≡ ticks) × (limit < count))) (λ w. result ≡ Some w) }
-{
-    if found.is_none() && count > limit {
-        return Some(ticks);
-    }
-    found
+    failures_between(arrivals, service, 1, window, backlog, delay)
 }
 
 /// The busy-window law. Take any queue whose arrivals the bound allows and in which any `d` whole ticks hold at least as

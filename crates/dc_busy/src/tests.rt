@@ -5,8 +5,14 @@ ghost use Rattle.dc_bound.specs.Window.{count_in, ticks_of, IsNextJump};
 ghost use Rattle.dc_bound.specs.Moves.{routed_tick, passed};
 ghost use Rattle.dc_bound.specs.Moves.Move.{Tick, In, Visit};
 
-use crate::{backlog_fails, closes, delay_fails, first_failures, queue_law};
-use dc_bound::{ArrivalBound, Both, Cyclic, Paced, ServiceBound, Sporadic, SumOf, Visits, Wire};
+use crate::{
+    backlog_fails, closes, delay_fails, first_failures, least_delay, least_window, most_backlog,
+    queue_law,
+};
+use dc_bound::{
+    ArrivalBound, Both, Capped, Cyclic, Jittered, Paced, ServiceBound, Sporadic, SumOf, Visits,
+    Wire,
+};
 use std::cell::Cell;
 use std::process::Abort;
 
@@ -69,6 +75,45 @@ fn assert_same<A: ArrivalBound, S: ServiceBound>(rt: &impl Abort, arrivals: &A, 
     }
 }
 
+// The first window up to `longest` that closes, where each is looked at.
+fn least_window_densely<A: ArrivalBound, S: ServiceBound>(
+    arrivals: &A,
+    service: &S,
+    longest: u32,
+) -> Option<u32>
+    requires { longest ≤ 100000 }
+{
+    for window in 1..=longest {
+        if closes(arrivals, service, window) {
+            return Some(window);
+        }
+    }
+    None
+}
+
+// In each small window the least numbers pass, and one less fails.
+fn assert_least<A: ArrivalBound, S: ServiceBound>(rt: &impl Abort, arrivals: &A, service: &S) {
+    assert_eq!(rt;
+        least_window(arrivals, service),
+        least_window_densely(arrivals, service, 1000)
+    );
+    for window in 1..40 {
+        let backlog = most_backlog(arrivals, service, window);
+        assert_eq!(rt; backlog_fails(arrivals, service, window, backlog), None);
+        if backlog > 0 {
+            let lower = backlog_fails(arrivals, service, window, backlog - 1);
+            assert!(rt; lower.is_some(), "backlog {backlog} in {window}");
+        }
+        let delay = least_delay(arrivals, service, window).expect(rt, "a delay");
+        assert!(rt; delay <= 100_000);
+        assert_eq!(rt; delay_fails(arrivals, service, window, delay), None);
+        if delay > 0 {
+            let lower = delay_fails(arrivals, service, window, delay - 1);
+            assert!(rt; lower.is_some(), "delay {delay} in {window}");
+        }
+    }
+}
+
 // A bound that counts the calls of its cap.
 #[derive(Drop)]
 struct Counted<'a, A: ArrivalBound> {
@@ -116,6 +161,53 @@ fn small_bus_closes_at_three_ticks(rt: HostRuntime) {
     assert_eq!(rt; first_failures(&bus, &router, 3, 1, 2), (Some(1), None));
     assert_eq!(rt; first_failures(&bus, &router, 3, 2, 1), (None, Some(1)));
     queue_law(&bus, &router, 3, 2, 2);
+    assert_eq!(rt; least_window(&bus, &router), Some(3));
+    assert_eq!(rt; most_backlog(&bus, &router, 3), 2);
+    assert_eq!(rt; least_delay(&bus, &router, 3), Some(2));
+}
+
+#[test]
+fn jitter_asks_for_more_and_a_wire_for_less(rt: HostRuntime) {
+    let streams = [Jittered::new(10, 10), Jittered::new(10, 10)];
+    let free = Capped::new(SumOf::new(0, &streams), Some(Wire::new(1000, 350)));
+    let policed = Capped::new(SumOf::new(0, &streams), None);
+    let router = Paced::new(1, 1);
+    assert_eq!(rt; least_window(&free, &router), Some(5));
+    assert_eq!(rt; most_backlog(&free, &router, 5), 4);
+    assert_eq!(rt; least_delay(&free, &router, 5), Some(3));
+    assert_eq!(rt; least_window(&policed, &router), Some(5));
+    assert_eq!(rt; most_backlog(&policed, &router, 5), 4);
+    assert_eq!(rt; least_delay(&policed, &router, 5), Some(4));
+}
+
+#[test]
+fn least_numbers_pass_and_lower_ones_fail(rt: HostRuntime) {
+    let streams = [Sporadic::new(10), Sporadic::new(7), Sporadic::new(3)];
+    let bus = Both::new(SumOf::new(0, &streams), Wire::new(1000, 1350));
+    let visits = [0, 1, 0, 2];
+    assert_least(&rt, &bus, &Paced::new(2, 3));
+    assert_least(&rt, &bus, &Visits::new(Paced::new(3, 2), &visits, 0));
+    assert_least(&rt, &Sporadic::new(5), &Paced::new(1, 6));
+    assert_least(&rt, &Wire::new(100, 2450), &Paced::new(1, 20));
+    assert_least(&rt, &Cyclic::new(10, &[0, 1, 5]), &Paced::new(1, 3));
+}
+
+#[test]
+fn no_window_closes_where_none_is_served(rt: HostRuntime) {
+    let idle = Paced::new(0, 1);
+    assert_eq!(rt; least_window(&Sporadic::new(5), &idle), None);
+    assert_eq!(rt; least_delay(&Sporadic::new(5), &idle, 1), None);
+    assert_eq!(rt; most_backlog(&Sporadic::new(5), &idle, 11), 3);
+}
+
+#[test]
+fn the_longest_window_is_found(rt: HostRuntime) {
+    let slow = Paced::new(1, 99_999);
+    assert_eq!(rt; least_window(&Sporadic::new(200_000), &slow), Some(100_000));
+    assert_eq!(rt;
+        least_window(&Sporadic::new(200_000), &Paced::new(1, 100_000)),
+        None
+    );
 }
 
 #[test]
@@ -147,6 +239,21 @@ fn long_search_goes_by_jumps_alone(rt: HostRuntime) {
         (None, None)
     );
     assert!(rt; counted.calls.get() <= 20_010);
+}
+
+#[test]
+fn least_numbers_are_found_by_jumps_alone(rt: HostRuntime) {
+    let streams = [Sporadic::new(10); 16];
+    let bus = Both::new(SumOf::new(0, &streams), Wire::new(1000, 350));
+    let counted = Counted {
+        inner: &bus,
+        calls: Cell::new(0),
+    };
+    let never = Paced::new(16, 11);
+    assert_eq!(rt; least_window(&counted, &never), None);
+    assert_eq!(rt; most_backlog(&counted, &never, 100_000), 14_576);
+    assert_eq!(rt; least_delay(&counted, &never, 100_000), Some(10_010));
+    assert!(rt; counted.calls.get() <= 30_015);
 }
 
 // In Visit, In, In, Tick, Visit, Tick, Visit the first visit finds nothing, and each later one takes one word.

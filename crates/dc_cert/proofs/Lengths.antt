@@ -23,9 +23,9 @@ either_short false xs ys h k = k
 length-escape_byte : (x : ℕ) → length (escape_byte x) ≤ 6
 unfolding escape_byte
 length-escape_byte x =
-    let code = 92 ∷ 117 ∷ 48 ∷ 48 ∷ digit_char (x / 16) ∷ digit_char (x % 16) ∷ [] in
-    let longer : length (cond (nat_lt x 32) code (x ∷ [])) ≤ 6 = either_short (nat_lt x 32) code (x ∷ []) (omega arith) (omega arith) in
-    either_short (nat_lt 0 (escape_letter x)) (92 ∷ escape_letter x ∷ []) (cond (nat_lt x 32) code (x ∷ [])) (omega arith) longer
+    let rule = 92 ∷ 117 ∷ 48 ∷ 48 ∷ digit_char (x / 16) ∷ digit_char (x % 16) ∷ [] in
+    let longer : length (cond (nat_lt x 32) rule (x ∷ [])) ≤ 6 = either_short (nat_lt x 32) rule (x ∷ []) (omega arith) (omega arith) in
+    either_short (nat_lt 0 (escape_letter x)) (92 ∷ escape_letter x ∷ []) (cond (nat_lt x 32) rule (x ∷ [])) (omega arith) longer
 
 length-escape : (s : List ℕ) → length (escape s) ≤ 6 * length s
 length-escape [] = omega arith

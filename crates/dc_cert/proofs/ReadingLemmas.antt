@@ -9,7 +9,7 @@ use Rattle.serde_json.specs.View.{items_view}
 use Rattle.serde_json.specs.declared.value.Value.{Value}
 use Rattle.serde_json.proofs.Views.{items_len-items_view}
 use Rattle.dc_cert.specs.declared.fault.Fault.{Fault}
-use Rattle.dc_cert.specs.declared.fault.Code.TheVariants.{K1, K6}
+use Rattle.dc_cert.specs.declared.fault.CertRule.TheVariants.{NotJson, ListOrNameOutOfBounds}
 use Rattle.dc_cert.specs.declared.fault.Place.TheVariants.{Top}
 use Rattle.dc_cert.specs.Reading.{Reading, refused, found, list_in, document_of}
 
@@ -31,7 +31,7 @@ above n m h = grind (arith, nat_tests)
 pub list_short : (o : Option Items) (vs : List Value) → Some (items_view vs) ≡ o → length vs ≤ 1024 → Ok (items_view vs) ≡ list_in o
 list_short o vs e short = rw (← e, items_len-items_view vs, at_most (length vs) 1024 short) refl
 
-pub list_long : (o : Option Items) (vs : List Value) → Some (items_view vs) ≡ o → 1024 < length vs → Err (record { code = K6; place = Top }) ≡ list_in o
+pub list_long : (o : Option Items) (vs : List Value) → Some (items_view vs) ≡ o → 1024 < length vs → Err (record { rule = ListOrNameOutOfBounds; place = Top }) ≡ list_in o
 list_long o vs e long = rw (← e, items_len-items_view vs, above (length vs) 1024 long) refl
 
 -- ---- the document
@@ -40,11 +40,11 @@ pub document_good : (text : List ℕ) (d : Data) → length text ≤ 1048576 →
 unfolding document_of
 document_good text d short utf8 e = rw (at_most (length text) 1048576 short, is_utf8-from_IsUtf8 text utf8, e) refl
 
-refused_either : (a b : Bool) (text : List ℕ) → (b ≡ true → read text ≡ None) → cond (a && b) (found (read text) K1 Top) (refused K1 Top) ≡ refused K1 Top
+refused_either : (a b : Bool) (text : List ℕ) → (b ≡ true → read text ≡ None) → cond (a && b) (found (read text) NotJson Top) (refused NotJson Top) ≡ refused NotJson Top
 refused_either true true text h = rw (h refl) refl
 refused_either true false text h = refl
 refused_either false b text h = refl
 
-pub document_bad : (text : List ℕ) → (IsUtf8 text → read text ≡ None) → document_of text ≡ refused K1 Top
+pub document_bad : (text : List ℕ) → (IsUtf8 text → read text ≡ None) → document_of text ≡ refused NotJson Top
 unfolding document_of
 document_bad text h = refused_either (nat_le (length text) 1048576) (is_utf8 text) text (λ e. h (IsUtf8-from_is_utf8 text e))

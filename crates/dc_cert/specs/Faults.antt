@@ -1,20 +1,20 @@
 -- How a fault is told, and when a reading answers what its definition says.
 use Rattle.std.specs.Prelude.{◌≡◌, ℕ, List, ◌++◌, codes, decimal, Result, Ok, Err}
-use Rattle.dc_cert.specs.declared.fault.Code.{Code}
-use Rattle.dc_cert.specs.declared.fault.Code.TheVariants.{K1, K2, K3, K4, K5, K6}
+use Rattle.dc_cert.specs.declared.fault.CertRule.{CertRule}
+use Rattle.dc_cert.specs.declared.fault.CertRule.TheVariants.{NotJson, VersionUnknown, KeyAbsent, KeyUnknown, WrongKind, ListOrNameOutOfBounds}
 use Rattle.dc_cert.specs.declared.fault.Place.{Place}
 use Rattle.dc_cert.specs.declared.fault.Place.TheVariants.{Top, Inputs, Outputs, Labels}
 use Rattle.dc_cert.specs.declared.fault.Fault.{Fault}
 use Rattle.dc_cert.specs.declared.fault.CertFault.{CertFault}
 use Rattle.dc_cert.specs.declared.fault.CertFault.TheVariants.{Memory, Unreadable}
 
-abbrev pub code_text : Code → List ℕ
-code_text K1 = codes "K1"
-code_text K2 = codes "K2"
-code_text K3 = codes "K3"
-code_text K4 = codes "K4"
-code_text K5 = codes "K5"
-code_text K6 = codes "K6"
+abbrev pub rule_code : CertRule → List ℕ
+rule_code NotJson = codes "K1"
+rule_code VersionUnknown = codes "K2"
+rule_code KeyAbsent = codes "K3"
+rule_code KeyUnknown = codes "K4"
+rule_code WrongKind = codes "K5"
+rule_code ListOrNameOutOfBounds = codes "K6"
 
 -- the list and the index, or the top
 abbrev pub place_text : Place → List ℕ
@@ -25,7 +25,7 @@ place_text (Labels i) = codes "labels " ++ decimal i
 
 -- as `K5 at inputs 0`
 abbrev pub fault_text : Fault → List ℕ
-fault_text fault = code_text fault.code ++ codes " at " ++ place_text fault.place
+fault_text fault = rule_code fault.rule ++ codes " at " ++ place_text fault.place
 
 -- what was returned, seen as data
 abbrev pub seen : {A B : Type 0} → (A → B) → Result A Fault → Result B Fault

@@ -8,8 +8,8 @@ use Rattle.serde_json.specs.Data.{Data, Items, no_items, item, Members, no_membe
 use Rattle.serde_json.specs.Read.{read}
 use Rattle.serde_json.specs.Find.{get_member, as_object, as_array, as_str, as_number, as_u64}
 use Rattle.serde_json.specs.Events.{items_len}
-use Rattle.dc_cert.specs.declared.fault.Code.{Code}
-use Rattle.dc_cert.specs.declared.fault.Code.TheVariants.{K1, K2, K3, K4, K5, K6}
+use Rattle.dc_cert.specs.declared.fault.CertRule.{CertRule}
+use Rattle.dc_cert.specs.declared.fault.CertRule.TheVariants.{NotJson, VersionUnknown, KeyAbsent, KeyUnknown, WrongKind, ListOrNameOutOfBounds}
 use Rattle.dc_cert.specs.declared.fault.Place.{Place}
 use Rattle.dc_cert.specs.declared.fault.Place.TheVariants.{Top, Inputs, Outputs, Labels}
 use Rattle.dc_cert.specs.declared.fault.Fault.{Fault}
@@ -22,8 +22,8 @@ use Rattle.dc_cert.specs.Names.{is_name}
 abbrev pub Reading : Type 0 → Type 0
 Reading A = Result A Fault
 
-abbrev pub refused : {A : Type 0} → Code → Place → Reading A
-refused code place = Err (record { code = code; place = place })
+abbrev pub refused : {A : Type 0} → CertRule → Place → Reading A
+refused rule place = Err (record { rule = rule; place = place })
 
 -- goes on where nothing was refused
 infixl 10 ◌>>=◌
@@ -32,14 +32,14 @@ abbrev pub ◌>>=◌ : {A B : Type 0} → Reading A → (A → Reading B) → Re
 (Err fault) >>= rest = Err fault
 
 -- goes on where the test holds
-abbrev pub wanted : Bool → Code → Place → Reading (Unit {0})
-wanted true code place = Ok tt
-wanted false code place = refused code place
+abbrev pub wanted : Bool → CertRule → Place → Reading (Unit {0})
+wanted true rule place = Ok tt
+wanted false rule place = refused rule place
 
 -- what is there, or a fault
-abbrev pub found : {A : Type 0} → Option A → Code → Place → Reading A
-found (Some x) code place = Ok x
-found None code place = refused code place
+abbrev pub found : {A : Type 0} → Option A → CertRule → Place → Reading A
+found (Some x) rule place = Ok x
+found None rule place = refused rule place
 
 -- ---- objects and their keys
 
@@ -58,18 +58,18 @@ all_keys (k ∷ ks) ms = is_some (get_member k ms) && all_keys ks ms
 
 -- the members of a value that is an object, else K5
 abbrev pub object_of : Place → Data → Reading Members
-object_of place d = found (as_object d) K5 place
+object_of place d = found (as_object d) WrongKind place
 
 -- no key is unknown, else K4; none is absent, else K3
 abbrev pub shape_of : Place → List (List ℕ) → Members → Reading (Unit {0})
-shape_of place keys ms = if not (only_keys keys ms) then refused K4 place else wanted (all_keys keys ms) K3 place
+shape_of place keys ms = if not (only_keys keys ms) then refused KeyUnknown place else wanted (all_keys keys ms) KeyAbsent place
 
 -- ---- the kinds of values
 
 -- a whole number up to 4,294,967,295, else K5
 abbrev pub number_in : Place → Option ℕ → Reading ℕ
-number_in place None = refused K5 place
-number_in place (Some n) = if nat_le n 4294967295 then Ok n else refused K5 place
+number_in place None = refused WrongKind place
+number_in place (Some n) = if nat_le n 4294967295 then Ok n else refused WrongKind place
 
 -- the number at a key
 abbrev pub number_at : Place → List ℕ → Members → Reading ℕ
@@ -77,8 +77,8 @@ number_at place key ms = number_in place (option_and_then as_u64 (option_and_the
 
 -- a text, else K5, in the spelling of names, else K6
 abbrev pub name_in : Place → Option (List ℕ) → Reading (List ℕ)
-name_in place None = refused K5 place
-name_in place (Some s) = if is_name s then Ok s else refused K6 place
+name_in place None = refused WrongKind place
+name_in place (Some s) = if is_name s then Ok s else refused ListOrNameOutOfBounds place
 
 -- the name at a key
 abbrev pub name_at : Place → List ℕ → Members → Reading (List ℕ)
@@ -86,8 +86,8 @@ name_at place key ms = name_in place (option_and_then as_str (get_member key ms)
 
 -- a list, else K5, of at most 1,024 members, else K6; both at the top
 abbrev pub list_in : Option Items → Reading Items
-list_in None = refused K5 Top
-list_in (Some ds) = if nat_le (items_len ds) 1024 then Ok ds else refused K6 Top
+list_in None = refused WrongKind Top
+list_in (Some ds) = if nat_le (items_len ds) 1024 then Ok ds else refused ListOrNameOutOfBounds Top
 
 -- the list at a key of the top
 abbrev pub list_at : List ℕ → Members → Reading Items
@@ -150,7 +150,7 @@ is_one None = false
 is_one (Some n) = n == 1
 
 abbrev pub version_of : Members → Reading (Unit {0})
-version_of ms = wanted (is_one (option_and_then as_u64 (option_and_then as_number (get_member (codes "version") ms)))) K2 Top
+version_of ms = wanted (is_one (option_and_then as_u64 (option_and_then as_number (get_member (codes "version") ms)))) VersionUnknown Top
 
 -- the certificate that a JSON value is
 unfoldable pub claims_in : Data → Reading Claims
@@ -168,7 +168,7 @@ claims_in d = do
 
 -- the JSON value that a text is: within 1,048,576 bytes, in UTF-8, by the reading of `serde_json`, else K1
 unfoldable pub document_of : List ℕ → Reading Data
-document_of text = if nat_le (length text) 1048576 && is_utf8 text then found (read text) K1 Top else refused K1 Top
+document_of text = if nat_le (length text) 1048576 && is_utf8 text then found (read text) NotJson Top else refused NotJson Top
 
 -- the certificate of a text
 abbrev pub certificate_of : List ℕ → Reading Claims

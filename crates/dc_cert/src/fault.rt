@@ -2,7 +2,7 @@
 ghost use Rattle.std.specs.Prelude.{◌≡◌, ◌+◌, ◌≤◌, ◌++◌, length, decimal, Some};
 ghost use Rattle.arrayvec.specs.ArrayVec.{array_vec_len};
 ghost use Rattle.dc_cert.specs.declared.fault.CertFault.TheVariants.{Memory, Unreadable};
-ghost use Rattle.dc_cert.specs.Faults.{code_text, place_text, fault_text};
+ghost use Rattle.dc_cert.specs.Faults.{rule_code, place_text, fault_text};
 
 use arrayvec::ArrayVec;
 use itoa::Buffer;
@@ -10,27 +10,27 @@ use std::alloc::{AllocError, AllocFailed};
 use std::fmt;
 use thiserror::Error;
 
-/// What is wrong with a certificate's text.
+/// The rules of a certificate's text, in the order of their codes.
 #[derive(Clone, Copy, Debug, PartialEq, Eq, Error)]
-pub enum Code {
-    /// The text is over its limit, not UTF-8, or no JSON text with nothing after it.
+pub enum CertRule {
+    /// K1: the text is over its limit, not UTF-8, or no JSON text with nothing after it.
     #[error("the text is too long, not UTF-8, or no JSON text with nothing after it")]
-    K1,
-    /// `version` is absent or not the number 1.
+    NotJson,
+    /// K2: `version` is absent or not the number 1.
     #[error("`version` is absent or not the number 1")]
-    K2,
-    /// A wanted key is absent.
+    VersionUnknown,
+    /// K3: a wanted key is absent.
     #[error("a wanted key is absent")]
-    K3,
-    /// A key is unknown.
+    KeyAbsent,
+    /// K4: a key is unknown.
     #[error("a key is unknown")]
-    K4,
-    /// A value is not of its kind, or a number is not a whole one from 0 to 4,294,967,295.
+    KeyUnknown,
+    /// K5: a value is not of its kind, or a number is not a whole one from 0 to 4,294,967,295.
     #[error("a value is not of its kind, or a number is not a whole one from 0 to 4294967295")]
-    K5,
-    /// A list has more than 1,024 members, or a name is not in its spelling.
+    WrongKind,
+    /// K6: a list has more than 1,024 members, or a name is not in its spelling.
     #[error("a list has more than 1024 members, or a name is not 1 to 16 of A-Z a-z 0-9 _ -")]
-    K6,
+    ListOrNameOutOfBounds,
 }
 
 /// A short text, as bytes.
@@ -45,27 +45,27 @@ fn append(text: &mut ShortText, bytes: &[u8])
     let _ = text.try_extend_from_slice(bytes);
 }
 
-impl Code {
-    // The code, as `K5`.
-    fn text(self) -> &'static [u8]
-        ensures text { result.now ≡ code_text self }
+impl CertRule {
+    /// The code as it is printed, as `K5`.
+    pub fn code(self) -> &'static str
+        ensures text { result.now ≡ rule_code self }
         ensures short { length result.now ≤ 2 }
     {
         match self {
-            Code::K1 => b"K1",
-            Code::K2 => b"K2",
-            Code::K3 => b"K3",
-            Code::K4 => b"K4",
-            Code::K5 => b"K5",
-            Code::K6 => b"K6",
+            CertRule::NotJson => "K1",
+            CertRule::VersionUnknown => "K2",
+            CertRule::KeyAbsent => "K3",
+            CertRule::KeyUnknown => "K4",
+            CertRule::WrongKind => "K5",
+            CertRule::ListOrNameOutOfBounds => "K6",
         }
     }
 
-    /// The fault with this code at a place.
+    /// The fault of this rule at a place.
     pub(crate) fn at(self, place: Place) -> Fault
-        ensures { result ≡ record { code = self; place = place } }
+        ensures { result ≡ record { rule = self; place = place } }
     {
-        Fault { code: self, place }
+        Fault { rule: self, place }
     }
 }
 
@@ -107,10 +107,10 @@ fn append_index(text: &mut ShortText, list: &[u8], index: usize)
 
 /// The first fault of a certificate's text.
 #[derive(Clone, Copy, Debug, PartialEq, Eq, Error)]
-#[error("{place}: {code}")]
+#[error("{place}: {rule}")]
 pub struct Fault {
     /// What is wrong.
-    pub code: Code,
+    pub rule: CertRule,
     /// Where it is wrong.
     pub place: Place,
 }
@@ -121,7 +121,7 @@ impl Fault {
         ensures { result.items ≡ fault_text self }
     {
         let mut text = ShortText::new();
-        append(&mut text, self.code.text());
+        append(&mut text, self.rule.code().as_bytes());
         append(&mut text, b" at ");
         match self.place {
             Place::Top => append(&mut text, b"top"),

@@ -7,7 +7,7 @@ ghost use Rattle.dc_cert.specs.Faults.{seen};
 ghost use Rattle.dc_cert.specs.Names.{is_name_byte as is_spelling_byte, is_name};
 ghost use Rattle.dc_cert.specs.Reading.{same_key, only_keys, all_keys, object_of, shape_of, number_at, name_at, list_at, version_of};
 
-use crate::fault::{Code, Fault, Place};
+use crate::fault::{CertRule, Fault, Place};
 use crate::read::LIST_LIMIT;
 use serde_json::{Map, Value};
 
@@ -23,7 +23,7 @@ pub fn object(value: &Value, place: Place) -> Result<&Members, Fault>
 {
     match value.as_object() {
         Some(members) => Ok(members),
-        None => Err(Code::K5.at(place)),
+        None => Err(CertRule::WrongKind.at(place)),
     }
 }
 
@@ -79,10 +79,10 @@ pub fn shape(members: &Members, keys: &[&str], place: Place) -> Result<(), Fault
         ≡ shape_of place (map (λ k. k.now) keys.now) (members_view members.now.entries) }
 {
     if !only_known(members, keys) {
-        return Err(Code::K4.at(place));
+        return Err(CertRule::KeyUnknown.at(place));
     }
     if !all_present(members, keys) {
-        return Err(Code::K3.at(place));
+        return Err(CertRule::KeyAbsent.at(place));
     }
     Ok(())
 }
@@ -100,7 +100,7 @@ pub fn version(members: &Members) -> Result<(), Fault>
     ensures { result ≡ version_of (members_view members.now.entries) }
 {
     if whole(members, "version") != Some(1) {
-        return Err(Code::K2.at(Place::Top));
+        return Err(CertRule::VersionUnknown.at(Place::Top));
     }
     Ok(())
 }
@@ -109,7 +109,7 @@ pub fn version(members: &Members) -> Result<(), Fault>
 pub fn number(members: &Members, key: &str, place: Place) -> Result<u32, Fault>
     ensures { result ≡ number_at place key.now (members_view members.now.entries) }
 {
-    let refused = Code::K5.at(place);
+    let refused = CertRule::WrongKind.at(place);
     let Some(n) = whole(members, key) else {
         return Err(refused);
     };
@@ -146,10 +146,10 @@ pub fn name<'a>(members: &'a Members, key: &str, place: Place) -> Result<&'a str
         ≡ name_at place key.now (members_view members.now.entries) }
 {
     let Some(text) = find(members, key).and_then(Value::as_str) else {
-        return Err(Code::K5.at(place));
+        return Err(CertRule::WrongKind.at(place));
     };
     if !is_spelled(text) {
-        return Err(Code::K6.at(place));
+        return Err(CertRule::ListOrNameOutOfBounds.at(place));
     }
     Ok(text)
 }
@@ -169,10 +169,10 @@ pub fn list<'a>(members: &'a Members, key: &str) -> Result<&'a [Value], Fault>
         ≡ list_at key.now (members_view members.now.entries) }
 {
     let Some(values) = array(members, key) else {
-        return Err(Code::K5.at(Place::Top));
+        return Err(CertRule::WrongKind.at(Place::Top));
     };
     if values.len() > LIST_LIMIT {
-        return Err(Code::K6.at(Place::Top));
+        return Err(CertRule::ListOrNameOutOfBounds.at(Place::Top));
     }
     Ok(values)
 }

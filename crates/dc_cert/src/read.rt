@@ -6,7 +6,7 @@ ghost use Rattle.dc_cert.specs.Faults.{Gives};
 ghost use Rattle.dc_cert.specs.Reading.{rows_of, claims_in, document_of, certificate_of};
 
 use crate::certificate::Certificate;
-use crate::fault::{CertFault, Code, Place};
+use crate::fault::{CertFault, CertRule, Place};
 use crate::keys::{list, object, shape, version};
 use crate::row::Row;
 use serde_json::Value;
@@ -62,7 +62,7 @@ fn certificate(alloc: Global, value: &Value) -> Result<Certificate, CertFault>
 fn document(alloc: Global, text: &[u8]) -> Result<Value, CertFault>
     ensures { Gives view result (document_of text.now) }
 {
-    let refused = Code::K1.at(Place::Top);
+    let refused = CertRule::NotJson.at(Place::Top);
     if text.len() > TEXT_LIMIT {
         return Err(CertFault::Unreadable(refused));
     }

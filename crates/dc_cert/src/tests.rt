@@ -1,5 +1,6 @@
 use crate::{
-    CertFault, Certificate, Code, Fault, InputRow, LabelRow, OutputRow, Place, cert_text, read_cert,
+    CertFault, CertRule, Certificate, Fault, InputRow, LabelRow, OutputRow, Place, cert_text,
+    read_cert,
 };
 use std::alloc::{AllocError, Global};
 use std::test::Fail;
@@ -62,35 +63,38 @@ fn reads_and_prints_the_smallest_certificate(rt: HostRuntime) -> Result<(), Fail
 #[test]
 fn tells_the_first_fault_of_the_top(rt: HostRuntime) -> Result<(), Fail> {
     let top = Place::Top;
-    for (text, code) in [
-        ("", Code::K1),
-        ("{\"inputs\":[", Code::K1),
-        ("{} {}", Code::K1),
-        ("[]", Code::K5),
-        ("1", Code::K5),
-        ("{}", Code::K2),
-        ("{\"version\":2}", Code::K2),
-        ("{\"version\":1.0}", Code::K2),
-        ("{\"version\":\"1\"}", Code::K2),
-        ("{\"version\":2,\"remark\":0}", Code::K2),
-        ("{\"version\":1,\"remark\":0}", Code::K4),
-        ("{\"version\":1,\"inputs\":0}", Code::K3),
-        ("{\"version\":1,\"inputs\":[],\"outputs\":[]}", Code::K3),
+    for (text, rule) in [
+        ("", CertRule::NotJson),
+        ("{\"inputs\":[", CertRule::NotJson),
+        ("{} {}", CertRule::NotJson),
+        ("[]", CertRule::WrongKind),
+        ("1", CertRule::WrongKind),
+        ("{}", CertRule::VersionUnknown),
+        ("{\"version\":2}", CertRule::VersionUnknown),
+        ("{\"version\":1.0}", CertRule::VersionUnknown),
+        ("{\"version\":\"1\"}", CertRule::VersionUnknown),
+        ("{\"version\":2,\"remark\":0}", CertRule::VersionUnknown),
+        ("{\"version\":1,\"remark\":0}", CertRule::KeyUnknown),
+        ("{\"version\":1,\"inputs\":0}", CertRule::KeyAbsent),
+        (
+            "{\"version\":1,\"inputs\":[],\"outputs\":[]}",
+            CertRule::KeyAbsent,
+        ),
         (
             "{\"version\":1,\"inputs\":{},\"outputs\":[],\"labels\":[]}",
-            Code::K5,
+            CertRule::WrongKind,
         ),
         (
             "{\"version\":1,\"inputs\":[0],\"outputs\":0,\"labels\":[]}",
-            Code::K5,
+            CertRule::WrongKind,
         ),
         (
             "{\"version\":1,\"inputs\":[0],\"outputs\":[],\"labels\":\"x\"}",
-            Code::K5,
+            CertRule::WrongKind,
         ),
     ] {
         let fault = fault_of(rt.alloc(), text.as_bytes());
-        assert_eq!(rt; fault, Some(Fault { code, place: top }), "{text}");
+        assert_eq!(rt; fault, Some(Fault { rule, place: top }), "{text}");
     }
     Ok(())
 }
@@ -104,17 +108,23 @@ fn input_fault(alloc: Global, input: &str) -> Result<Option<Fault>, AllocError> 
 #[test]
 fn tells_the_keys_of_an_input(rt: HostRuntime) -> Result<(), Fail> {
     let place = Place::Inputs(0);
-    for (input, code) in [
-        ("0", Code::K5),
-        ("[]", Code::K5),
-        ("{\"buss\":0}", Code::K4),
-        ("{\"window\":0,\"backlog\":0,\"delay\":0}", Code::K3),
-        ("{\"bus\":0,\"backlog\":0,\"delay\":0}", Code::K3),
-        ("{\"bus\":0,\"window\":0,\"delay\":0}", Code::K3),
-        ("{\"bus\":0,\"window\":0,\"backlog\":0}", Code::K3),
+    for (input, rule) in [
+        ("0", CertRule::WrongKind),
+        ("[]", CertRule::WrongKind),
+        ("{\"buss\":0}", CertRule::KeyUnknown),
+        (
+            "{\"window\":0,\"backlog\":0,\"delay\":0}",
+            CertRule::KeyAbsent,
+        ),
+        ("{\"bus\":0,\"backlog\":0,\"delay\":0}", CertRule::KeyAbsent),
+        ("{\"bus\":0,\"window\":0,\"delay\":0}", CertRule::KeyAbsent),
+        (
+            "{\"bus\":0,\"window\":0,\"backlog\":0}",
+            CertRule::KeyAbsent,
+        ),
     ] {
         let fault = input_fault(rt.alloc(), input)?;
-        assert_eq!(rt; fault, Some(Fault { code, place }), "{input}");
+        assert_eq!(rt; fault, Some(Fault { rule, place }), "{input}");
     }
     Ok(())
 }
@@ -123,26 +133,38 @@ fn tells_the_keys_of_an_input(rt: HostRuntime) -> Result<(), Fail> {
 fn tells_the_values_of_an_input(rt: HostRuntime) -> Result<(), Fail> {
     let alloc = rt.alloc();
     let place = Place::Inputs(0);
-    for (bus, window, backlog, delay, code) in [
-        ("0", "-1", "0", "0", Code::K5),
-        ("\"\"", "-1", "0", "0", Code::K6),
-        ("\"ABCDEFGHIJKLMNOPQ\"", "0", "0", "0", Code::K6),
-        ("\"A B\"", "0", "0", "0", Code::K6),
-        ("\"\u{e9}\"", "0", "0", "0", Code::K6),
-        ("\"A\"", "3.0", "0", "0", Code::K5),
-        ("\"A\"", "4294967296", "0", "0", Code::K5),
-        ("\"A\"", "18446744073709551616", "0", "0", Code::K5),
-        ("\"A\"", "0", "-1", "0", Code::K5),
-        ("\"A\"", "0", "1e2", "0", Code::K5),
-        ("\"A\"", "0", "0", "-0", Code::K5),
-        ("\"A\"", "0", "0", "\"0\"", Code::K5),
+    for (bus, window, backlog, delay, rule) in [
+        ("0", "-1", "0", "0", CertRule::WrongKind),
+        ("\"\"", "-1", "0", "0", CertRule::ListOrNameOutOfBounds),
+        (
+            "\"ABCDEFGHIJKLMNOPQ\"",
+            "0",
+            "0",
+            "0",
+            CertRule::ListOrNameOutOfBounds,
+        ),
+        ("\"A B\"", "0", "0", "0", CertRule::ListOrNameOutOfBounds),
+        ("\"\u{e9}\"", "0", "0", "0", CertRule::ListOrNameOutOfBounds),
+        ("\"A\"", "3.0", "0", "0", CertRule::WrongKind),
+        ("\"A\"", "4294967296", "0", "0", CertRule::WrongKind),
+        (
+            "\"A\"",
+            "18446744073709551616",
+            "0",
+            "0",
+            CertRule::WrongKind,
+        ),
+        ("\"A\"", "0", "-1", "0", CertRule::WrongKind),
+        ("\"A\"", "0", "1e2", "0", CertRule::WrongKind),
+        ("\"A\"", "0", "0", "-0", CertRule::WrongKind),
+        ("\"A\"", "0", "0", "\"0\"", CertRule::WrongKind),
     ] {
         let input = format!(in alloc;
             "{{\"bus\":{bus},\"window\":{window},\"backlog\":{backlog},\"delay\":{delay}}}"
         )?;
         let fault = input_fault(alloc, input.as_str())?;
         let shown = input.as_str();
-        assert_eq!(rt; fault, Some(Fault { code, place }), "{shown}");
+        assert_eq!(rt; fault, Some(Fault { rule, place }), "{shown}");
     }
     Ok(())
 }
@@ -150,42 +172,54 @@ fn tells_the_values_of_an_input(rt: HostRuntime) -> Result<(), Fail> {
 #[test]
 fn tells_the_first_fault_of_an_output_or_a_label(rt: HostRuntime) -> Result<(), Fail> {
     let alloc = rt.alloc();
-    for (output, code) in [
-        ("null", Code::K5),
+    for (output, rule) in [
+        ("null", CertRule::WrongKind),
         (
             "{\"output\":0,\"window\":0,\"delay\":0,\"backlog\":0}",
-            Code::K4,
+            CertRule::KeyUnknown,
         ),
-        ("{\"output\":0,\"window\":0}", Code::K3),
-        ("{\"output\":\"O.\",\"window\":true,\"delay\":0}", Code::K6),
-        ("{\"output\":\"O\",\"window\":true,\"delay\":0}", Code::K5),
-        ("{\"output\":\"O\",\"window\":0,\"delay\":0.5}", Code::K5),
+        ("{\"output\":0,\"window\":0}", CertRule::KeyAbsent),
+        (
+            "{\"output\":\"O.\",\"window\":true,\"delay\":0}",
+            CertRule::ListOrNameOutOfBounds,
+        ),
+        (
+            "{\"output\":\"O\",\"window\":true,\"delay\":0}",
+            CertRule::WrongKind,
+        ),
+        (
+            "{\"output\":\"O\",\"window\":0,\"delay\":0.5}",
+            CertRule::WrongKind,
+        ),
     ] {
         let text = listing(alloc, "", output, "0")?;
         let fault = fault_of(alloc, text.as_str().as_bytes());
         assert_eq!(rt;
             fault,
             Some(Fault {
-                code,
+                rule,
                 place: Place::Outputs(0)
             }),
             "{output}"
         );
     }
-    for (label, code) in [
-        ("\"x\"", Code::K5),
-        ("{\"label\":0,\"ages\":0}", Code::K4),
-        ("{\"label\":0}", Code::K3),
-        ("{\"label\":[],\"age\":0}", Code::K5),
-        ("{\"label\":\"x y\",\"age\":null}", Code::K6),
-        ("{\"label\":\"x\",\"age\":null}", Code::K5),
+    for (label, rule) in [
+        ("\"x\"", CertRule::WrongKind),
+        ("{\"label\":0,\"ages\":0}", CertRule::KeyUnknown),
+        ("{\"label\":0}", CertRule::KeyAbsent),
+        ("{\"label\":[],\"age\":0}", CertRule::WrongKind),
+        (
+            "{\"label\":\"x y\",\"age\":null}",
+            CertRule::ListOrNameOutOfBounds,
+        ),
+        ("{\"label\":\"x\",\"age\":null}", CertRule::WrongKind),
     ] {
         let text = listing(alloc, "", "", label)?;
         let fault = fault_of(alloc, text.as_str().as_bytes());
         assert_eq!(rt;
             fault,
             Some(Fault {
-                code,
+                rule,
                 place: Place::Labels(0)
             }),
             "{label}"
@@ -204,7 +238,7 @@ fn tells_the_index_and_the_earlier_list(rt: HostRuntime) -> Result<(), Fail> {
     assert_eq!(rt;
         fault_of(alloc, text.as_str().as_bytes()),
         Some(Fault {
-            code: Code::K3,
+            rule: CertRule::KeyAbsent,
             place
         })
     );
@@ -213,7 +247,7 @@ fn tells_the_index_and_the_earlier_list(rt: HostRuntime) -> Result<(), Fail> {
     assert_eq!(rt;
         fault_of(alloc, text.as_str().as_bytes()),
         Some(Fault {
-            code: Code::K3,
+            rule: CertRule::KeyAbsent,
             place
         })
     );
@@ -226,7 +260,7 @@ fn counts_the_members_of_each_list(rt: HostRuntime) -> Result<(), Fail> {
     let long = repeated(alloc, "0", ",0", 1024, "")?;
     let full = repeated(alloc, "0", ",0", 1023, "")?;
     let top = Some(Fault {
-        code: Code::K6,
+        rule: CertRule::ListOrNameOutOfBounds,
         place: Place::Top,
     });
     for (inputs, outputs, labels, fault) in [
@@ -238,7 +272,7 @@ fn counts_the_members_of_each_list(rt: HostRuntime) -> Result<(), Fail> {
             "",
             full.as_str(),
             Some(Fault {
-                code: Code::K5,
+                rule: CertRule::WrongKind,
                 place: Place::Labels(0),
             }),
         ),
@@ -256,7 +290,7 @@ fn counts_the_members_of_each_list(rt: HostRuntime) -> Result<(), Fail> {
 fn limits_the_text_and_its_depth(rt: HostRuntime) -> Result<(), Fail> {
     let alloc = rt.alloc();
     let refused = Some(Fault {
-        code: Code::K1,
+        rule: CertRule::NotJson,
         place: Place::Top,
     });
     let spaces = 1_048_576 - SMALL.len();
@@ -283,7 +317,7 @@ fn takes_the_last_of_equal_keys(rt: HostRuntime) -> Result<(), Fail> {
 fn refuses_each_prefix(rt: HostRuntime) -> Result<(), Fail> {
     let text = SMALL.as_bytes();
     let refused = Some(Fault {
-        code: Code::K1,
+        rule: CertRule::NotJson,
         place: Place::Top,
     });
     for end in 0..text.len() {
@@ -302,7 +336,7 @@ fn refuses_each_prefix(rt: HostRuntime) -> Result<(), Fail> {
 #[test]
 fn answers_each_replaced_byte(rt: HostRuntime) -> Result<(), Fail> {
     let refused = Some(Fault {
-        code: Code::K1,
+        rule: CertRule::NotJson,
         place: Place::Top,
     });
     for (at, old) in SMALL.as_bytes().iter().enumerate() {
@@ -365,7 +399,7 @@ fn reads_back_the_greatest_certificate(rt: HostRuntime) -> Result<(), Fail> {
     assert_eq!(rt;
         fault,
         Some(Fault {
-            code: Code::K6,
+            rule: CertRule::ListOrNameOutOfBounds,
             place: Place::Top
         })
     );
@@ -377,28 +411,28 @@ fn tells_a_fault_in_short_and_in_words(rt: HostRuntime) -> Result<(), Fail> {
     for (fault, short) in [
         (
             Fault {
-                code: Code::K1,
+                rule: CertRule::NotJson,
                 place: Place::Top,
             },
             "K1 at top",
         ),
         (
             Fault {
-                code: Code::K5,
+                rule: CertRule::WrongKind,
                 place: Place::Inputs(0),
             },
             "K5 at inputs 0",
         ),
         (
             Fault {
-                code: Code::K6,
+                rule: CertRule::ListOrNameOutOfBounds,
                 place: Place::Outputs(31),
             },
             "K6 at outputs 31",
         ),
         (
             Fault {
-                code: Code::K3,
+                rule: CertRule::KeyAbsent,
                 place: Place::Labels(1023),
             },
             "K3 at labels 1023",
@@ -408,7 +442,7 @@ fn tells_a_fault_in_short_and_in_words(rt: HostRuntime) -> Result<(), Fail> {
         assert!(rt; text.as_slice() == short.as_bytes());
     }
     let fault = CertFault::Unreadable(Fault {
-        code: Code::K4,
+        rule: CertRule::KeyUnknown,
         place: Place::Labels(7),
     });
     let words = format!(in rt.alloc(); "{fault}")?;

@@ -4,12 +4,12 @@ use Rattle.std.specs.List.{flat_map, Contains}
 use Rattle.std.proofs.lemmas.Bool.{eqb-true, leb-true, le-leb}
 use Rattle.dc_bound.specs.KeepsUp.{KeepsUp}
 use Rattle.dc_bound.specs.Moves.{Move, ins, item, routed_tick, arrived_tick, latest_number, latest_by}
-use Rattle.dc_bound.specs.QueueTimes.{stamped-items}
+use Rattle.dc_bound.specs.lemmas.QueueTimes.{stamped-items}
 use Rattle.dc_cert.specs.Bounds.{CertificateRows, input_bound}
 use Rattle.dc_check.proofs.Arrived.{word_at}
 use Rattle.dc_check.proofs.Choices.{choice-in, choice-first, choice-usable, flat_map-in, in-flat_map}
 use Rattle.dc_check.proofs.Copies.{usable-copied}
-use Rattle.dc_event.specs.RunPush.{ticks_in-moves}
+use Rattle.dc_event.specs.lemmas.RunPush.{ticks_in-moves}
 use Rattle.dc_check.proofs.Recent.{IsLast, last_is, recent}
 use Rattle.dc_event.specs.Alive.{IsAlive, AreUsable}
 use Rattle.dc_event.specs.Buses.{moves, room, is_latched}

@@ -1,10 +1,10 @@
 -- The words that came to a bus, each with its tick, and how to find one of them.
 use Rattle.std.proofs.Common.{◌≡◌, ℕ, zero, suc, ◌+◌, ◌≤◌, ◌<◌, Bool, true, false, cond, List, [], ◌∷◌, length, get_or, refl, ap, inl, inr, ◌∙◌, arith}
 use Rattle.std.specs.List.{filter}
-use Rattle.dc_bound.specs.Counts.{within_cases, count_in-nil, count_in-cons}
+use Rattle.dc_bound.specs.lemmas.Counts.{within_cases, count_in-nil, count_in-cons}
 use Rattle.dc_bound.specs.Moves.{Move, move_ends, came, tag_of, ticks_in, entries, ins, arrived_tick}
 use Rattle.dc_bound.specs.Moves.Move.{Tick, In, Visit}
-use Rattle.dc_bound.specs.QueueTimes.{ticks_in-append, comes, comes-tick, stamped-arrived, stamped-items}
+use Rattle.dc_bound.specs.lemmas.QueueTimes.{ticks_in-append, comes, comes-tick, stamped-arrived, stamped-items}
 use Rattle.dc_bound.specs.Run.{stamped}
 use Rattle.dc_bound.specs.Window.{count_in, ticks_of}
 

@@ -1,56 +1,47 @@
 -- The bus part of the certification theorem: an accepted bus keeps up in every admissible run.
-use Rattle.std.proofs.Common.{◌≡◌, ℕ, suc, ◌+◌, ◌≤◌, ◌<◌, ◌&&◌, true, false, cond, eqb, Option, Some, None, List, [], ◌∷◌, ◌++◌, length, drop, get_or, refl, sym, ap, ◌∙◌, subst, arith, append_assoc}
-use Rattle.std.specs.List.{All, sum_by}
+use Rattle.std.proofs.Common.{min, inl, inr, ◌≡◌, ℕ, suc, ◌+◌, ◌≤◌, ◌<◌, ◌&&◌, true, false, cond, eqb, Option, Some, None, List, [], ◌∷◌, ◌++◌, length, drop, get_or, refl, sym, ap, ◌∙◌, subst, arith, append_assoc}
+use Rattle.std.specs.List.{All}
 use Rattle.std.proofs.lemmas.List.{get_or-take, get_or-drop, length-take, length-drop}
 use Rattle.std.proofs.lemmas.List.Elements.{All-append, All-same, All-nil, All-cons, All-weaker}
-use Rattle.std.proofs.lemmas.List.Quantifiers.{position-Some}
-use Rattle.std.proofs.lemmas.Bool.{eqb-true}
-use Rattle.dc_bound.specs.Budget.{one_each_holds}
-use Rattle.dc_bound.specs.Counts.{wire_holds, both_holds}
-use Rattle.dc_bound.specs.Cycle.{fewest_visits_zero}
-use Rattle.dc_bound.specs.FirstPlaces.{snoc_induction}
+use Rattle.std.proofs.lemmas.Bool.{cases_Bool}
+use Rattle.dc_bound.specs.Early.{jitter_cap, HoldsCap}
+use Rattle.dc_bound.specs.lemmas.Counts.{wire_holds, both_holds}
+use Rattle.dc_bound.specs.lemmas.Cycle.{fewest_visits_zero}
+use Rattle.dc_bound.specs.lemmas.FirstPlaces.{snoc_induction}
 use Rattle.dc_bound.specs.KeepsUp.{NeverFull, HandsOn, KeepsUp}
 use Rattle.dc_bound.specs.Moves.{Move, move_ends, tag_of, entries}
 use Rattle.dc_bound.specs.Moves.Move.{Visit}
-use Rattle.dc_bound.specs.QueueTimes.{keeps_up}
+use Rattle.dc_bound.specs.lemmas.QueueTimes.{keeps_up}
 use Rattle.dc_bound.specs.Run.{ticks, stamped}
-use Rattle.dc_bound.specs.Steps.{stamped-append}
-use Rattle.dc_bound.specs.Sums.{with_tag, EachAllows, SumAllows, SumAllows-count}
-use Rattle.dc_bound.specs.Visited.{visited_holds}
-use Rattle.dc_bound.specs.Window.{count_in, ticks_of, HoldAtMost, HoldsWire, wire_cap}
+use Rattle.dc_bound.specs.lemmas.Steps.{stamped-append}
+use Rattle.dc_bound.specs.Tags.{with_tag, EachAllows, SumAllows}
+use Rattle.dc_bound.specs.lemmas.Sums.{SumAllows-count}
+use Rattle.dc_bound.specs.lemmas.Visited.{visited_holds}
+use Rattle.dc_bound.specs.Window.{count_in, ticks_of, HoldsWire, wire_cap}
 use Rattle.dc_busy.specs.BusyWindow.{Serves}
-use Rattle.dc_busy.specs.Law.{queue_backlog, queue_delay}
+use Rattle.dc_busy.specs.lemmas.Law.{queue_backlog, queue_delay}
 use Rattle.dc_cert.specs.Bounds.{InputBound, CertificateRows, input_bound}
-use Rattle.dc_event.specs.RunPush.{ticks_in-moves}
+use Rattle.dc_event.specs.lemmas.RunPush.{ticks_in-moves}
 use Rattle.dc_check.specs.Accepts.{AcceptsInput, AcceptsNumbers}
 use Rattle.dc_event.specs.Admissible.{KeepsSources, KeepsBudgets, IsAdmissible}
-use Rattle.dc_event.specs.Buses.{in_of, move_of, moves, room, bus_arrivals}
-use Rattle.dc_event.specs.RunMoves.{moves-nil, moves-beginning, picked_in_order, router_visits}
-use Rattle.dc_event.specs.RunPush.{moves-push}
+use Rattle.dc_event.specs.Offers.{let_in, cap_of}
+use Rattle.dc_event.specs.lemmas.Arrivals.{arrivals-hold, stream_of-there}
+use Rattle.dc_event.specs.Buses.{arrivals, in_of, move_of, moves, room, bus_arrivals}
+use Rattle.dc_event.specs.lemmas.RunMoves.{moves-nil, moves-beginning, router_visits}
+use Rattle.dc_bound.specs.lemmas.InOrder.{picked_in_order}
+use Rattle.dc_event.specs.lemmas.RunPush.{moves-push, let_in-some}
 use Rattle.dc_event.specs.Time.{ends, tick_after, route_of, routes, route_ticks}
 use Rattle.dc_event.specs.declared.event.Event.{Event}
 use Rattle.dc_event.specs.declared.event.Event.TheVariants.{Tick, Arrive, Route, Send}
-use Rattle.dc_tables.specs.Declares.{declares, fits, stream_of}
-use Rattle.dc_tables.specs.TableRows.{TableRows, AreValid, bus_row, stream_row, router_row, bus_streams, visited, stream_cap, bus_cap, bus_floor}
+use Rattle.dc_tables.specs.Declares.{fits, stream_of}
+use Rattle.dc_tables.specs.TableRows.{TableRows, AreValid, bus_row, stream_row, router_row, bus_streams, visited, stream_cap, streams_cap, bus_cap, bus_floor, is_policed}
 use Rattle.dc_tables.specs.declared.rows.Stream.{Stream}
-use Rattle.dc_word.specs.Word.{label_of, sdi_of, is_odd}
+use Rattle.dc_word.specs.Word.{is_odd}
 
 -- ---- the stream of a word
 
 abbrev pub IsStreamOf : TableRows → ℕ → ℕ → Type 0
 IsStreamOf t b s = (s < length t.streams) × ((stream_row t s).bus ≡ b)
-
-declares-bus : (b w : ℕ) (row : Stream) → declares b w row ≡ true → row.bus ≡ b
-declares-bus b w row h =
-    let front : eqb row.bus b ≡ true =
-    elim (eqb row.bus b) as (λ v. (v && eqb row.label (label_of w)) && fits row.sdi (sdi_of w) ≡ true → v ≡ true) [ true ↦ λ h. refl | false ↦ λ h. absurd cc ] h in
-    eqb-true row.bus b front
-
-pub stream_of-there : (t : TableRows) (b w s : ℕ) → stream_of t b w ≡ Some s → IsStreamOf t b s
-unfolding stream_of
-stream_of-there t b w s h =
-    let r = position-Some (declares b w) t.streams s (record { bus = 0; label = 0; sdi = None; minimum = 0; maximum = 0 }) h in
-    (r.0, declares-bus b w (stream_row t s) r.1)
 
 -- ---- the tags of a bus's arrivals
 
@@ -63,8 +54,8 @@ move_of-tags : (t : TableRows) (b k : ℕ) (past : List Event) (e : Event) → A
 unfolding stamped
 move_of-tags t b k past Tick = All-nil (λ e. IsStreamOf t b e.1)
 move_of-tags t b k past (Arrive a w) =
-    elim (eqb a b && is_odd w) as (λ v. All (λ e. IsStreamOf t b e.1) (stamped move_ends tag_of k (cond v (in_of (stream_of t b w) w) []))) [
-      | true ↦ in_of-tags t b k w (stream_of t b w) (λ s h. stream_of-there t b w s h)
+    elim (eqb a b && is_odd w) as (λ v. All (λ e. IsStreamOf t b e.1) (stamped move_ends tag_of k (cond v (in_of (let_in t b past (stream_of t b w)) w) []))) [
+      | true ↦ in_of-tags t b k w (let_in t b past (stream_of t b w)) (λ s h. stream_of-there t b w s (let_in-some t b past (stream_of t b w) s h))
       | false ↦ All-nil (λ e. IsStreamOf t b e.1)
     ]
 move_of-tags t b k past (Route r) =
@@ -91,18 +82,20 @@ tags t b run =
 
 -- what one stream allows
 abbrev pub StreamAllows : Stream → List (ℕ × ℕ) → Type 0
-StreamAllows row xs = (1 ≤ row.minimum) × HoldAtMost 1 row.minimum (ticks_of xs)
+StreamAllows row xs = HoldsCap (jitter_cap row.minimum row.jitter) (ticks_of xs)
 
--- what a bus allows: the sum of its streams, and its wire
+-- what a bus allows: the sum of its streams, and its wire where it is not policed
 abbrev pub BusAllows : TableRows → ℕ → List (ℕ × ℕ) → Type 0
-BusAllows t b xs = SumAllows StreamAllows (bus_row t b).first (bus_streams t b) xs × HoldsWire t.tick_us (bus_row t b).spacing (ticks_of xs)
+BusAllows t b xs = SumAllows StreamAllows (bus_row t b).first (bus_streams t b) xs × (is_policed t b ≡ false → HoldsWire t.tick_us (bus_row t b).spacing (ticks_of xs))
 
 pub bus_allows-count : (t : TableRows) (b : ℕ) (xs : List (ℕ × ℕ)) (u d : ℕ) → BusAllows t b xs → count_in u d (ticks_of xs) ≤ bus_cap t b d
 unfolding bus_cap
 bus_allows-count t b xs u d h =
-    both_holds (sum_by (stream_cap d) (bus_streams t b)) (wire_cap t.tick_us (bus_row t b).spacing d) (count_in u d (ticks_of xs))
-    (SumAllows-count StreamAllows u d (stream_cap d) (λ row ys k. one_each_holds row.minimum k.0 ys u d k.1) (bus_row t b).first (bus_streams t b) xs h.0)
-    (wire_holds t.tick_us (bus_row t b).spacing xs u d h.1)
+    let streams : count_in u d (ticks_of xs) ≤ streams_cap t b d = SumAllows-count StreamAllows u d (stream_cap d) (λ row ys k. k d u) (bus_row t b).first (bus_streams t b) xs h.0 in
+    elim (is_policed t b) as (λ v. (v ≡ false → HoldsWire t.tick_us (bus_row t b).spacing (ticks_of xs)) → count_in u d (ticks_of xs) ≤ cond v (streams_cap t b d) (min (streams_cap t b d) (wire_cap t.tick_us (bus_row t b).spacing d))) [
+      | true ↦ λ wire. streams
+      | false ↦ λ wire. both_holds (streams_cap t b d) (wire_cap t.tick_us (bus_row t b).spacing d) (count_in u d (ticks_of xs)) streams (wire_holds t.tick_us (bus_row t b).spacing xs u d (wire refl))
+    ] h.1
 
 each_allows : (i : ℕ) (rows : List Stream) (xs : List (ℕ × ℕ)) (d : Stream) → ((k : ℕ) → k < length rows → StreamAllows (get_or rows k d) (with_tag (i + k) xs)) → EachAllows StreamAllows i rows xs
 unfolding EachAllows
@@ -117,23 +110,31 @@ module _ (t : TableRows) (valid : AreValid t) (b : ℕ) (there : b < length t.bu
   streams_count : length (bus_streams t b) ≡ (bus_row t b).streams
   streams_count = omega (arith, length-take (bus_row t b).streams (drop (bus_row t b).first t.streams), length-drop (bus_row t b).first t.streams, valid.streams_there b there)
 
+  -- in any run: of a policed bus by its rule, of another by its sources
+  stream-holds : (run : List Event) → KeepsSources t run → (s : ℕ) → s < length t.streams → HoldsCap (cap_of t s) (ticks_of (arrivals t s run))
+  stream-holds run keeps s s_there =
+      elim (cases_Bool (is_policed t (stream_row t s).bus)) [
+        | inl policed ↦ arrivals-hold t s policed (valid.minimums s s_there) run
+        | inr free ↦ keeps.streams_rest s s_there free
+      ]
+
   pub moves-allowed : (run : List Event) → KeepsSources t run → BusAllows t b (entries (moves t b run))
   moves-allowed run keeps =
-      let none : Stream = record { bus = 0; label = 0; sdi = None; minimum = 0; maximum = 0 } in
+      let none : Stream = record { bus = 0; label = 0; sdi = None; minimum = 0; maximum = 0; jitter = 0 } in
       let first : ℕ = (bus_row t b).first in (
         record {
           from = All-weaker (λ e. IsStreamOf t b e.1) (λ e. (bus_row t b).first ≤ e.1) (λ e h. (valid.streams_of_bus b e.1 there h.0 h.1).0) (bus_arrivals t b run) (tags t b run);
           below = All-weaker (λ e. IsStreamOf t b e.1) (λ e. e.1 < (bus_row t b).first + length (bus_streams t b)) (λ e h. omega (arith, (valid.streams_of_bus b e.1 there h.0 h.1).1, streams_count)) (bus_arrivals t b run) (tags t b run);
-          each = each_allows (bus_row t b).first (bus_streams t b) (bus_arrivals t b run) (record { bus = 0; label = 0; sdi = None; minimum = 0; maximum = 0 }) (λ k l.
+          each = each_allows (bus_row t b).first (bus_streams t b) (bus_arrivals t b run) (record { bus = 0; label = 0; sdi = None; minimum = 0; maximum = 0; jitter = 0 }) (λ k l.
               let inside : k < (bus_row t b).streams = omega (arith, streams_count) in
               let s_there : (bus_row t b).first + k < length t.streams = omega (arith, valid.streams_there b there) in
-              let row : get_or (bus_streams t b) k (record { bus = 0; label = 0; sdi = None; minimum = 0; maximum = 0 }) ≡ stream_row t ((bus_row t b).first + k) =
-              get_or-take (bus_row t b).streams (drop (bus_row t b).first t.streams) k (record { bus = 0; label = 0; sdi = None; minimum = 0; maximum = 0 }) inside
-              ∙ get_or-drop (bus_row t b).first t.streams k (record { bus = 0; label = 0; sdi = None; minimum = 0; maximum = 0 }) in
+              let row : get_or (bus_streams t b) k (record { bus = 0; label = 0; sdi = None; minimum = 0; maximum = 0; jitter = 0 }) ≡ stream_row t ((bus_row t b).first + k) =
+              get_or-take (bus_row t b).streams (drop (bus_row t b).first t.streams) k (record { bus = 0; label = 0; sdi = None; minimum = 0; maximum = 0; jitter = 0 }) inside
+              ∙ get_or-drop (bus_row t b).first t.streams k (record { bus = 0; label = 0; sdi = None; minimum = 0; maximum = 0; jitter = 0 }) in
               let bus : (stream_row t ((bus_row t b).first + k)).bus ≡ b = valid.bus_of_streams b ((bus_row t b).first + k) there (omega arith) (omega arith) in
               let P : Stream → Type 0 = λ row. StreamAllows row (with_tag ((bus_row t b).first + k) (bus_arrivals t b run)) in
-              let Q : ℕ → Type 0 = λ a. HoldAtMost 1 (stream_row t ((bus_row t b).first + k)).minimum (ticks_of (with_tag ((bus_row t b).first + k) (bus_arrivals t a run))) in
-              subst P (sym row) (valid.minimums ((bus_row t b).first + k) s_there, subst Q bus (keeps.streams_rest ((bus_row t b).first + k) s_there)));
+              let Q : ℕ → Type 0 = λ a. HoldsCap (cap_of t ((bus_row t b).first + k)) (ticks_of (with_tag ((bus_row t b).first + k) (bus_arrivals t a run))) in
+              subst P (sym row) (subst Q bus (stream-holds run keeps ((bus_row t b).first + k) s_there)));
         },
         keeps.wires_rest b there,
       )

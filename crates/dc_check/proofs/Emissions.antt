@@ -6,7 +6,7 @@ use Rattle.std.proofs.Math.Nat.{mod-lt}
 use Rattle.std.proofs.lemmas.Bool.{cases_lt}
 use Rattle.std.proofs.lemmas.Bool.Decides.{nat_tests}
 use Rattle.std.proofs.lemmas.List.{get_or_at}
-use Rattle.dc_bound.specs.Dues.{due_count_grows}
+use Rattle.dc_bound.specs.lemmas.Dues.{due_count_grows}
 use Rattle.dc_bound.specs.Places.{each_place}
 use Rattle.dc_bound.specs.Run.{picks, one_if}
 use Rattle.dc_cert.specs.Bounds.{CertificateRows, output_bound}
@@ -23,7 +23,7 @@ use Rattle.dc_event.specs.declared.event.Event.{Event}
 use Rattle.dc_event.specs.declared.event.Event.TheVariants.{Tick, Arrive, Route, Send}
 use Rattle.dc_tables.specs.TableRows.{TableRows, AreValid, output_row, entry_row, label_row}
 use Rattle.dc_tables.specs.declared.rows.Entry.{Entry}
-use Rattle.dc_transmit.proofs.GapLaws.{least_apart, greatest_apart, first_due}
+use Rattle.dc_transmit.specs.lemmas.GapLaws.{least_apart, greatest_apart, first_due}
 use Rattle.dc_transmit.specs.Gaps.{least_of, greatest_of}
 use Rattle.dc_transmit.specs.Schedule.{off, no_entry, is_of}
 

@@ -11,7 +11,7 @@ use Rattle.dc_check.proofs.Outputs.{output_frame}
 use Rattle.dc_check.specs.Accepts.{gaps_of}
 use Rattle.dc_tables.specs.TableRows.{TableRows, AreValid, output_row, entry_row, label_row}
 use Rattle.dc_tables.specs.declared.rows.Entry.{Entry}
-use Rattle.dc_transmit.proofs.GapLaws.{least_le, next_after, first_le}
+use Rattle.dc_transmit.specs.lemmas.GapLaws.{least_le, next_after, first_le}
 use Rattle.dc_transmit.specs.Gaps.{first_off, gaps, least_of, greatest_of, least_gap, greatest_gap}
 use Rattle.dc_transmit.specs.Schedule.{schedule_of, least_label_gap, greatest_label_gap, off, no_entry, is_of}
 

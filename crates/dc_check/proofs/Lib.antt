@@ -15,10 +15,5 @@ pub mod Emissions
 pub mod GapTests
 pub mod Claimed
 pub mod Whole
-pub mod Exact
-pub mod Firsts
-pub mod CertificateReads
-pub mod Jobs
 pub mod Naming
-pub mod Places
 pub mod Smallest

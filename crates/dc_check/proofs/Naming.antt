@@ -7,9 +7,9 @@ use Rattle.dc_cert.specs.Claims.{InputClaim, OutputClaim, LabelClaim, input_clai
 use Rattle.dc_cert.specs.declared.certificate.InputRow.{InputRow}
 use Rattle.dc_cert.specs.declared.certificate.OutputRow.{OutputRow}
 use Rattle.dc_cert.specs.declared.certificate.LabelRow.{LabelRow}
-use Rattle.dc_check.proofs.Exact.{named-is, is-named}
+use Rattle.dc_check.specs.lemmas.Exact.{named-is, is-named}
 use Rattle.dc_check.specs.Verdict.{is_named}
-use Rattle.dc_tables.specs.Names.{text_of}
+use Rattle.dc_parts.specs.Names.{text_of}
 
 -- the names below n are the texts of the keys
 abbrev pub AreSame : List (List ℕ) → List (List ℕ) → ℕ → Type 0

@@ -7,29 +7,31 @@ use Rattle.dc_cert.specs.Bounds.{CertificateRows}
 use Rattle.dc_check.proofs.Bus.{bus_keeps_up}
 use Rattle.dc_check.specs.Accepts.{AcceptsNumbers}
 use Rattle.dc_event.specs.Admissible.{IsNumbered, IsRun, IsAdmissible}
+use Rattle.dc_event.specs.Offers.{refuses}
 use Rattle.dc_event.specs.Buses.{moves, room, is_latched, bus_entered, bus_taken}
 use Rattle.dc_event.specs.Claims.{NoOverrun}
 use Rattle.dc_event.specs.Replies.{reply}
 use Rattle.dc_event.specs.Time.{tick_after}
 use Rattle.dc_event.specs.declared.event.Event.{Event}
 use Rattle.dc_event.specs.declared.event.Event.TheVariants.{Tick, Arrive, Route, Send}
-use Rattle.dc_event.specs.declared.event.Reply.TheVariants.{Queued, BadParity, Undeclared, Overrun, Latched, Took, Empty, Sent, Idle, Now}
+use Rattle.dc_event.specs.declared.event.Reply.TheVariants.{Queued, BadParity, Undeclared, TooEarly, Overrun, Latched, Took, Empty, Sent, Idle, Now}
 use Rattle.dc_tables.specs.Declares.{stream_of}
 use Rattle.dc_tables.specs.TableRows.{TableRows, AreValid}
 use Rattle.dc_word.specs.Word.{is_odd}
 
-not_overrun : (odd known before now : Bool) (n : ℕ) → now ≡ false
-    → (if not odd then BadParity else if not known then Undeclared else if before then Latched else if now then Overrun else Queued n) ≡ Overrun → ⊥
-not_overrun true true true now n h e = cc
-not_overrun true true false true n h e = cc
-not_overrun true true false false n h e = cc
-not_overrun true false before now n h e = cc
-not_overrun false known before now n h e = cc
+not_overrun : (odd known early before now : Bool) (n : ℕ) → now ≡ false
+    → (if not odd then BadParity else if not known then Undeclared else if early then TooEarly else if before then Latched else if now then Overrun else Queued n) ≡ Overrun → ⊥
+not_overrun true true true before now n h e = cc
+not_overrun true true false true now n h e = cc
+not_overrun true true false false true n h e = cc
+not_overrun true true false false false n h e = cc
+not_overrun true false early before now n h e = cc
+not_overrun false known early before now n h e = cc
 
 pub arrive-no_overrun : (t : TableRows) (past : List Event) (b w : ℕ) → is_latched t b (past ++ Arrive b w ∷ []) ≡ false → NoOverrun t past (Arrive b w)
 unfolding reply
 arrive-no_overrun t past b w calm e =
-    not_overrun (is_odd w) (is_some (stream_of t b w)) (is_latched t b past) (is_latched t b (past ++ Arrive b w ∷ [])) (length (bus_entered t b (past ++ Arrive b w ∷ [])) - bus_taken t b (past ++ Arrive b w ∷ [])) calm e
+    not_overrun (is_odd w) (is_some (stream_of t b w)) (refuses t b past (stream_of t b w)) (is_latched t b past) (is_latched t b (past ++ Arrive b w ∷ [])) (length (bus_entered t b (past ++ Arrive b w ∷ [])) - bus_taken t b (past ++ Arrive b w ∷ [])) calm e
 
 route-no_overrun : (risen : Bool) (b w : ℕ) → (if risen then Took b w else Empty b) ≡ Overrun → ⊥
 route-no_overrun true b w e = cc

@@ -2,16 +2,17 @@
 use Rattle.std.proofs.Common.{◌≡◌, ℕ, zero, suc, ◌+◌, ◌-◌, ◌*◌, ◌/◌, ◌≤◌, ◌<◌, inl, inr, min, List, [], ◌∷◌, ◌++◌, length, get_or, Option, Some, None, refl, sym, ap, ◌∙◌, arith, append_assoc, length-append}
 use Rattle.std.proofs.lemmas.Bool.{cases_lt}
 use Rattle.std.proofs.lemmas.List.{append-nil, get_or_append_left, get_or-append_right}
-use Rattle.dc_bound.specs.Budget.{pace_holds}
-use Rattle.dc_bound.specs.Dues.{IsDueCount, due_count_grows}
-use Rattle.dc_bound.specs.Least.{served_in-le}
+use Rattle.dc_bound.specs.lemmas.Budget.{pace_holds}
+use Rattle.dc_bound.specs.Frame.{IsDueCount}
+use Rattle.dc_bound.specs.lemmas.Dues.{due_count_grows}
+use Rattle.dc_bound.specs.lemmas.Least.{served_in-le}
 use Rattle.dc_bound.specs.Moves.{Move, move_ends, tag_of, visit_of, ticks_in, visits, entries, visit_ticks, ins, passed}
 use Rattle.dc_bound.specs.Moves.Move.{Tick, In, Visit}
 use Rattle.dc_bound.specs.Places.{served_in}
-use Rattle.dc_bound.specs.Queued.{ins-append, visits-append, passed-le}
+use Rattle.dc_bound.specs.lemmas.Queued.{ins-append, visits-append, passed-le}
 use Rattle.dc_bound.specs.Run.{ticks, picks, stamp, stamped, one_if}
-use Rattle.dc_bound.specs.Segments.{ticks-append, picks-append}
-use Rattle.dc_bound.specs.Steps.{stamped-append}
+use Rattle.dc_bound.specs.lemmas.Segments.{ticks-append, picks-append}
+use Rattle.dc_bound.specs.lemmas.Steps.{stamped-append}
 use Rattle.dc_bound.specs.Window.{HoldAtLeast, count_in, ticks_of}
 use Rattle.dc_busy.specs.BusyWindow.{Serves}
 use Rattle.dc_check.proofs.Intervals.{by_events}

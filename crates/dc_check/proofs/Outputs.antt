@@ -9,16 +9,18 @@ use Rattle.std.proofs.lemmas.List.{append-nil, length-map}
 use Rattle.std.proofs.Math.ListN.{get_or-map}
 use Rattle.std.proofs.lemmas.List.Sums.{sum_by-cons}
 use Rattle.std.proofs.lemmas.Grind.{flat_map-append}
-use Rattle.dc_bound.specs.Counts.{at_mod, at_div}
-use Rattle.dc_bound.specs.Due.{due, IsDue, Offsets, due_most}
-use Rattle.dc_bound.specs.Dues.{IsDueCount, due_by_frames, due_by_frames-is, due_by-is, due_in_ascends, same_count, IsFrame}
+use Rattle.dc_bound.specs.lemmas.Counts.{at_mod, at_div}
+use Rattle.dc_bound.specs.Frame.{due, IsDue, Offsets}
+use Rattle.dc_bound.specs.lemmas.Due.{due_most}
+use Rattle.dc_bound.specs.Frame.{IsDueCount, due_by_frames, IsFrame}
+use Rattle.dc_bound.specs.lemmas.Dues.{due_by_frames-is, due_by-is, due_in_ascends, same_count}
 use Rattle.dc_bound.specs.Moves.{passed}
 use Rattle.dc_bound.specs.Moves.Move.{Tick as TickMove, In, Visit}
 use Rattle.dc_bound.specs.Places.{each_from, each_place}
 use Rattle.dc_bound.specs.Run.{ticks, one_if}
 use Rattle.dc_bound.specs.Window.{HoldAtLeast}
 use Rattle.dc_busy.specs.BusyWindow.{QueueDelay}
-use Rattle.dc_busy.specs.Law.{queue_delay}
+use Rattle.dc_busy.specs.lemmas.Law.{queue_delay}
 use Rattle.dc_cert.specs.Bounds.{OutputBound}
 use Rattle.dc_check.proofs.Intervals.{IsTimely}
 use Rattle.dc_check.proofs.OutputMoves.{come_in, Sees, AreOutputMoves, CountsDues, sent_of, moves-passed}
@@ -32,7 +34,7 @@ use Rattle.dc_event.specs.declared.event.Event.TheVariants.{Tick, Arrive, Route,
 use Rattle.dc_tables.specs.TableRows.{TableRows, AreValid, output_row, entry_row, offsets, output_cap, output_floor}
 use Rattle.dc_tables.specs.declared.rows.Entry.{Entry}
 use Rattle.dc_transmit.specs.Schedule.{off, no_entry}
-use Rattle.dc_bound.specs.Dues as Count
+use Rattle.dc_bound.specs.Frame as Count
 
 -- ---- places of a run
 

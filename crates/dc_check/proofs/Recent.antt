@@ -2,8 +2,8 @@
 use Rattle.std.proofs.Common.{◌≡◌, ℕ, ◌+◌, ◌≤◌, ◌<◌, true, eqb, Some, List, length, get_or, sym, ap, ◌∙◌, arith}
 use Rattle.dc_bound.specs.KeepsUp.{KeepsUp}
 use Rattle.dc_bound.specs.Moves.{Move, entries, ticks_in, ins, taken, item, routed_tick, arrived_tick, latest_number}
-use Rattle.dc_bound.specs.QueueTimes.{entered-le, taken-le, arrived-rises, arrived-le-routed, stamped-arrived}
-use Rattle.dc_bound.specs.Sums.{with_tag}
+use Rattle.dc_bound.specs.lemmas.QueueTimes.{entered-le, taken-le, arrived-rises, arrived-le-routed, stamped-arrived}
+use Rattle.dc_bound.specs.Tags.{with_tag}
 use Rattle.dc_bound.specs.Window.{count_in, ticks_of}
 use Rattle.dc_check.proofs.Arrived.{word_at, entries-count, entry-is, arrived-by_now, found_in}
 use Rattle.dc_check.proofs.Lasts.{last_below-passes, last_below-from}

@@ -1,11 +1,11 @@
 -- What has been served, and what has passed, one event on.
 use Rattle.std.proofs.Common.{◌≡◌, ℕ, ◌+◌, ◌-◌, ◌≤◌, ◌⊎◌, inl, inr, min, List, [], ◌∷◌, ◌++◌, length, refl, sym, ap, ◌∙◌, arith, append_assoc, length-append}
 use Rattle.std.proofs.lemmas.List.{append-nil}
-use Rattle.dc_bound.specs.Least.{served_in-le, le-served_in}
+use Rattle.dc_bound.specs.lemmas.Least.{served_in-le, le-served_in}
 use Rattle.dc_bound.specs.Moves.{Move, visits, ins, passed}
 use Rattle.dc_bound.specs.Moves.Move.{Visit}
 use Rattle.dc_bound.specs.Places.{served_in}
-use Rattle.dc_bound.specs.Queued.{ins-append, visits-append, passed-le, le-passed}
+use Rattle.dc_bound.specs.lemmas.Queued.{ins-append, visits-append, passed-le, le-passed}
 use Rattle.dc_bound.specs.Run.{picks}
 
 -- two ways to cut a list: the first cut is the later one, or not

@@ -1,5 +1,5 @@
 -- The small tables are valid, their certificate is accepted, and a run of them is admissible and sends a copy.
-use Rattle.std.proofs.Common.{◌≡◌, ℕ, zero, suc, ◌+◌, ◌≤◌, ◌<◌, Some, [], ◌∷◌, length, refl, sym, subst, arith, lit≤, inl, inr}
+use Rattle.std.proofs.Common.{◌≡◌, false, ℕ, zero, suc, ◌+◌, ◌≤◌, ◌<◌, Some, [], ◌∷◌, length, refl, sym, subst, arith, lit≤, inl, inr}
 use Rattle.std.specs.Prelude.{slice_index_or, slice_index}
 use Rattle.std.specs.List.{All}
 use Rattle.std.proofs.lemmas.List.Elements.{All-cons, All-nil}
@@ -7,8 +7,9 @@ use Rattle.dc_bound.specs.Window.{count_in}
 use Rattle.dc_bound.specs.Run.{ticks, picks, stamped}
 use Rattle.dc_bound.specs.Places.{served_in, first_place, each_place}
 use Rattle.dc_bound.specs.Moves.{ins, passed, is_overfull, latch, entered, taken, routed_tick, arrived_tick, latest_number, latest_by}
-use Rattle.dc_bound.specs.Cycle.{among, greatest_to}
-use Rattle.dc_bound.specs.Counts.{count_in-cons, count_in-nil, within_cases}
+use Rattle.dc_bound.specs.Rounds.{among, greatest_to}
+use Rattle.dc_bound.specs.lemmas.Counts.{count_in-cons, count_in-nil, within_cases}
+use Rattle.dc_bound.specs.lemmas.Caps.{holds_cap-none}
 use Rattle.dc_cert.specs.Bounds.{CertificateRows, numbers_of}
 use Rattle.dc_transmit.specs.Gaps.{gaps}
 use Rattle.dc_check.specs.Accepts.{gaps_of, label_delay, source_delay, Accepts, AcceptsInput, AcceptsOutput, AcceptsLabel}
@@ -21,8 +22,9 @@ use Rattle.dc_event.specs.Latest.{latest}
 use Rattle.dc_event.specs.Outputs.{due_by, sent}
 use Rattle.dc_event.specs.Time.{tick_after, route_ticks, send_ticks}
 use Rattle.dc_event.specs.declared.event.Event.TheVariants.{Tick, Arrive, Route, Send}
+use Rattle.dc_rules.specs.Rules.{sdis_meet}
 use Rattle.dc_tables.specs.Declares.{stream_of}
-use Rattle.dc_tables.specs.TableRows.{AreValid, bus_row, stream_row, router_row, output_row, entry_row, label_row, bus_cap, bus_floor, output_cap}
+use Rattle.dc_tables.specs.TableRows.{AreValid, bus_row, stream_row, router_row, output_row, entry_row, label_row, visited, bus_cap, bus_floor, output_cap}
 use Rattle.dc_word.specs.Word.{ones_in, is_odd, reversed}
 
 -- what holds of the first number holds of each below 1; of the first two, of each below 2
@@ -55,6 +57,16 @@ visits_on_buses zero zero h = lit≤ tt
 visits_on_buses zero (suc n) h = lit≤ tt
 visits_on_buses (suc r) n h = absurd (omega arith)
 
+streams_apart : (s u : ℕ) → u < s → s < 2 → (stream_row small_tables s).bus ≡ (stream_row small_tables u).bus → (stream_row small_tables s).label ≡ (stream_row small_tables u).label → sdis_meet (stream_row small_tables s).sdi (stream_row small_tables u).sdi ≡ false
+streams_apart zero u h k bus label = absurd (omega arith)
+streams_apart (suc zero) zero h k bus label = let same : 132 ≡ 131 = label in absurd (omega (arith, same))
+streams_apart (suc zero) (suc u) h k bus label = absurd (omega arith)
+streams_apart (suc (suc s)) u h k bus label = absurd (omega arith)
+
+buses_visited : (b : ℕ) → b < 1 → (n : ℕ) × (visited small_tables (bus_row small_tables b).router n ≡ b)
+buses_visited zero h = (0, refl)
+buses_visited (suc b) h = absurd (omega arith)
+
 entries_ascend : (o i j : ℕ) → o < 1 → i < j → j < length (output_row small_tables o).entries → (entry_row small_tables o i).offset < (entry_row small_tables o j).offset
 entries_ascend zero i j h k l = absurd (omega arith)
 entries_ascend (suc o) i j h k l = absurd (omega arith)
@@ -72,6 +84,17 @@ entries_labelled (suc o) i h k = absurd (omega arith)
 labels_in_frames : (x : ℕ) → x < 1 → (i : ℕ) × (i < length (output_row small_tables (label_row small_tables x).output).entries) × ((entry_row small_tables (label_row small_tables x).output i).label ≡ x)
 labels_in_frames zero h = (0, lit≤ tt, refl)
 labels_in_frames (suc x) h = absurd (omega arith)
+
+sources_once : (x i j : ℕ) → x < 1 → i < length (label_row small_tables x).sources → j < length (label_row small_tables x).sources → slice_index (label_row small_tables x).sources i ≡ slice_index (label_row small_tables x).sources j → i ≡ j
+sources_once zero zero zero h k l e = refl
+sources_once zero zero (suc j) h k l e = absurd (omega arith)
+sources_once zero (suc i) j h k l e = absurd (omega arith)
+sources_once (suc x) i j h k l e = absurd (omega arith)
+
+labels_apart : (x y : ℕ) → x < 1 → y < 1 → x ≡ y
+labels_apart zero zero h k = refl
+labels_apart zero (suc y) h k = absurd (omega arith)
+labels_apart (suc x) y h k = absurd (omega arith)
 
 sources_there : (x k : ℕ) → x < 1 → k < length (label_row small_tables x).sources → slice_index (label_row small_tables x).sources k < 2
 sources_there zero zero h k = lit≤ tt
@@ -95,10 +118,13 @@ small_valid = record {
   bus_of_streams = bus_of_streams;
   routers_of_buses = only_first _ (lit≤ tt);
   visited_by_one = λ b r n h k e. visited_by_one b r h k;
+  buses_visited = buses_visited;
   streams_on_buses = first_two _ (lit≤ tt) (lit≤ tt);
   minimums = first_two _ (lit≤ tt) (lit≤ tt);
   maximums = first_two _ (lit≤ tt) (lit≤ tt);
   maximums_small = first_two _ (lit≤ tt) (lit≤ tt);
+  jitters_small = first_two _ (lit≤ tt) (lit≤ tt);
+  streams_apart = streams_apart;
   visits_there = only_first _ (lit≤ tt);
   few_visits = only_first _ (lit≤ tt);
   visits_on_buses = visits_on_buses;
@@ -120,11 +146,13 @@ small_valid = record {
   entries_ascend = entries_ascend;
   entries_in_frame = entries_in_frame;
   entries_labelled = entries_labelled;
+  labels_apart = λ x y h k output label sdi. labels_apart x y h k;
   labels_on_outputs = only_first _ (lit≤ tt);
   labels_in_frames = labels_in_frames;
   labels_fit = only_first _ (lit≤ tt, lit≤ tt);
   sources_some = only_first _ (lit≤ tt);
   few_sources = only_first _ (lit≤ tt);
+  sources_once = sources_once;
   sources_there = sources_there;
   stales = only_first _ (lit≤ tt, lit≤ tt);
   limits = only_first _ (lit≤ tt, lit≤ tt);
@@ -237,8 +265,10 @@ pub small_admissible : IsAdmissible small_tables small_run
 small_admissible = record {
   numbers = small_numbers;
   sources = record {
-    streams_rest = first_two _ (λ u. rw small_arrivals (one_at_most u 10 0)) (λ u. rw small_others (omega (arith, count_in-nil u 10)));
-    wires_rest = only_first _ (λ d h u. rw small_arrivals (omega (arith, one_at_most u d 0)));
+    streams_rest = first_two _
+        (λ free. (holds_cap-none 10 (lit≤ tt) (arrivals small_tables 0 small_run)).1 (λ u. rw small_arrivals (one_at_most u 10 0)))
+        (λ free. (holds_cap-none 10 (lit≤ tt) (arrivals small_tables 1 small_run)).1 (λ u. rw small_others (omega (arith, count_in-nil u 10))));
+    wires_rest = only_first _ (λ free d h u. rw small_arrivals (omega (arith, one_at_most u d 0)));
   };
   budgets = record {
     routers_work = only_first _ route_kept;

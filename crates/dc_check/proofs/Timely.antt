@@ -1,11 +1,11 @@
 -- Entries leave in time, by the queue law.
 use Rattle.std.proofs.Common.{◌≡◌, ℕ, zero, suc, ◌-◌, ◌*◌, ◌/◌, ◌≤◌, ◌<◌, List, [], ◌∷◌, ◌++◌, length, get_or, Option, refl, ap, ◌∙◌, arith, append_assoc}
 use Rattle.std.proofs.lemmas.List.{append-nil}
-use Rattle.dc_bound.specs.Dues.{IsDueCount}
+use Rattle.dc_bound.specs.Frame.{IsDueCount}
 use Rattle.dc_bound.specs.Moves.{Move, move_ends, tag_of, ticks_in, visits, entries, passed}
-use Rattle.dc_bound.specs.Queued.{passed-le}
+use Rattle.dc_bound.specs.lemmas.Queued.{passed-le}
 use Rattle.dc_bound.specs.Run.{ticks, picks, stamped}
-use Rattle.dc_bound.specs.Segments.{ticks-append}
+use Rattle.dc_bound.specs.lemmas.Segments.{ticks-append}
 use Rattle.dc_bound.specs.Window.{HoldAtLeast, ticks_of}
 use Rattle.dc_busy.specs.BusyWindow.{Closes, DelayBounded, QueueDelay}
 use Rattle.dc_check.proofs.Intervals.{IsTimely}

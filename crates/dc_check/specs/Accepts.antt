@@ -4,7 +4,7 @@ use Rattle.std.specs.List.{All}
 use Rattle.dc_busy.specs.BusyWindow.{Closes, BacklogBounded, DelayBounded}
 use Rattle.dc_cert.specs.Bounds.{InputBound, OutputBound, CertificateRows, input_bound, output_bound, numbers_of}
 use Rattle.dc_cert.specs.Claims.{Claims}
-use Rattle.dc_tables.specs.Names.{text_of}
+use Rattle.dc_parts.specs.Names.{text_of}
 use Rattle.dc_tables.specs.TableRows.{TableRows, bus_row, stream_row, label_row, bus_cap, bus_floor, output_cap, output_floor}
 use Rattle.dc_transmit.specs.Schedule.{schedule_of, label_gaps}
 

@@ -1,7 +1,10 @@
 -- When a certificate is accepted, what the verdict on it is, and what an accepted one means.
 pub mod Accepts
 pub mod Verdict
+pub mod FaultText
 pub mod Placed
 pub mod Certified
 pub mod Lent
 pub mod Small
+-- lemmas that crates above cite
+pub mod lemmas

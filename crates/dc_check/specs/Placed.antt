@@ -1,7 +1,7 @@
 -- Where the fault of a certificate is.
 use Rattle.std.specs.Prelude.{◌≢◌, ℕ, ◌<◌, length}
 use Rattle.dc_check.specs.declared.fault.CheckFault.{CheckFault}
-use Rattle.dc_check.specs.declared.fault.Code.TheVariants.{C01}
+use Rattle.dc_check.specs.declared.fault.Condition.TheVariants.{NamesDiffer}
 use Rattle.dc_check.specs.declared.fault.Part.{Part}
 use Rattle.dc_check.specs.declared.fault.Part.TheVariants.{Inputs, Outputs, Labels}
 use Rattle.dc_tables.specs.TableRows.{TableRows}
@@ -12,6 +12,6 @@ part_count t Inputs = length t.buses
 part_count t Outputs = length t.outputs
 part_count t Labels = length t.labels
 
--- the fault names an input, output or label that is there; C01 is of a list as a whole
+-- the fault names an input, output or label that is there; `NamesDiffer` is of a list as a whole
 abbrev pub IsPlaced : TableRows → CheckFault → Type 0
-IsPlaced t fault = fault.code ≢ C01 → fault.index < part_count t fault.part
+IsPlaced t fault = fault.condition ≢ NamesDiffer → fault.index < part_count t fault.part

@@ -1,14 +1,18 @@
 -- Small tables, a certificate for them and a run: what shows that the certification theorem speaks of something.
-use Rattle.std.specs.Prelude.{◌≡◌, ℕ, None, Some, List, [], ◌∷◌, ◌++◌}
+use Rattle.std.specs.Prelude.{false, ◌≡◌, ℕ, None, Some, List, [], ◌∷◌, ◌++◌}
 use Rattle.dc_cert.specs.Claims.{Claims}
 use Rattle.dc_event.specs.Choice.{chosen_source}
 use Rattle.dc_event.specs.Emissions.{emission}
 use Rattle.dc_event.specs.declared.event.Event.{Event}
 use Rattle.dc_event.specs.declared.event.Event.TheVariants.{Tick, Arrive, Route, Send}
-use Rattle.dc_tables.specs.Names.{padded}
+use Rattle.dc_parts.specs.Names.{padded}
 use Rattle.dc_tables.specs.TableKeys.{TableKeys}
 use Rattle.dc_tables.specs.TableRows.{TableRows}
-use Rattle.dc_tables.specs.declared.rows.Speed.TheVariants.{High}
+use Rattle.dc_parts.specs.declared.parts.Speed.TheVariants.{High}
+use Rattle.dc_tables.specs.declared.rows.Stream.{Stream}
+use Rattle.dc_tables.specs.declared.rows.Router.{Router}
+use Rattle.dc_tables.specs.declared.rows.Output.{Output}
+use Rattle.dc_tables.specs.declared.rows.OutputLabel.{OutputLabel}
 use Rattle.dc_word.specs.declared.format.Format.TheVariants.{Bnr}
 
 -- the names A; A-203 and A-204; R1; O; x, and what else their text says
@@ -27,23 +31,35 @@ small_keys = record {
     bus_speeds = High ∷ [];
     output_speeds = High ∷ [];
     stream_equipment = 1 ∷ 1 ∷ [];
+    stream_jitters = 0 ∷ 0 ∷ [];
     label_equipment = 1 ∷ [];
     label_offsets = (0 ∷ []) ∷ [];
   };
 }
 
--- bus A brings labels 203 and 204 (octal) to router R, each at least 10 ticks of a millisecond apart; output O sends label x from the first
+-- a stream of bus A with this label, at least 10 ticks of a millisecond between its words
+abbrev pub small_stream : ℕ → Stream
+small_stream label = record { bus = 0; label = label; sdi = None; minimum = 10; maximum = 20; jitter = 0 }
+
+-- router R, which visits bus A; output O, which sends label x every 15 ticks; label x, with the first stream as its source
+abbrev pub small_router : Router
+small_router = record { steps = 1; within = 1; most = 2; visits = 0 ∷ [] }
+
+abbrev pub small_output : Output
+small_output = record { steps = 1; within = 2; gap = 1; frame = 15; entries = record { offset = 0; label = 0 } ∷ [] }
+
+abbrev pub small_label : OutputLabel
+small_label = record { output = 0; label = 131; sdi = 0; format = Bnr; sources = 0 ∷ []; stale = 22; oldest = 30; least = 11; greatest = 19 }
+
+-- bus A brings labels 203 and 204 (octal) to router R; output O sends label x from the first
 abbrev pub small_tables : TableRows
 small_tables = record {
   tick_us = 1000;
-  buses = record { queue = 2; spacing = 350; first = 0; streams = 2; router = 0 } ∷ [];
-  streams =
-      record { bus = 0; label = 131; sdi = None; minimum = 10; maximum = 20 }
-      ∷ record { bus = 0; label = 132; sdi = None; minimum = 10; maximum = 20 }
-      ∷ [];
-  routers = record { steps = 1; within = 1; most = 2; visits = 0 ∷ [] } ∷ [];
-  outputs = record { steps = 1; within = 2; gap = 1; frame = 15; entries = record { offset = 0; label = 0 } ∷ [] } ∷ [];
-  labels = record { output = 0; label = 131; sdi = 0; format = Bnr; sources = 0 ∷ []; stale = 22; oldest = 30; least = 11; greatest = 19 } ∷ [];
+  buses = record { queue = 2; police = false; spacing = 350; first = 0; streams = 2; router = 0 } ∷ [];
+  streams = small_stream 131 ∷ small_stream 132 ∷ [];
+  routers = small_router ∷ [];
+  outputs = small_output ∷ [];
+  labels = small_label ∷ [];
   keys = small_keys;
 }
 

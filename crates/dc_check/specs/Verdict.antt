@@ -9,27 +9,27 @@ use Rattle.dc_cert.specs.Bounds.{InputBound, OutputBound, CertificateRows, input
 use Rattle.dc_cert.specs.Claims.{Claims}
 use Rattle.dc_check.specs.Accepts.{gaps_of, label_delay, source_delay}
 use Rattle.dc_check.specs.declared.fault.CheckFault.{CheckFault}
-use Rattle.dc_check.specs.declared.fault.Code.{Code}
-use Rattle.dc_check.specs.declared.fault.Code.TheVariants.{C01, C02, C03, C04, C05, C06, C07, C08, C09, C10, C11, C12}
+use Rattle.dc_check.specs.declared.fault.Condition.{Condition}
+use Rattle.dc_check.specs.declared.fault.Condition.TheVariants.{NamesDiffer, WindowOutOfRange, WindowDoesNotClose, BacklogTooSmall, QueueTooShort, DelayTooSmall, DelayOutOfRange, SentTooSoon, SentTooLate, AgeTooSmall, AgeOverLimit, SourceGoesStale}
 use Rattle.dc_check.specs.declared.fault.Part.{Part}
 use Rattle.dc_check.specs.declared.fault.Part.TheVariants.{Inputs, Outputs, Labels}
-use Rattle.dc_tables.specs.Names.{text_of}
+use Rattle.dc_parts.specs.Names.{text_of}
 use Rattle.dc_tables.specs.TableRows.{TableRows, bus_row, stream_row, label_row, bus_cap, bus_floor, output_cap, output_floor}
 
 -- ---- faults
 
 -- a fault at a part of the certificate
-abbrev pub fault_at : Part → ℕ → Code → ℕ → CheckFault
-fault_at part index code window = record { code = code; part = part; index = index; window = window }
+abbrev pub fault_at : Part → ℕ → Condition → ℕ → CheckFault
+fault_at part index condition window = record { condition = condition; part = part; index = index; window = window }
 
 -- a rule that names no window: this fault, unless the test holds
 unfoldable pub unless : Bool → CheckFault → Option CheckFault
 unless holds fault = if holds then None else Some fault
 
 -- a rule that names the first window that fails, if any does
-unfoldable pub at_window : Part → ℕ → Code → Option ℕ → Option CheckFault
-at_window part index code None = None
-at_window part index code (Some w) = Some (fault_at part index code w)
+unfoldable pub at_window : Part → ℕ → Condition → Option ℕ → Option CheckFault
+at_window part index condition None = None
+at_window part index condition (Some w) = Some (fault_at part index condition w)
 
 -- the first fault of rules in their order
 abbrev pub first_of : List (Option CheckFault) → Option CheckFault
@@ -70,9 +70,9 @@ is_named count names keys = length names == count && pointwise bytes_eq names (m
 -- the rules on names
 abbrev pub name_rules : TableRows → Claims → List (Option CheckFault)
 name_rules t claims =
-    unless (is_named (length t.buses) (map (λ i. i.bus) claims.inputs) t.keys.buses) (fault_at Inputs 0 C01 0)
-    ∷ unless (is_named (length t.outputs) (map (λ o. o.output) claims.outputs) t.keys.outputs) (fault_at Outputs 0 C01 0)
-    ∷ unless (is_named (length t.labels) (map (λ l. l.label) claims.labels) t.keys.labels) (fault_at Labels 0 C01 0)
+    unless (is_named (length t.buses) (map (λ i. i.bus) claims.inputs) t.keys.buses) (fault_at Inputs 0 NamesDiffer 0)
+    ∷ unless (is_named (length t.outputs) (map (λ o. o.output) claims.outputs) t.keys.outputs) (fault_at Outputs 0 NamesDiffer 0)
+    ∷ unless (is_named (length t.labels) (map (λ l. l.label) claims.labels) t.keys.labels) (fault_at Labels 0 NamesDiffer 0)
     ∷ []
 
 -- the fault of the names, if any
@@ -90,8 +90,8 @@ pub record IsSized (t : TableRows) (c : CertificateRows) : Type 0 where
 -- the rules on ranges
 abbrev pub range_rules : Part → ℕ → (window delay : ℕ) → List (Option CheckFault)
 range_rules part index window delay =
-    unless (is_window window) (fault_at part index C02 0)
-    ∷ unless (is_delay delay) (fault_at part index C07 0)
+    unless (is_window window) (fault_at part index WindowOutOfRange 0)
+    ∷ unless (is_delay delay) (fault_at part index DelayOutOfRange 0)
     ∷ []
 
 -- the first window that fails for an input's backlog; for its delay; for an output's delay
@@ -107,25 +107,25 @@ output_delay_failure t o c = delay_failure (output_cap t o) (output_floor t o) c
 -- the rules on an input, with its first failing windows
 abbrev pub input_rules : TableRows → ℕ → InputBound → List (Option CheckFault)
 input_rules t b c =
-    unless (is_closing (bus_cap t b) (bus_floor t b) c.window) (fault_at Inputs b C03 0)
-    ∷ at_window Inputs b C04 (input_backlog_failure t b c)
-    ∷ unless (nat_le c.backlog (bus_row t b).queue) (fault_at Inputs b C05 0)
-    ∷ at_window Inputs b C06 (input_delay_failure t b c)
+    unless (is_closing (bus_cap t b) (bus_floor t b) c.window) (fault_at Inputs b WindowDoesNotClose 0)
+    ∷ at_window Inputs b BacklogTooSmall (input_backlog_failure t b c)
+    ∷ unless (nat_le c.backlog (bus_row t b).queue) (fault_at Inputs b QueueTooShort 0)
+    ∷ at_window Inputs b DelayTooSmall (input_delay_failure t b c)
     ∷ []
 
 abbrev pub output_rules : TableRows → ℕ → OutputBound → List (Option CheckFault)
 output_rules t o c =
-    unless (is_closing (output_cap t o) (output_floor t o) c.window) (fault_at Outputs o C03 0)
-    ∷ at_window Outputs o C06 (output_delay_failure t o c)
+    unless (is_closing (output_cap t o) (output_floor t o) c.window) (fault_at Outputs o WindowDoesNotClose 0)
+    ∷ at_window Outputs o DelayTooSmall (output_delay_failure t o c)
     ∷ []
 
 abbrev pub label_rules : TableRows → ℕ → CertificateRows → List (Option CheckFault)
 label_rules t x c =
-    unless (list_all (λ g. nat_le ((label_row t x).least + label_delay t c x) g) (gaps_of t x)) (fault_at Labels x C08 0)
-    ∷ unless (list_all (λ g. nat_le (g + label_delay t c x) (label_row t x).greatest) (gaps_of t x)) (fault_at Labels x C09 0)
-    ∷ unless (list_all (λ s. nat_le ((label_row t x).stale + source_delay t c s) (slice_index c.ages x)) (label_row t x).sources) (fault_at Labels x C10 0)
-    ∷ unless (nat_le (slice_index c.ages x) (label_row t x).oldest) (fault_at Labels x C11 0)
-    ∷ unless (list_all (λ s. nat_le (source_delay t c s + (stream_row t s).maximum) (label_row t x).stale) (label_row t x).sources) (fault_at Labels x C12 0)
+    unless (list_all (λ g. nat_le ((label_row t x).least + label_delay t c x) g) (gaps_of t x)) (fault_at Labels x SentTooSoon 0)
+    ∷ unless (list_all (λ g. nat_le (g + label_delay t c x) (label_row t x).greatest) (gaps_of t x)) (fault_at Labels x SentTooLate 0)
+    ∷ unless (list_all (λ s. nat_le ((label_row t x).stale + source_delay t c s) (slice_index c.ages x)) (label_row t x).sources) (fault_at Labels x AgeTooSmall 0)
+    ∷ unless (nat_le (slice_index c.ages x) (label_row t x).oldest) (fault_at Labels x AgeOverLimit 0)
+    ∷ unless (list_all (λ s. nat_le (source_delay t c s + (stream_row t s).maximum) (label_row t x).stale) (label_row t x).sources) (fault_at Labels x SourceGoesStale 0)
     ∷ []
 
 -- ---- jobs: the inputs, the outputs and the labels in one row, from 0

@@ -7,7 +7,7 @@ ghost use Rattle.dc_check.specs.Accepts.{gaps_of, source_delay};
 ghost use Rattle.dc_check.specs.Verdict.{IsSized, first_of, label_rules};
 ghost use Rattle.dc_tables.specs.TableRows.{stream_row, label_row};
 
-use crate::fault::{CheckFault, Code, Part};
+use crate::fault::{CheckFault, Condition, Part};
 use crate::rules::{fault, fault_unless, first_fault};
 use dc_cert::Certificate;
 use dc_tables::Tables;
@@ -29,23 +29,23 @@ pub(crate) fn label_fault(
     first_fault(&[
         fault_unless(
             are_not_soon(tables, label, delay),
-            fault(Part::Labels, label, Code::C08),
+            fault(Part::Labels, label, Condition::SentTooSoon),
         ),
         fault_unless(
             are_not_late(tables, label, delay),
-            fault(Part::Labels, label, Code::C09),
+            fault(Part::Labels, label, Condition::SentTooLate),
         ),
         fault_unless(
             are_within(tables, certificate, label, age),
-            fault(Part::Labels, label, Code::C10),
+            fault(Part::Labels, label, Condition::AgeTooSmall),
         ),
         fault_unless(
             age <= tables.label(label).oldest,
-            fault(Part::Labels, label, Code::C11),
+            fault(Part::Labels, label, Condition::AgeOverLimit),
         ),
         fault_unless(
             stay_fresh(tables, certificate, label),
-            fault(Part::Labels, label, Code::C12),
+            fault(Part::Labels, label, Condition::SourceGoesStale),
         ),
     ])
 }

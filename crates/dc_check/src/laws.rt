@@ -1,10 +1,10 @@
-//! What an accepted certificate means for every run: laws about the definitions, for calls that cite them. They do nothing,
-//! but for the last, which answers a number.
+//! What an accepted certificate means for every admissible run: laws about the definitions, for calls that cite them.
+//! They do nothing, but for the last, which answers a number.
 
 ghost use Rattle.std.specs.Prelude.{◌≡◌, ℕ, ◌≤◌, ◌↔◌, None};
 ghost use Rattle.dc_cert.specs.Claims.{Claims};
 ghost use Rattle.dc_check.specs.Accepts.{Accepts};
-ghost use Rattle.dc_check.specs.Certified.{AcceptedKeepTheirClaims};
+ghost use Rattle.dc_check.specs.Certified.{AcceptedKeepTheirClaims, PolicedKeepTheirClaims};
 ghost use Rattle.dc_check.specs.Small.{small_tables, small_claims, small_run, SendsCopy};
 ghost use Rattle.dc_check.specs.Verdict.{verdict_of};
 ghost use Rattle.dc_event.specs.Admissible.{IsAdmissible};
@@ -17,6 +17,15 @@ pub fn accepted_certificates_keep_their_claims(tables: &Tables)
     ensures { AcceptedKeepTheirClaims tables.now }
 {
     tables.valid();
+}
+
+/// Where all buses are policed, a certificate that is accepted keeps its claims in every run whose actors keep their
+/// budgets, whatever the sources send.
+pub fn policed_tables_keep_their_claims(tables: &Tables)
+    ensures { PolicedKeepTheirClaims tables.now }
+{
+    tables.valid();
+    accepted_certificates_keep_their_claims(tables);
 }
 
 /// The verdict on a certificate finds no fault exactly where the certificate is accepted.

@@ -1,4 +1,4 @@
-//! The verdict on a certificate for an ARINC 429 concentrator, and what an accepted certificate means for every run.
+//! The verdict on a certificate for an ARINC 429 concentrator, and what an accepted one means for every admissible run.
 #![tactic(auto)]
 
 mod certified;
@@ -10,12 +10,14 @@ pub mod laws;
 mod names;
 mod queues;
 mod rules;
+mod small;
 #[cfg(test)]
 mod tests;
 
 pub use certified::Certified;
-pub use fault::{CheckFault, Code, Part};
+pub use fault::{CheckFault, Condition, Part};
 pub use job::{job_fault, job_fault_given, verdict};
 pub use judge::{certify, check};
 pub use names::misnamed;
 pub use rules::LONGEST;
+pub use small::are_small;

@@ -1,30 +1,33 @@
 //! The rule on names: a certificate lists the tables' buses, outputs and labels, once each and in their order.
 
-ghost use Rattle.std.specs.Prelude.{◌≡◌, length, map};
+ghost use Rattle.std.specs.Prelude.{◌≡◌, IfNone, length, map};
+ghost use Rattle.dc_cert.specs.Bounds.{certificate_rows};
 ghost use Rattle.dc_cert.specs.Claims.{claims_of, input_claim, output_claim, label_claim};
-ghost use Rattle.dc_check.specs.Verdict.{is_named, misnaming};
+ghost use Rattle.dc_check.specs.Verdict.{IsSized, is_named, misnaming};
 
-use crate::fault::{CheckFault, Code, Part};
+use crate::fault::{CheckFault, Condition, Part};
 use crate::rules::{fault, fault_unless, first_fault};
 use dc_cert::{Certificate, InputRow, LabelRow, OutputRow};
 use dc_tables::Tables;
 
-/// The fault of a certificate's names, if any: C01 at the inputs, the outputs or the labels.
+/// The fault of a certificate's names, if any: `NamesDiffer` at the inputs, the outputs or the labels. Where there is none, the
+/// certificate has as many rows of each kind as the tables.
 pub fn misnamed(tables: &Tables, certificate: &Certificate) -> Option<CheckFault>
-    ensures { result ≡ misnaming tables.now (claims_of certificate.now) }
+    ensures exact { result ≡ misnaming tables.now (claims_of certificate.now) }
+    ensures sized { IfNone result (IsSized tables.now (certificate_rows certificate.now)) }
 {
     first_fault(&[
         fault_unless(
             are_buses(tables, &certificate.inputs),
-            fault(Part::Inputs, 0, Code::C01),
+            fault(Part::Inputs, 0, Condition::NamesDiffer),
         ),
         fault_unless(
             are_outputs(tables, &certificate.outputs),
-            fault(Part::Outputs, 0, Code::C01),
+            fault(Part::Outputs, 0, Condition::NamesDiffer),
         ),
         fault_unless(
             are_labels(tables, &certificate.labels),
-            fault(Part::Labels, 0, Code::C01),
+            fault(Part::Labels, 0, Condition::NamesDiffer),
         ),
     ])
 }

@@ -6,7 +6,7 @@ ghost use Rattle.dc_check.specs.Verdict.{IsSized, first_of, range_rules, input_r
 ghost use Rattle.dc_check.specs.declared.fault.Part.TheVariants.{Inputs, Outputs};
 ghost use Rattle.dc_tables.specs.TableRows.{bus_cap, bus_floor, output_cap, output_floor};
 
-use crate::fault::{CheckFault, Code, Part};
+use crate::fault::{CheckFault, Condition, Part};
 use crate::rules::{
     closing_fault, fault, fault_unless, first_failing, first_fault, first_overdue, range_fault,
     window_fault,
@@ -38,12 +38,12 @@ pub(crate) fn input_fault<A: ArrivalBound, S: ServiceBound>(
     let backlog = certificate.inputs[bus].backlog;
     first_fault(&[
         closing_fault(Part::Inputs, bus, arrivals, service, window),
-        window_fault(Part::Inputs, bus, Code::C04, first_backlog),
+        window_fault(Part::Inputs, bus, Condition::BacklogTooSmall, first_backlog),
         fault_unless(
             backlog <= tables.queue(bus),
-            fault(Part::Inputs, bus, Code::C05),
+            fault(Part::Inputs, bus, Condition::QueueTooShort),
         ),
-        window_fault(Part::Inputs, bus, Code::C06, first_delay),
+        window_fault(Part::Inputs, bus, Condition::DelayTooSmall, first_delay),
     ])
 }
 
@@ -67,7 +67,7 @@ pub(crate) fn output_fault<A: ArrivalBound, S: ServiceBound>(
     let window = certificate.outputs[output].window;
     first_fault(&[
         closing_fault(Part::Outputs, output, arrivals, service, window),
-        window_fault(Part::Outputs, output, Code::C06, first_delay),
+        window_fault(Part::Outputs, output, Condition::DelayTooSmall, first_delay),
     ])
 }
 

@@ -2,9 +2,9 @@
 
 ghost use Rattle.std.specs.Prelude.{◌≡◌, ℕ, ◌≤◌};
 ghost use Rattle.dc_check.specs.Verdict.{fault_at, unless, at_window, first_of, range_rules, is_closing, backlog_failure, delay_failure};
-ghost use Rattle.dc_check.specs.declared.fault.Code.TheVariants.{C03};
+ghost use Rattle.dc_check.specs.declared.fault.Condition.TheVariants.{WindowDoesNotClose};
 
-use crate::fault::{CheckFault, Code, Part};
+use crate::fault::{CheckFault, Condition, Part};
 use dc_bound::{ArrivalBound, ServiceBound};
 use dc_busy::{closes, delay_fails, first_failures};
 
@@ -12,11 +12,11 @@ use dc_busy::{closes, delay_fails, first_failures};
 pub const LONGEST: u32 = 100_000;
 
 /// A fault that names no window.
-pub(crate) fn fault(part: Part, index: usize, code: Code) -> CheckFault
-    ensures { result ≡ fault_at part index code 0 }
+pub(crate) fn fault(part: Part, index: usize, condition: Condition) -> CheckFault
+    ensures { result ≡ fault_at part index condition 0 }
 {
     CheckFault {
-        code,
+        condition,
         part,
         index,
         window: 0,
@@ -36,15 +36,15 @@ pub(crate) fn fault_unless(holds: bool, fault: CheckFault) -> Option<CheckFault>
 pub(crate) fn window_fault(
     part: Part,
     index: usize,
-    code: Code,
+    condition: Condition,
     first: Option<u32>,
 ) -> Option<CheckFault>
-    ensures { result ≡ at_window part index code first }
+    ensures { result ≡ at_window part index condition first }
 {
     match first {
         None => None,
         Some(window) => Some(CheckFault {
-            code,
+            condition,
             part,
             index,
             window,
@@ -71,9 +71,12 @@ pub(crate) fn range_fault(part: Part, index: usize, window: u32, delay: u32) -> 
     first_fault(&[
         fault_unless(
             1 <= window && window <= LONGEST,
-            fault(part, index, Code::C02),
+            fault(part, index, Condition::WindowOutOfRange),
         ),
-        fault_unless(delay <= LONGEST, fault(part, index, Code::C07)),
+        fault_unless(
+            delay <= LONGEST,
+            fault(part, index, Condition::DelayOutOfRange),
+        ),
     ])
 }
 
@@ -87,11 +90,11 @@ pub(crate) fn closing_fault<A: ArrivalBound, S: ServiceBound>(
 ) -> Option<CheckFault>
     requires least { 1 ≤ window }
     requires most { window ≤ 100000 }
-    ensures { result ≡ unless (is_closing (A.cap arrivals.now) (S.floor service.now) window) (fault_at part index C03 0) }
+    ensures { result ≡ unless (is_closing (A.cap arrivals.now) (S.floor service.now) window) (fault_at part index WindowDoesNotClose 0) }
 {
     fault_unless(
         closes(arrivals, service, window),
-        fault(part, index, Code::C03),
+        fault(part, index, Condition::WindowDoesNotClose),
     )
 }
 

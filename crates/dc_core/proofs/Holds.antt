@@ -8,10 +8,10 @@ use Rattle.circular_buffer.specs.Buffer.{keep_last}
 use Rattle.dc_queue.specs.WindowData.{WindowData, steps_of, added, turned, lacks}
 use Rattle.dc_core.specs.Windows.{counts, finished, HoldsSteps}
 use Rattle.dc_bound.specs.Window.{count_in}
-use Rattle.dc_bound.specs.Counts.{within_cases, count_in-zero}
-use Rattle.dc_bound.specs.Budget.{count_in_sum}
-use Rattle.dc_bound.specs.Steps.{count_in-push}
-use Rattle.dc_bound.specs.Recent.{NoneLater, recent}
+use Rattle.dc_bound.specs.lemmas.Counts.{within_cases, count_in-zero}
+use Rattle.dc_bound.specs.lemmas.Budget.{count_in_sum}
+use Rattle.dc_bound.specs.lemmas.Steps.{count_in-push}
+use Rattle.dc_bound.specs.lemmas.Recent.{NoneLater, recent}
 
 sum-counts : (u n : ℕ) (ts : List ℕ) → sum (counts u n ts) ≡ count_in u n ts
 sum-counts u zero ts = sym (count_in-zero u ts)

@@ -1,6 +1,7 @@
 mod Holds
 mod Windows
 mod Standing
+mod Paces
 mod Routing
 mod Sending
 mod Ticking

@@ -7,10 +7,10 @@ use Rattle.std.proofs.lemmas.Bool.{lt-ltb, le-ltb, cases_eq, ne_eqb, and_parts, 
 use Rattle.std.proofs.Math.Nat.{mod-mod, mod-add-mod}
 use Rattle.dc_bound.specs.Window.{HoldAtMost}
 use Rattle.dc_bound.specs.Run.{one_if}
-use Rattle.dc_bound.specs.Steps.{most_step}
+use Rattle.dc_bound.specs.lemmas.Steps.{most_step}
 use Rattle.dc_bound.specs.Moves.{Move, ticks_in, entered, taken, item, latest_by}
 use Rattle.dc_bound.specs.Moves.Move.{Visit}
-use Rattle.dc_bound.specs.QueuePush.{queue-visit, taken-le, latest_by-same, latest_by-takes}
+use Rattle.dc_bound.specs.lemmas.QueuePush.{queue-visit, taken-le, latest_by-same, latest_by-takes}
 use Rattle.dc_queue.specs.WindowData.{WindowData, added}
 use Rattle.dc_word.specs.Word.{label_of, sdi_of}
 use Rattle.dc_tables.specs.Declares.{stream_of, declares, fits}
@@ -30,8 +30,8 @@ use Rattle.dc_core.specs.Parts.{BusData, no_router, router_stepped, visit_reply_
 use Rattle.dc_core.specs.Windows.{HoldsSteps}
 use Rattle.dc_core.specs.Steps.{AreNumbered}
 use Rattle.dc_core.specs.Standing.{entered_words, HoldsQueue, word_and_tick, HoldsRouter, Standing}
-use Rattle.dc_event.specs.RunPush.{steps-push, ticks-other, ticks-step, moves-push, moves-other, latest-other, ticks_in-moves, entered-declared}
-use Rattle.dc_event.specs.BudgetsPush.{calm, keeps-step, rest-same}
+use Rattle.dc_event.specs.lemmas.RunPush.{steps-push, ticks-other, ticks-step, moves-push, moves-other, latest-other, ticks_in-moves, entered-declared}
+use Rattle.dc_event.specs.lemmas.BudgetsPush.{calm, keeps-step, rest-same}
 use Rattle.dc_core.proofs.Windows.{window-step}
 use Rattle.dc_core.proofs.Standing.{Changes, router-other, output-other}
 
@@ -240,7 +240,7 @@ module _ (t : TableRows) (now : ℕ) (buses buses' : ℕ → BusData) (lasts : L
   bus_of : (x k : ℕ) → stream_of t b x ≡ Some k → b ≡ (stream_row t k).bus
   unfolding stream_of
   bus_of x k of =
-      let p = position-Some (declares b x) t.streams k (record { bus = 0; label = 0; sdi = None; minimum = 0; maximum = 0 }) of in
+      let p = position-Some (declares b x) t.streams k (record { bus = 0; label = 0; sdi = None; minimum = 0; maximum = 0; jitter = 0 }) of in
       let parts = and_parts (((stream_row t k).bus == b) && ((stream_row t k).label == label_of x)) (fits (stream_row t k).sdi (sdi_of x)) p.1 in
       let first = and_parts ((stream_row t k).bus == b) ((stream_row t k).label == label_of x) parts.0 in
       sym (eqb-true _ _ first.0)

@@ -5,14 +5,14 @@ use Rattle.std.specs.List.{flat_map}
 use Rattle.std.proofs.lemmas.List.{append-nil, get_or-set_same, get_or-set_other, map-append}
 use Rattle.std.proofs.lemmas.Bool.{lt-ltb, le-ltb, cases_eq, cases_lt, ne_eqb, leb-true, ltb-true, ltb-false}
 use Rattle.dc_bound.specs.Window.{HoldAtMost, count_in}
-use Rattle.dc_bound.specs.Budget.{count_in_sum}
+use Rattle.dc_bound.specs.lemmas.Budget.{count_in_sum}
 use Rattle.dc_bound.specs.Run.{one_if}
 use Rattle.dc_bound.specs.Moves.{Move, taken}
 use Rattle.dc_bound.specs.Moves.Move.{Tick as TickMove}
-use Rattle.dc_bound.specs.QueuePush.{queue-tick, latest_by-same}
+use Rattle.dc_bound.specs.lemmas.QueuePush.{queue-tick, latest_by-same}
 use Rattle.dc_queue.specs.WindowData.{turned}
-use Rattle.dc_bound.specs.Recent.{IsLast}
-use Rattle.dc_bound.specs.Recent.{NoneLater, recent, most_push, last-none, last-far, last-near, last-now, last-turn}
+use Rattle.dc_bound.specs.Window.{IsLast}
+use Rattle.dc_bound.specs.lemmas.Recent.{NoneLater, recent, most_push, last-none, last-far, last-near, last-now, last-turn}
 use Rattle.dc_word.specs.Format.{is_usable}
 use Rattle.dc_tables.specs.TableRows.{TableRows, AreValid, stream_row, router_row, output_row, label_row}
 use Rattle.dc_event.specs.Time.{tick_after, route_of, send_of, routes, send_ticks}
@@ -32,8 +32,8 @@ use Rattle.dc_core.specs.Lacking.{too_soon}
 use Rattle.dc_route.specs.Choosing.{young, fresh_now, first_word, word_now, fresh_words, chosen_now}
 use Rattle.dc_core.specs.Steps.{AreNumbered}
 use Rattle.dc_core.specs.Standing.{entered_words, HoldsQueue, word_and_tick, HoldsRouter, HoldsOutput, Standing}
-use Rattle.dc_event.specs.RunPush.{tick-push, steps-push, ticks-other, ticks-step, moves-push, moves-other, latest-other, sent-push, sent-le, sent-other, steps-none_later}
-use Rattle.dc_event.specs.BudgetsPush.{calm, keeps-step, rest-same}
+use Rattle.dc_event.specs.lemmas.RunPush.{tick-push, steps-push, ticks-other, ticks-step, moves-push, moves-other, latest-other, sent-push, sent-le, sent-other, steps-none_later}
+use Rattle.dc_event.specs.lemmas.BudgetsPush.{calm, keeps-step, rest-same}
 use Rattle.dc_core.proofs.Windows.{last-same, window-step, window-tick}
 use Rattle.dc_core.proofs.Standing.{router-other, output-other}
 

@@ -6,13 +6,14 @@ use Rattle.std.proofs.lemmas.Bool.{cases_Bool, cases_lt, ne_eqb, cases_eq}
 use Rattle.dc_bound.specs.Run.{one_if}
 use Rattle.dc_bound.specs.Moves.{Move, latch, entered, taken, latest_by}
 use Rattle.dc_bound.specs.Moves.Move.{In}
-use Rattle.dc_bound.specs.QueuePush.{queue-in_latched, queue-in_full, queue-in_room, none_from, taken-le, latest_by-same}
+use Rattle.dc_bound.specs.lemmas.QueuePush.{queue-in_latched, queue-in_full, queue-in_room, none_from, taken-le, latest_by-same}
 use Rattle.dc_queue.specs.QueueData.{QueueData}
 use Rattle.dc_route.specs.Routing.{no_queue, queue_at}
 use Rattle.dc_word.specs.Word.{is_odd}
 use Rattle.dc_tables.specs.Declares.{stream_of}
 use Rattle.dc_tables.specs.TableRows.{TableRows, stream_row, router_row, output_row}
 use Rattle.dc_event.specs.Time.{ends, tick_after, route_of, send_of, routes}
+use Rattle.dc_event.specs.Offers.{refuses, let_in}
 use Rattle.dc_event.specs.Buses.{in_of, move_of, moves, room}
 use Rattle.dc_event.specs.Latest.{is_of, latest}
 use Rattle.dc_event.specs.Replies.{reply}
@@ -25,8 +26,8 @@ use Rattle.dc_core.specs.declared.parts.RouterState.{RouterState}
 use Rattle.dc_core.specs.declared.parts.OutputState.{OutputState}
 use Rattle.dc_core.specs.Parts.{BusData, bus_at, Receives}
 use Rattle.dc_core.specs.Standing.{entered_words, HoldsQueue, word_and_tick, HoldsRouter, HoldsOutput, Standing, MayFollow}
-use Rattle.dc_event.specs.RunPush.{steps-push, ticks-other, moves-push, moves-other, latest-other, sent-other}
-use Rattle.dc_event.specs.BudgetsPush.{calm, keeps-nothing}
+use Rattle.dc_event.specs.lemmas.RunPush.{steps-push, ticks-other, moves-push, moves-other, latest-other, sent-other}
+use Rattle.dc_event.specs.lemmas.BudgetsPush.{calm, keeps-nothing}
 use Rattle.dc_core.proofs.Windows.{last-same, window-other}
 
 abbrev word_of : ℕ × ℕ → ℕ
@@ -154,13 +155,13 @@ false_and false b h = refl
 pub arrive_even : (t : TableRows) (run : List Event) (b w : ℕ) → is_odd w ≡ false → IsNothing t run (Arrive b w)
 arrive_even t run b w h = record {
   no_tick = refl;
-  no_move = λ a. ap (λ x. cond x (in_of (stream_of t a w) w) []) (false_and (b == a) (is_odd w) h);
+  no_move = λ a. ap (λ x. cond x (in_of (let_in t a run (stream_of t a w)) w) []) (false_and (b == a) (is_odd w) h);
   no_route = λ r. refl;
   no_send = λ o. refl;
 }
 
 move_elsewhere : (t : TableRows) (run : List Event) (a b w : ℕ) → (b == a) ≡ false → move_of t a run (Arrive b w) ≡ []
-move_elsewhere t run a b w h = ap (λ x. cond (x && is_odd w) (in_of (stream_of t a w) w) []) h
+move_elsewhere t run a b w h = ap (λ x. cond (x && is_odd w) (in_of (let_in t a run (stream_of t a w)) w) []) h
 
 cond_same : (b : Bool) → cond {A = List Move} b [] [] ≡ []
 cond_same true = refl
@@ -170,14 +171,26 @@ pub arrive_undeclared : (t : TableRows) (run : List Event) (b w : ℕ) → strea
 arrive_undeclared t run b w h = record {
   no_tick = refl;
   no_move = λ a. ⊎_elim
-      (λ (same : b ≡ a). (let P : ℕ → Type 0 = λ a. move_of t a run (Arrive b w) ≡ [] in subst P same (ap (λ o. cond ((b == b) && is_odd w) (in_of o w) []) h ∙ cond_same ((b == b) && is_odd w))))
+      (λ (same : b ≡ a). (let P : ℕ → Type 0 = λ a. move_of t a run (Arrive b w) ≡ [] in subst P same (ap (λ o. cond ((b == b) && is_odd w) (in_of (let_in t b run o) w) []) h ∙ cond_same ((b == b) && is_odd w))))
       (λ (other : b ≡ a → ⊥). move_elsewhere t run a b w (ne_eqb b a other)) (cases_eq b a);
   no_route = λ r. refl;
   no_send = λ o. refl;
 }
 
-move_here : (t : TableRows) (run : List Event) (b w s : ℕ) → is_odd w ≡ true → stream_of t b w ≡ Some s → move_of t b run (Arrive b w) ≡ In (s, w) ∷ []
-move_here t run b w s odd some = let e : (b == b) ≡ true = eq-eqb b b refl in rw (e, odd, some) refl
+-- a word that the bus refuses
+pub arrive_refused : (t : TableRows) (run : List Event) (b w s : ℕ) → stream_of t b w ≡ Some s → refuses t b run (Some s) ≡ true → IsNothing t run (Arrive b w)
+arrive_refused t run b w s some early = record {
+  no_tick = refl;
+  no_move = λ a. ⊎_elim
+      (λ (same : b ≡ a). (let P : ℕ → Type 0 = λ a. move_of t a run (Arrive b w) ≡ [] in
+      subst P same (ap (λ o. cond ((b == b) && is_odd w) (in_of (let_in t b run o) w) []) some ∙ ap (λ v. cond ((b == b) && is_odd w) (in_of (cond v None (Some s)) w) []) early ∙ cond_same ((b == b) && is_odd w))))
+      (λ (other : b ≡ a → ⊥). move_elsewhere t run a b w (ne_eqb b a other)) (cases_eq b a);
+  no_route = λ r. refl;
+  no_send = λ o. refl;
+}
+
+move_here : (t : TableRows) (run : List Event) (b w s : ℕ) → is_odd w ≡ true → stream_of t b w ≡ Some s → refuses t b run (Some s) ≡ false → move_of t b run (Arrive b w) ≡ In (s, w) ∷ []
+move_here t run b w s odd some free = let e : (b == b) ≡ true = eq-eqb b b refl in rw (e, odd, some, free) refl
 
 -- a word that comes leaves every latest word
 latest_by-in : (room : ℕ) (p : ℕ × ℕ → Bool) (ms : List Move) (x : ℕ × ℕ) → latest_by room p (ms ++ In x ∷ []) ≡ latest_by room p ms
@@ -188,23 +201,23 @@ latest_by-in room p ms x =
     (λ (full : room ≤ length (entered room ms) - taken room ms). (let q = queue-in_full room ms x (none_from (latch room ms) l) full in latest_by-same room p ms (In x) [] (q.1 ∙ sym (append-nil (entered room ms))) q.2))
     (cases_lt (length (entered room ms) - taken room ms) room)) (cases_Bool (is_some (latch room ms)))
 
-latest-arrive : (t : TableRows) (s : ℕ) (run : List Event) (b w k : ℕ) → is_odd w ≡ true → stream_of t b w ≡ Some k → latest t s (run ++ Arrive b w ∷ []) ≡ latest t s run
+latest-arrive : (t : TableRows) (s : ℕ) (run : List Event) (b w k : ℕ) → is_odd w ≡ true → stream_of t b w ≡ Some k → refuses t b run (Some k) ≡ false → latest t s (run ++ Arrive b w ∷ []) ≡ latest t s run
 unfolding latest
-latest-arrive t s run b w k odd some =
+latest-arrive t s run b w k odd some free =
     let a = (stream_row t s).bus in
     ⊎_elim (λ (same : b ≡ a).
-    (let here : move_of t a run (Arrive b w) ≡ In (k, w) ∷ [] = (let P : ℕ → Type 0 = λ a. move_of t a run (Arrive b w) ≡ In (k, w) ∷ [] in subst P same (move_here t run b w k odd some)) in
+    (let here : move_of t a run (Arrive b w) ≡ In (k, w) ∷ [] = (let P : ℕ → Type 0 = λ a. move_of t a run (Arrive b w) ≡ In (k, w) ∷ [] in subst P same (move_here t run b w k odd some free)) in
     ap (λ ms. latest_by (room t a) (is_of s) ms) (moves-push t a run (Arrive b w) ∙ ap (λ m. moves t a run ++ m) here) ∙ latest_by-in (room t a) (is_of s) (moves t a run) (k, w)))
     (λ (other : b ≡ a → ⊥). latest-other t s run (Arrive b w) (move_elsewhere t run a b w (ne_eqb b a other))) (cases_eq b a)
 
 pub standing-arrive : (t : TableRows) (now : ℕ) (buses buses' : ℕ → BusData) (lasts : List (Option (ℕ × ℕ))) (routers : List RouterState) (outputs : List OutputState) (run : List Event) (b w s : ℕ) (r : Reply) (new : BusData)
-    → b < length t.buses → Changes b new buses buses' → is_odd w ≡ true → stream_of t b w ≡ Some s
+    → b < length t.buses → Changes b new buses buses' → is_odd w ≡ true → stream_of t b w ≡ Some s → refuses t b run (Some s) ≡ false
     → Receives (buses b) w r new
     → Standing t now buses lasts routers outputs run → Standing t now buses' lasts routers outputs (run ++ Arrive b w ∷ []) × (r ≡ reply t run (Arrive b w))
 unfolding reply
-standing-arrive t now buses buses' lasts routers outputs run b w s r new lt ch odd some d h =
+standing-arrive t now buses buses' lasts routers outputs run b w s r new lt ch odd some free d h =
     let got = received (room t b) (buses b) new (moves t b run) (s, w) r (h.queues b lt) d in
-    let more : moves t b (run ++ Arrive b w ∷ []) ≡ moves t b run ++ In (s, w) ∷ [] = moves-push t b run (Arrive b w) ∙ ap (λ m. moves t b run ++ m) (move_here t run b w s odd some) in
+    let more : moves t b (run ++ Arrive b w ∷ []) ≡ moves t b run ++ In (s, w) ∷ [] = moves-push t b run (Arrive b w) ∙ ap (λ m. moves t b run ++ m) (move_here t run b w s odd some free) in
     let same_bus : buses' b ≡ new = ch.here in (
       record {
         kept = keeps-nothing t run (Arrive b w) h.kept refl (λ r. refl) (λ o. refl);
@@ -214,11 +227,11 @@ standing-arrive t now buses buses' lasts routers outputs run b w s r new lt ch o
             subst P same (rw (same_bus, more) got.holds)))
             (λ (other : b ≡ a → ⊥). (let kept : buses' a ≡ buses a = ch.elsewhere a other in
             rw kept (queue-same t a _ run (run ++ Arrive b w ∷ []) (moves-other t a run (Arrive b w) (move_elsewhere t run a b w (ne_eqb b a other))) (h.queues a l)))) (cases_eq b a);
-        words = λ k l. words-same t k run (run ++ Arrive b w ∷ []) _ (latest-arrive t k run b w s odd some) (h.words k l);
+        words = λ k l. words-same t k run (run ++ Arrive b w ∷ []) _ (latest-arrive t k run b w s odd some free) (h.words k l);
         turns = λ r l. router-other t r _ run (Arrive b w) refl refl (h.turns r l);
         sendings = λ o l. output-other t o _ run (Arrive b w) refl refl (h.sendings o l);
       },
-      rw (odd, some, more) got.answer,
+      rw (odd, some, free, more) got.answer,
     )
 
 pub is_there : (o : Option ℕ) → is_some o ≡ true → (k : ℕ) × (o ≡ Some k)

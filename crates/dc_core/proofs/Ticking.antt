@@ -10,7 +10,7 @@ use Rattle.dc_event.specs.declared.event.Event.{Event}
 use Rattle.dc_event.specs.declared.event.Event.TheVariants.{Tick}
 use Rattle.dc_event.specs.declared.event.Actor.{Actor}
 use Rattle.dc_event.specs.declared.event.Actor.TheVariants.{Router, Output, Wire, Clock}
-use Rattle.dc_bound.specs.Dues as D
+use Rattle.dc_bound.specs.Frame as D
 use Rattle.dc_event.specs.Outputs as O
 use Rattle.dc_transmit.specs.Schedule.{schedule_of, due_count}
 use Rattle.dc_core.specs.declared.parts.RouterState.{RouterState}
@@ -19,7 +19,7 @@ use Rattle.dc_core.specs.Parts.{BusData, no_router, no_output, output_sent}
 use Rattle.dc_core.specs.Lacking.{router_lacks, output_lacks, NoneLacks, FirstLacks, too_soon}
 use Rattle.dc_core.specs.Standing.{Standing}
 use Rattle.dc_event.specs.Works.{Works, IsFirstLacking}
-use Rattle.dc_event.specs.BudgetsPush.{keeps-tick, tick-works_router, tick-works_output}
+use Rattle.dc_event.specs.lemmas.BudgetsPush.{keeps-tick, tick-works_router, tick-works_output}
 use Rattle.dc_core.proofs.Windows.{works-if, works-not}
 use Rattle.dc_core.proofs.Sending.{IsSend, send-open, send-keeps}
 

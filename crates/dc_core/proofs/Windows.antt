@@ -2,13 +2,13 @@
 use Rattle.std.proofs.Common.{◌≡◌, ℕ, suc, ◌<◌, false, true, Option, Some, None, List, [], ◌∷◌, ◌++◌, sym, subst, arith}
 use Rattle.dc_bound.specs.Window.{HoldAtLeast, ticks_of}
 use Rattle.dc_bound.specs.Run.{stamped}
-use Rattle.dc_bound.specs.Steps.{pace_tick}
+use Rattle.dc_bound.specs.lemmas.Steps.{pace_tick}
 use Rattle.dc_queue.specs.WindowData.{WindowData, added, turned, lacks}
 use Rattle.dc_event.specs.Time.{ends, tick_after}
-use Rattle.dc_event.specs.RunPush.{tick-push, ticks-other, ticks-step, steps-none_later}
-use Rattle.dc_event.specs.BudgetsPush.{calm}
+use Rattle.dc_event.specs.lemmas.RunPush.{tick-push, ticks-other, ticks-step, steps-none_later}
+use Rattle.dc_event.specs.lemmas.BudgetsPush.{calm}
 use Rattle.dc_event.specs.declared.event.Event.{Event}
-use Rattle.dc_bound.specs.Recent.{IsLast}
+use Rattle.dc_bound.specs.Window.{IsLast}
 use Rattle.dc_core.specs.Windows.{HoldsSteps}
 use Rattle.dc_core.proofs.Holds.{lacks-true, lacks-false, holds-add, holds-turn}
 

@@ -5,3 +5,4 @@ pub mod Steps
 pub mod Lacking
 pub mod Fresh
 pub mod CoreSteps
+pub mod FaultText

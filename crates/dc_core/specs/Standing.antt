@@ -1,9 +1,13 @@
 -- The concentrator stands for a run; which events may follow it, and what each fault says.
-use Rattle.std.specs.Prelude.{◌≡◌, ℕ, ◌%◌, ◌^◌, ◌<◌, ◌≤◌, map, Option, None, is_some, option_map, List, [], ◌∷◌, ◌++◌, length, drop, slice_index_or}
-use Rattle.dc_bound.specs.Window.{HoldAtMost}
+use Rattle.std.specs.Prelude.{true, Bool, cond, max, ◌+◌, ◌&&◌, nat_lt, slice_set, ◌≡◌, ℕ, ◌%◌, ◌^◌, ◌<◌, ◌≤◌, map, Option, None, is_some, option_map, List, [], ◌∷◌, ◌++◌, length, drop, slice_index_or}
+use Rattle.dc_bound.specs.Window.{HoldAtMost, ticks_of}
+use Rattle.dc_bound.specs.Early.{pace_of}
 use Rattle.dc_bound.specs.Moves.{Move, latch, entered, taken}
-use Rattle.dc_tables.specs.TableRows.{TableRows, router_row, output_row}
-use Rattle.dc_event.specs.Runs.{tick_after, routes, route_ticks, send_ticks, moves, room, latest, sent}
+use Rattle.dc_tables.specs.TableRows.{TableRows, stream_row, router_row, output_row, is_policed}
+use Rattle.dc_event.specs.Time.{tick_after, routes, route_ticks, send_ticks}
+use Rattle.dc_event.specs.Buses.{arrivals, moves, room}
+use Rattle.dc_event.specs.Latest.{latest}
+use Rattle.dc_event.specs.Outputs.{sent}
 use Rattle.dc_event.specs.Admissible.{KeepsBudgets, IsNumbered}
 use Rattle.dc_event.specs.Works.{IsFirstLacking}
 use Rattle.dc_event.specs.declared.event.Event.{Event}
@@ -12,7 +16,7 @@ use Rattle.dc_core.specs.declared.fault.StepFault.{StepFault}
 use Rattle.dc_core.specs.declared.fault.StepFault.TheVariants.{Spent, TooSoon, Owed, TickLimit, Unknown}
 use Rattle.dc_core.specs.declared.parts.RouterState.{RouterState}
 use Rattle.dc_core.specs.declared.parts.OutputState.{OutputState}
-use Rattle.dc_bound.specs.Recent.{IsLast}
+use Rattle.dc_bound.specs.Window.{IsLast}
 use Rattle.dc_core.specs.Windows.{HoldsSteps}
 use Rattle.dc_core.specs.Parts.{BusData, no_router, no_output}
 
@@ -49,6 +53,19 @@ pub record Standing (t : TableRows) (now : ℕ) (buses : ℕ → BusData) (lasts
   pub words : (s : ℕ) → s < length t.streams → slice_index_or lasts s None ≡ option_map word_and_tick (latest t s run)
   pub turns : (r : ℕ) → r < length t.routers → HoldsRouter t r (slice_index_or routers r no_router) run
   pub sendings : (o : ℕ) → o < length t.outputs → HoldsOutput t o (slice_index_or outputs o no_output) run
+
+-- the number of each stream of a policed bus is the pace of its arrivals
+abbrev pub HoldsPaces : TableRows → List ℕ → List Event → Type 0
+HoldsPaces t paces run =
+    (s : ℕ) → s < length t.streams → is_policed t (stream_row t s).bus ≡ true → slice_index_or paces s 0 ≡ pace_of (stream_row t s).minimum (ticks_of (arrivals t s run))
+
+-- whether a policed bus refuses a word of the stream in this tick, by its number
+abbrev pub refuses_now : TableRows → List ℕ → ℕ → ℕ → ℕ → Bool
+refuses_now t paces now b s = is_policed t b && nat_lt (now + (stream_row t s).jitter) (slice_index_or paces s 0)
+
+-- the numbers after a word of the stream that was let in
+abbrev pub paces_after : TableRows → List ℕ → ℕ → ℕ → ℕ → List ℕ
+paces_after t paces now b s = cond (is_policed t b) (slice_set paces s (max now (slice_index_or paces s 0) + (stream_row t s).minimum)) paces
 
 -- the event's number is in the tables, the tick stays within its limit, and the run with the event keeps the budgets
 pub record MayFollow (t : TableRows) (run : List Event) (e : Event) : Type 0 where

@@ -1,3 +1,7 @@
+//! Why an event is refused.
+ghost use Rattle.std.specs.Prelude.{◌≡◌, ◌≤◌, length};
+ghost use Rattle.dc_core.specs.FaultText.{step_fault_code};
+
 use dc_event::Actor;
 
 /// Why an event is refused.
@@ -13,4 +17,20 @@ pub enum StepFault {
     TickLimit,
     /// The tables have no such number.
     Unknown,
+}
+
+impl StepFault {
+    /// The fault in one word, as it is printed: `spent`, `early`, `owed`, `ticks` or `unknown`.
+    pub fn code(self) -> &'static str
+        ensures text { result.now ≡ step_fault_code self }
+        ensures short { length result.now ≤ 7 }
+    {
+        match self {
+            StepFault::Spent => "spent",
+            StepFault::TooSoon => "early",
+            StepFault::Owed(_) => "owed",
+            StepFault::TickLimit => "ticks",
+            StepFault::Unknown => "unknown",
+        }
+    }
 }

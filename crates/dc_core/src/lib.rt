@@ -1,5 +1,5 @@
 //! The state machine of the whole concentrator. After every event it stands for its history: each reply is the one that
-//! the whole run calls for, and it refuses just what would break a budget.
+//! the whole run calls for. It refuses just what breaks a budget, passes tick 2^40 or names no row of the tables.
 #![tactic(auto)]
 
 mod concentrator;

@@ -1,11 +1,12 @@
-ghost use Rattle.std.specs.Prelude.{◌≡◌, ℕ, ◌+◌, ◌<◌, ◌≤◌, ◌^◌, [], ◌∷◌, ◌++◌, length, List, OnErr, slice_index_or, MatchOption, EachIndex, IfOk};
-ghost use Rattle.dc_event.specs.Runs.{reply};
+ghost use Rattle.std.specs.Prelude.{◌≡◌, ℕ, ◌+◌, ◌<◌, ◌≤◌, ◌^◌, [], ◌∷◌, ◌++◌, length, List, OnErr, slice_index_or, MatchOption, EachIndex, IfOk, true, false};
+ghost use Rattle.dc_core.specs.Standing.{refuses_now, paces_after};
+ghost use Rattle.dc_event.specs.Replies.{reply};
 ghost use Rattle.dc_core.specs.Lacking.{too_soon};
 ghost use Rattle.dc_core.specs.Parts.{no_router, no_output, router_turned, output_turned};
 
 use crate::fault::StepFault;
 use crate::parts::{OutputState, RouterState, receive, visit_reply};
-use crate::start::{fresh_outputs, fresh_queues, fresh_routers, no_latches};
+use crate::start::{fresh_outputs, fresh_queues, fresh_routers, no_latches, no_paces};
 use dc_event::{Actor, Event, Reply};
 use dc_queue::queue::WordQueue;
 use dc_route::{Latest, choose};
@@ -23,6 +24,7 @@ pub struct State {
     tick: u64,
     queues: Vec<WordQueue>,
     latched: Vec<bool>,
+    paces: Vec<u64>,
     latest: Latest,
     routers: Vec<RouterState>,
     outputs: Vec<OutputState>,
@@ -46,6 +48,7 @@ impl State {
             tick: 0,
             queues: fresh_queues(alloc, tables)?,
             latched: no_latches(alloc, tables.bus_count())?,
+            paces: no_paces(alloc, tables.stream_count())?,
             latest: Latest::new(alloc, tables)?,
             routers: fresh_routers(alloc, tables)?,
             outputs: fresh_outputs(alloc, tables)?,
@@ -65,8 +68,12 @@ impl State {
         if !word.is_odd() {
             return Ok(Reply::BadParity);
         }
-        if tables.stream_of(bus, word).is_none() {
+        let Some(stream) = tables.stream_of(bus, word) else {
             return Ok(Reply::Undeclared);
+        };
+        tables.valid();
+        if refuses(tables, &mut self.paces, self.tick, bus, stream) {
+            return Ok(Reply::TooEarly);
         }
         let queue = &mut self.queues[bus];
         let latched = &mut self.latched[bus];
@@ -178,6 +185,28 @@ impl State {
             Event::Tick => self.end_tick(tables),
         }
     }
+}
+
+/// Whether the bus refuses a word of the stream in this tick. A word of a policed bus that is let in moves its stream's number.
+fn refuses(tables: &Tables, paces: &mut Vec<u64>, tick: u64, bus: usize, stream: usize) -> bool
+    requires bus { bus < length tables.now.buses }
+    requires stream { stream < length tables.now.streams }
+    requires sized { length paces.old.items ≡ length tables.now.streams }
+    requires early { tick ≤ 2 ^ 40 }
+    ensures test { result ≡ refuses_now tables.now paces.old.items tick bus stream }
+    ensures refused { result ≡ true → paces.new.items ≡ paces.old.items }
+    ensures let_in { result ≡ false → paces.new.items ≡ paces_after tables.now paces.old.items tick bus stream }
+{
+    if !tables.bus(bus).police {
+        return false;
+    }
+    let row = tables.stream(stream);
+    let pace = paces[stream];
+    if tick + (row.jitter as u64) < pace {
+        return true;
+    }
+    paces[stream] = tick.max(pace) + row.minimum as u64;
+    false
 }
 
 /// Whether a send in this tick lies less than the gap after the last.

@@ -34,6 +34,17 @@ pub fn no_latches(alloc: Global, count: usize) -> Result<Vec<bool>, AllocError>
     Ok(latched)
 }
 
+/// No stream has sent.
+pub fn no_paces(alloc: Global, count: usize) -> Result<Vec<u64>, AllocError>
+    ensures { IfOk result (λ v. AllMade (λ _. 0) 0 count v.items) }
+{
+    let mut paces = Vec::new(alloc);
+    for _stream in 0..count {
+        paces.push(0)?;
+    }
+    Ok(paces)
+}
+
 /// Each router before its first step.
 pub fn fresh_routers(alloc: Global, tables: &Tables) -> Result<Vec<RouterState>, AllocError>
     ensures { IfOk result (λ v. AllMade (fresh_router tables.now) no_router (length tables.now.routers) v.items) }

@@ -1,7 +1,7 @@
 //! The two kinds of device.
-ghost use Rattle.std.specs.Prelude.{◌≡◌, ℕ, List, Option, ◌+◌, ◌^◌, ◌<◌, ◌≤◌, length, IfOk};
+ghost use Rattle.std.specs.Prelude.{◌≡◌, ℕ, List, Option, Bool, false, ◌+◌, ◌^◌, ◌<◌, ◌≤◌, length, IfOk};
 ghost use Rattle.std.specs.Io.KnownBytes.{Keeps, ReadConsumes};
-ghost use Rattle.dc_device.specs.Device.{PushAppends, failures_of};
+ghost use Rattle.dc_device.specs.Device.{PushAppends, count_on, dry_after, failures_of, is_failure};
 
 /// A device's call failed.
 #[derive(Clone, Copy, Debug, PartialEq, Eq)]
@@ -15,17 +15,33 @@ pub trait Source {
     // How many calls have failed.
     ghost failed: { Self → ℕ };
 
+    // How often it was pulled, counted up to 2^64 - 1.
+    ghost asked: { Self → ℕ };
+
+    // How many of these pulls gave no byte, counted so too.
+    ghost dry: { Self → ℕ };
+
     /// Fills the front of the buffer with the next bytes, and says how many: none only at the end, or where there
     /// is no room. After `Broken` no byte is lost.
     fn pull(&mut self, buf: &mut [u8]) -> Result<usize, Broken>
         requires { failed self.old + 1 < 2 ^ 64 }
         ensures bound { IfOk result (λ n. n ≤ length buf.new) }
         ensures bytes { ReadConsumes (remaining self.old) (remaining self.new) result buf.new }
-        ensures count { failed self.new ≡ failed self.old + failures_of result };
+        ensures count { failed self.new ≡ failed self.old + failures_of result }
+        ensures pulls { asked self.new ≡ count_on (asked self.old) }
+        ensures dry_pulls { dry self.new ≡ dry_after (dry self.old) result };
 
     /// How many calls have failed.
     fn failures(&self) -> u64
         ensures { result ≡ failed self.now };
+
+    /// How often it was pulled.
+    fn pulls(&self) -> u64
+        ensures { result ≡ asked self.now };
+
+    /// How many of these pulls gave no byte.
+    fn dry_pulls(&self) -> u64
+        ensures { result ≡ dry self.now };
 }
 
 /// Where bytes go.
@@ -36,19 +52,32 @@ pub trait Sink {
     // How many calls have failed.
     ghost failed: { Self → ℕ };
 
+    // Whether the last call failed.
+    ghost last_failed: { Self → Bool };
+
+    // Whether it took bytes that not everyone sees.
+    ghost hidden: { Self → Bool };
+
     /// Takes the front of the bytes, and says how many: one or more where there is one. `Broken` takes none.
     fn push(&mut self, bytes: &[u8]) -> Result<usize, Broken>
         requires { failed self.old + 1 < 2 ^ 64 }
         ensures bytes { PushAppends (contents self.old) (contents self.new) result bytes.now }
-        ensures count { failed self.new ≡ failed self.old + failures_of result };
+        ensures count { failed self.new ≡ failed self.old + failures_of result }
+        ensures last { last_failed self.new ≡ is_failure result };
 
     /// Lets everyone see what it has taken.
     fn flush(&mut self) -> Result<(), Broken>
         requires { failed self.old + 1 < 2 ^ 64 }
         ensures bytes { Keeps (contents self.old) (contents self.new) }
-        ensures count { failed self.new ≡ failed self.old + failures_of result };
+        ensures count { failed self.new ≡ failed self.old + failures_of result }
+        ensures last { last_failed self.new ≡ is_failure result }
+        ensures seen { IfOk result (λ _. hidden self.new ≡ false) };
 
     /// How many calls have failed.
     fn failures(&self) -> u64
         ensures { result ≡ failed self.now };
+
+    /// Whether it took bytes that not everyone sees.
+    fn hides(&self) -> bool
+        ensures { result ≡ hidden self.now };
 }

@@ -14,5 +14,5 @@ pub use device::{Broken, Sink, Source};
 pub use memory::{MemSink, MemSource};
 pub use reader::{BLOCK, LINE_LIMIT, Line, LineReader, Part};
 pub use whole::{Unread, read_at_most};
-pub use wrappers::{ReadSource, WriteSink};
+pub use wrappers::{Nowhere, ReadSource, WriteSink};
 pub use writer::LineWriter;

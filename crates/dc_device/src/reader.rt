@@ -1,9 +1,9 @@
 //! The lines of a source, through one fixed buffer.
-ghost use Rattle.std.specs.Prelude.{◌≡◌, ◌∷◌, [], ◌+◌, ◌^◌, ◌<◌, ◌≤◌, MatchOption, drop, length, take};
-ghost use Rattle.dc_device.specs.Device.{failures_of};
+ghost use Rattle.std.specs.Prelude.{◌≡◌, ◌∷◌, [], ◌+◌, ◌^◌, ◌<◌, ◌≤◌, MatchOption, drop, false, length, take};
+ghost use Rattle.dc_device.specs.Device.{count_on, failures_of, stops_in};
 ghost use Rattle.dc_device.specs.Lines.{Fills, HasNoLine, HoldsLine, NoFeed, ReadsOn};
 
-use crate::device::{Broken, Source};
+use crate::device::{Broken, Sink, Source};
 use crate::writer::LineWriter;
 use arrayvec::ArrayVec;
 use std::marker::Model;
@@ -138,14 +138,22 @@ impl LineReader {
     }
 
     /// Pulls the next bytes, where none is held, and says whether there were any. What was written must not wait any
-    /// more: who reads the answers sees each before the source is asked again.
-    pub fn fill<S: Source>(&mut self, source: &mut S, written: &LineWriter) -> Result<bool, Broken>
+    /// more, nor be hidden: who reads the answers sees each before the source is asked again.
+    pub fn fill<S: Source, K: Sink>(
+        &mut self,
+        source: &mut S,
+        written: &LineWriter,
+        sink: &K,
+    ) -> Result<bool, Broken>
         requires empty { self.old.bytes ≡ [] }
         requires seen { written.now ≡ [] }
+        requires shown { K.hidden sink.now ≡ false }
         requires countable { S.failed source.old + 1 < 2 ^ 64 }
         ensures bytes { Fills (S.remaining source.old) (S.remaining source.new) self.new.bytes result }
         ensures room { self.new.room ≡ self.old.room }
         ensures count { S.failed source.new ≡ S.failed source.old + failures_of result }
+        ensures pulls { S.asked source.new ≡ count_on (S.asked source.old) }
+        ensures dry_pulls { S.dry source.new ≤ S.dry source.old + stops_in result }
     {
         self.at = 0;
         self.end = 0;

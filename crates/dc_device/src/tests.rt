@@ -1,8 +1,11 @@
 //! What no clause says: the devices over memory, each public call once, and calls that fail in mid-stream.
-ghost use Rattle.std.specs.Prelude.{Some};
+ghost use Rattle.std.specs.Prelude.{Some, length, nat_lt};
 
 use super::*;
 use std::alloc::{AllocError, Global};
+use std::cell::Cell;
+use std::io;
+use std::io::{Read, Write};
 use std::test::Fail;
 
 #[test]
@@ -14,6 +17,8 @@ fn a_source_gives_pieces_and_fails_once(rt: HostRuntime) {
     assert_eq!(rt; source.pull(&mut buf), Ok(2));
     assert_eq!(rt; source.pull(&mut buf), Ok(0));
     assert_eq!(rt; source.failures(), 1);
+    assert_eq!(rt; source.pulls(), 4);
+    assert_eq!(rt; source.dry_pulls(), 2);
 }
 
 #[test]
@@ -66,7 +71,7 @@ fn copy(alloc: Global, text: &[u8], piece: usize, limit: u64) -> Result<MemSink,
             }
             None => {
                 writer.flush(&mut sink)?;
-                if !reader.fill(&mut source, &writer)? {
+                if !reader.fill(&mut source, &writer, &sink)? {
                     break;
                 }
             }
@@ -111,7 +116,7 @@ fn a_line_is_read_where_it_stands(rt: HostRuntime) {
     for (limit, first, second) in [(4, Some(2), Some(0)), (3, Some(2), None), (2, None, None)] {
         let mut source = MemSource::new(b"ab\n\nc", 9, 0);
         let mut reader = LineReader::new(limit);
-        assert_eq!(rt; reader.fill(&mut source, &nothing), Ok(true));
+        assert_eq!(rt; reader.fill(&mut source, &nothing, &Nowhere), Ok(true));
         assert_eq!(rt; held_length(&mut reader), first, "up to {limit}");
         assert_eq!(rt; held_length(&mut reader), second, "up to {limit}");
         assert_eq!(rt; held_length(&mut reader), None, "up to {limit}");
@@ -154,6 +159,10 @@ impl Sink for DripSink {
 
     ghost failed = { λ s. s.0.failures };
 
+    ghost last_failed = { λ s. s.0.has_failed };
+
+    ghost hidden = { λ s. nat_lt s.0.shown (length s.0.bytes.items) };
+
     fn push(&mut self, bytes: &[u8]) -> Result<usize, Broken> {
         let DripSink(sink) = self;
         sink.push(&bytes[..bytes.len().min(1)])
@@ -166,6 +175,10 @@ impl Sink for DripSink {
 
     fn failures(&self) -> u64 {
         self.0.failures()
+    }
+
+    fn hides(&self) -> bool {
+        self.0.hides()
     }
 }
 
@@ -227,7 +240,7 @@ fn a_source_may_fail_at_any_pull_and_is_read_on(rt: HostRuntime) -> Result<(), F
             assert!(rt; pulls < 20);
             assert!(rt; source.failures() < 20);
             pulls += 1;
-            match reader.fill(&mut source, &nothing) {
+            match reader.fill(&mut source, &nothing, &Nowhere) {
                 Ok(true) => {}
                 Ok(false) => break,
                 Err(Broken) => assert_eq!(rt; pulls, fails_at, "the pull that failed"),
@@ -236,6 +249,143 @@ fn a_source_may_fail_at_any_pull_and_is_read_on(rt: HostRuntime) -> Result<(), F
         assert_eq!(rt; lines.as_slice(), b"ab|c|".as_slice());
         assert_eq!(rt; source.failures(), 1);
         assert_eq!(rt; pulls, 7);
+    }
+    Ok(())
+}
+
+#[test]
+fn a_sink_shows_nothing_until_it_is_flushed(rt: HostRuntime) -> Result<(), Fail> {
+    let mut sink = MemSink::new(rt.alloc(), 100, 0)?;
+    let mut writer = LineWriter::new();
+    assert_eq!(rt; sink.push(b"ab"), Ok(2));
+    assert!(rt; sink.hides());
+    assert_eq!(rt; sink.shown(), b"".as_slice());
+    writer.flush(&mut sink)?;
+    assert!(rt; !sink.hides());
+    assert_eq!(rt; sink.shown(), b"ab".as_slice());
+    writer.line(&mut sink, b"c")?;
+    assert_eq!(rt; sink.shown(), b"ab".as_slice());
+    writer.flush(&mut sink)?;
+    assert_eq!(rt; sink.shown(), b"abc\n".as_slice());
+    Ok(())
+}
+
+#[test]
+fn a_flush_fails_at_its_number(rt: HostRuntime) -> Result<(), Fail> {
+    for number in 1..4 {
+        let mut sink = MemSink::new(rt.alloc(), 100, 0)?;
+        sink.fail_flush(number);
+        let mut writer = LineWriter::new();
+        for flush in 1..6 {
+            assert!(rt; sink.failures() < 10);
+            writer.line(&mut sink, b"a")?;
+            assert!(rt; sink.failures() < 10);
+            let flushed = writer.flush(&mut sink);
+            assert_eq!(rt;
+                flushed.is_err(),
+                flush == number,
+                "flush {flush} of {number}"
+            );
+            assert_eq!(rt; sink.hides(), flush == number, "flush {flush} of {number}");
+        }
+        assert_eq!(rt; sink.failures(), 1);
+    }
+    Ok(())
+}
+
+// A reader whose read of this number fails, and that gives one byte at each of the first five others.
+#[derive(Drop)]
+struct Stumbling {
+    reads: u8,
+    fails_at: u8,
+}
+
+impl Read for Stumbling {
+    fn read(&mut self, buf: &mut [u8]) -> io::Result<usize> {
+        self.reads = self.reads.saturating_add(1);
+        if self.reads == self.fails_at {
+            return Err(io::Error::from(io::ErrorKind::Interrupted));
+        }
+        if self.reads > 6 || buf.is_empty() {
+            return Ok(0);
+        }
+        buf[0] = b'a';
+        Ok(1)
+    }
+}
+
+#[test]
+fn a_reader_that_fails_once_is_asked_no_more(rt: HostRuntime) {
+    for fails_at in 1..6 {
+        let mut source = ReadSource::new(Stumbling { reads: 0, fails_at });
+        let read = read_at_most(rt.alloc(), &mut source, 100);
+        assert!(rt; matches!(read, Err(Unread::Device)));
+        assert_eq!(rt; source.failures(), 1);
+        assert_eq!(rt; source.dry_pulls(), 1);
+        assert_eq!(rt; source.pulls(), u64::from(fails_at));
+        let mut buf = [0; 2];
+        assert_eq!(rt; source.pull(&mut buf), Ok(1));
+    }
+}
+
+// A writer that keeps what it takes until it is flushed, and tells how often that was and how many bytes have gone on.
+#[derive(Drop)]
+struct Keeping<'a> {
+    kept: u64,
+    flushes: &'a Cell<u64>,
+    gone: &'a Cell<u64>,
+}
+
+impl<'a> Write for Keeping<'a> {
+    fn write(&mut self, buf: &[u8]) -> io::Result<usize> {
+        self.kept = self.kept.wrapping_add(buf.len() as u64);
+        Ok(buf.len())
+    }
+
+    fn flush(&mut self) -> io::Result<()> {
+        self.flushes.set(self.flushes.get().wrapping_add(1));
+        self.gone.set(self.gone.get().wrapping_add(self.kept));
+        self.kept = 0;
+        Ok(())
+    }
+}
+
+#[test]
+fn a_flush_reaches_the_writer(rt: HostRuntime) -> Result<(), Fail> {
+    let (flushes, gone) = (Cell::new(0), Cell::new(0));
+    let mut sink = WriteSink::new(Keeping {
+        kept: 0,
+        flushes: &flushes,
+        gone: &gone,
+    });
+    let mut writer = LineWriter::new();
+    for lines in 1u64..4 {
+        assert!(rt; sink.failures() < 10);
+        writer.line(&mut sink, b"ab")?;
+        assert_eq!(rt; gone.get(), 3 * (lines - 1));
+        assert!(rt; sink.failures() < 10);
+        writer.flush(&mut sink)?;
+        assert_eq!(rt; gone.get(), 3 * lines);
+    }
+    assert_eq!(rt; flushes.get(), 3);
+    assert!(rt; sink.failures() < 10);
+    writer.flush(&mut sink)?;
+    assert_eq!(rt; flushes.get(), 3);
+    assert!(rt; sink.failures() < 10);
+    assert_eq!(rt; sink.flush(), Ok(()));
+    assert_eq!(rt; flushes.get(), 4);
+    Ok(())
+}
+
+#[test]
+fn a_source_is_pulled_at_most_once_more_than_its_limit(rt: HostRuntime) -> Result<(), Fail> {
+    let text = b"abcdef".as_slice();
+    for (limit, pulls, dry) in [(5, 6, 0), (6, 7, 1), (7, 7, 1)] {
+        let mut source = MemSource::new(text, 1, 0);
+        let read = read_at_most(rt.alloc(), &mut source, limit);
+        assert_eq!(rt; read.is_ok(), limit > 5, "up to {limit}");
+        assert_eq!(rt; source.pulls(), pulls, "up to {limit}");
+        assert_eq!(rt; source.dry_pulls(), dry, "up to {limit}");
     }
     Ok(())
 }

@@ -1,5 +1,6 @@
 //! A text read whole.
 ghost use Rattle.std.specs.Prelude.{◌≡◌, ◌+◌, ◌^◌, ◌<◌, ◌≤◌, ◌↔◌, length, IfOk, IfSome};
+ghost use Rattle.dc_device.specs.Device.{AsksUpTo};
 ghost use Rattle.dc_device.specs.Whole.{ReadsWhole, failed_in};
 
 use crate::device::Source;
@@ -17,7 +18,8 @@ pub enum Unread {
     TooLong,
 }
 
-/// All the bytes that the source still gives, where these are at most so many. It pulls at most once more than that.
+/// All the bytes that the source still gives, where these are at most so many. It pulls at most once more than that,
+/// and not again behind a pull that gave no byte.
 pub fn read_at_most<S: Source>(
     alloc: Global,
     source: &mut S,
@@ -26,6 +28,7 @@ pub fn read_at_most<S: Source>(
     requires { S.failed source.old + 1 < 2 ^ 64 }
     ensures bytes { IfSome (S.remaining source.old) (λ text. ReadsWhole text limit result) }
     ensures count { S.failed source.new ≡ S.failed source.old + failed_in result }
+    ensures asks { AsksUpTo limit (S.asked source.old) (S.asked source.new) (S.dry source.old) (S.dry source.new) }
     ensures within { IfOk result (λ bytes. length bytes.items ≤ limit) }
 {
     let mut text = Vec::new(alloc);

@@ -1,5 +1,5 @@
-//! Std's readers and writers as devices.
-ghost use Rattle.std.specs.Prelude.{◌≡◌};
+//! Std's readers and writers as devices, and a sink that nobody reads.
+ghost use Rattle.std.specs.Prelude.{◌≡◌, None, false};
 
 use crate::device::{Broken, Sink, Source};
 use std::io::{Read, Write};
@@ -9,6 +9,8 @@ use std::io::{Read, Write};
 pub struct ReadSource<R: Drop> {
     reader: R,
     failures: u64,
+    pulls: u64,
+    dry_pulls: u64,
 }
 
 impl<R: Drop> ReadSource<R> {
@@ -16,10 +18,14 @@ impl<R: Drop> ReadSource<R> {
     pub fn new(reader: R) -> Self
         ensures reader { result.reader ≡ reader }
         ensures failures { result.failures ≡ 0 }
+        ensures pulls { result.pulls ≡ 0 }
+        ensures dry_pulls { result.dry_pulls ≡ 0 }
     {
         ReadSource {
             reader,
             failures: 0,
+            pulls: 0,
+            dry_pulls: 0,
         }
     }
 }
@@ -29,11 +35,22 @@ impl<R: Read + Drop> Source for ReadSource<R> {
 
     ghost failed = { λ s. s.failures };
 
+    ghost asked = { λ s. s.pulls };
+
+    ghost dry = { λ s. s.dry_pulls };
+
     fn pull(&mut self, buf: &mut [u8]) -> Result<usize, Broken> {
+        self.pulls = self.pulls.saturating_add(1);
         match self.reader.read(buf) {
-            Ok(n) => Ok(n),
+            Ok(n) => {
+                if n == 0 {
+                    self.dry_pulls = self.dry_pulls.saturating_add(1);
+                }
+                Ok(n)
+            }
             Err(_) => {
                 self.failures += 1;
+                self.dry_pulls = self.dry_pulls.saturating_add(1);
                 Err(Broken)
             }
         }
@@ -42,13 +59,24 @@ impl<R: Read + Drop> Source for ReadSource<R> {
     fn failures(&self) -> u64 {
         self.failures
     }
+
+    fn pulls(&self) -> u64 {
+        self.pulls
+    }
+
+    fn dry_pulls(&self) -> u64 {
+        self.dry_pulls
+    }
 }
 
-/// A writer as a sink. It counts every error, `Interrupted` too, and a write that takes none of the bytes.
+/// A writer as a sink. It counts every error, `Interrupted` too, and a write that takes none of the bytes. What it took
+/// is hidden until the writer was flushed.
 #[derive(Drop)]
 pub struct WriteSink<W: Drop> {
     writer: W,
     failures: u64,
+    has_failed: bool,
+    hides: bool,
 }
 
 impl<W: Drop> WriteSink<W> {
@@ -56,10 +84,13 @@ impl<W: Drop> WriteSink<W> {
     pub fn new(writer: W) -> Self
         ensures writer { result.writer ≡ writer }
         ensures failures { result.failures ≡ 0 }
+        ensures hides { result.hides ≡ false }
     {
         WriteSink {
             writer,
             failures: 0,
+            has_failed: false,
+            hides: false,
         }
     }
 }
@@ -69,13 +100,20 @@ impl<W: Write + Drop> Sink for WriteSink<W> {
 
     ghost failed = { λ s. s.failures };
 
+    ghost last_failed = { λ s. s.has_failed };
+
+    ghost hidden = { λ s. s.hides };
+
     fn push(&mut self, bytes: &[u8]) -> Result<usize, Broken> {
+        self.has_failed = true;
+        self.hides = true;
         match self.writer.write(bytes) {
             Ok(n) => {
                 if n == 0 && !bytes.is_empty() {
                     self.failures += 1;
                     return Err(Broken);
                 }
+                self.has_failed = false;
                 Ok(n)
             }
             Err(_) => {
@@ -87,9 +125,14 @@ impl<W: Write + Drop> Sink for WriteSink<W> {
 
     fn flush(&mut self) -> Result<(), Broken> {
         match self.writer.flush() {
-            Ok(()) => Ok(()),
+            Ok(()) => {
+                self.has_failed = false;
+                self.hides = false;
+                Ok(())
+            }
             Err(_) => {
                 self.failures += 1;
+                self.has_failed = true;
                 Err(Broken)
             }
         }
@@ -97,5 +140,39 @@ impl<W: Write + Drop> Sink for WriteSink<W> {
 
     fn failures(&self) -> u64 {
         self.failures
+    }
+
+    fn hides(&self) -> bool {
+        self.hides
+    }
+}
+
+/// A sink that nobody reads: what it takes is gone, so nothing of it is hidden.
+#[derive(Clone, Copy, Debug)]
+pub struct Nowhere;
+
+impl Sink for Nowhere {
+    ghost contents = { λ s. None };
+
+    ghost failed = { λ s. 0 };
+
+    ghost last_failed = { λ s. false };
+
+    ghost hidden = { λ s. false };
+
+    fn push(&mut self, bytes: &[u8]) -> Result<usize, Broken> {
+        Ok(bytes.len())
+    }
+
+    fn flush(&mut self) -> Result<(), Broken> {
+        Ok(())
+    }
+
+    fn failures(&self) -> u64 {
+        0
+    }
+
+    fn hides(&self) -> bool {
+        false
     }
 }

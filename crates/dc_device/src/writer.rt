@@ -1,7 +1,7 @@
 //! Lines to a sink, through one fixed buffer.
-ghost use Rattle.std.specs.Prelude.{◌≡◌, ◌∷◌, [], ◌++◌, ◌+◌, ◌^◌, ◌<◌, MatchBool};
+ghost use Rattle.std.specs.Prelude.{◌≡◌, ◌∷◌, [], ◌++◌, ◌+◌, ◌^◌, ◌<◌, MatchBool, IfErr, true};
 ghost use Rattle.dc_device.specs.Bytes.{Gathers, Writes};
-ghost use Rattle.dc_device.specs.Device.{failures_of};
+ghost use Rattle.dc_device.specs.Device.{Settles, failures_of};
 
 use crate::device::{Broken, Sink};
 use crate::reader::BLOCK;
@@ -22,11 +22,13 @@ impl Model for LineWriter {
     ghost view = { λ w. w.waiting.items };
 }
 
-// Pushes all the bytes, by as many pushes as it takes.
+// Pushes all the bytes, by as many pushes as it takes. It is called once a block: kept apart, so that `put` stays small.
+#[inline(never)]
 fn push_all<K: Sink>(sink: &mut K, bytes: &[u8]) -> Result<(), Broken>
     requires { K.failed sink.old + 1 < 2 ^ 64 }
     ensures bytes { Writes (K.contents sink.old) (K.contents sink.new) bytes.now result }
     ensures count { K.failed sink.new ≡ K.failed sink.old + failures_of result }
+    ensures last { IfErr result (λ _. K.last_failed sink.new ≡ true) }
 {
     let mut rest = bytes;
     while !rest.is_empty() {
@@ -47,14 +49,17 @@ impl LineWriter {
         }
     }
 
-    /// Pushes what waits, and lets everyone see it. Where the sink fails, what was left is given up.
+    /// Pushes what waits, and lets everyone see it. Where the sink fails, what was left is given up, and the sink is
+    /// called no more.
+    #[inline(never)]
     pub fn flush<K: Sink>(&mut self, sink: &mut K) -> Result<(), Broken>
         requires { K.failed sink.old + 1 < 2 ^ 64 }
         ensures bytes { Writes (K.contents sink.old) (K.contents sink.new) self.old result }
         ensures empty { self.new ≡ [] }
         ensures count { K.failed sink.new ≡ K.failed sink.old + failures_of result }
+        ensures settled { Settles result (K.last_failed sink.new) (K.hidden sink.new) }
     {
-        if self.waiting.is_empty() {
+        if self.waiting.is_empty() && !sink.hides() {
             return Ok(());
         }
         let pushed = push_all(sink, self.waiting.as_slice());
@@ -70,12 +75,14 @@ impl LineWriter {
         self.waiting.try_extend_from_slice(bytes).is_ok()
     }
 
-    // Puts the bytes behind those that wait, which first go out where there is no room.
+    // Puts the bytes behind those that wait, which first go out where there is no room. It is called twice a line.
+    #[inline]
     fn put<K: Sink>(&mut self, sink: &mut K, bytes: &[u8]) -> Result<(), Broken>
         requires { K.failed sink.old + 1 < 2 ^ 64 }
         ensures bytes { Gathers (K.contents sink.old) self.old (K.contents sink.new) self.new
             bytes.now result }
         ensures count { K.failed sink.new ≡ K.failed sink.old + failures_of result }
+        ensures last { IfErr result (λ _. K.last_failed sink.new ≡ true) }
     {
         if self.hold(bytes) {
             return Ok(());
@@ -93,6 +100,7 @@ impl LineWriter {
         ensures bytes { Gathers (K.contents sink.old) self.old (K.contents sink.new) self.new
             (line.now ++ 10 ∷ []) result }
         ensures count { K.failed sink.new ≡ K.failed sink.old + failures_of result }
+        ensures last { IfErr result (λ _. K.last_failed sink.new ≡ true) }
     {
         self.put(sink, line)?;
         self.put(sink, b"\n")

@@ -12,6 +12,10 @@ in_minimum min_us tick_us = min_us / tick_us
 abbrev pub in_maximum : (max_us tick_us : ℕ) → ℕ
 in_maximum max_us tick_us = div_ceil max_us tick_us
 
+-- how late of their rhythm the words of a stream may come: the ticks that the jitter begins
+abbrev pub jitter_ticks : (jitter_us tick_us : ℕ) → ℕ
+jitter_ticks jitter_us tick_us = div_ceil jitter_us tick_us
+
 -- on an output: a tick more than the least interval begins, and one less than the whole ticks of the greatest
 abbrev pub out_minimum : (min_us tick_us : ℕ) → ℕ
 out_minimum min_us tick_us = div_ceil min_us tick_us + 1

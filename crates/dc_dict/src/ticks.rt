@@ -1,5 +1,5 @@
 ghost use Rattle.std.specs.Prelude.{◌≡◌, ◌+◌, ◌*◌, ◌<◌, ◌≤◌, IfOk};
-ghost use Rattle.dc_dict.specs.Ticks.{in_minimum, in_maximum, out_minimum, out_maximum, in_interval, out_interval};
+ghost use Rattle.dc_dict.specs.Ticks.{in_minimum, in_maximum, jitter_ticks, out_minimum, out_maximum, in_interval, out_interval};
 
 use crate::fault::DictFault;
 use crate::parameter::Parameter;
@@ -25,6 +25,15 @@ pub fn in_maximum(max_us: u32, tick_us: u32) -> u32
     ensures { result ≡ in_maximum max_us tick_us }
 {
     max_us.div_ceil(tick_us)
+}
+
+/// How late of their rhythm the words of an input may come, in ticks: those that the jitter, in microseconds, begins.
+pub fn jitter_ticks(jitter_us: u32, tick_us: u32) -> u32
+    requires { 0 < tick_us }
+    ensures ticks { result ≡ jitter_ticks jitter_us tick_us }
+    ensures covers { jitter_us ≤ result * tick_us }
+{
+    jitter_us.div_ceil(tick_us)
 }
 
 /// The least interval on an output: a tick more than it begins.
@@ -104,6 +113,9 @@ mod tests {
         };
         assert_eq!(rt; in_minimum(10_000, 3000), 3);
         assert_eq!(rt; in_maximum(20_000, 3000), 7);
+        assert_eq!(rt; jitter_ticks(0, 1000), 0);
+        assert_eq!(rt; jitter_ticks(1, 1000), 1);
+        assert_eq!(rt; jitter_ticks(10_000, 1000), 10);
         assert_eq!(rt; out_minimum(10_000, 3000), 5);
         assert_eq!(rt; out_maximum(20_000, 3000), 5);
         assert_eq!(rt; in_ticks(&row, 1000), Ok(Interval { min: 10, max: 20 }));

@@ -2,7 +2,7 @@
 use Rattle.std.proofs.Common.{◌≡◌, ℕ, ◌<◌, Option, Some, None, List, [], ◌∷◌, ◌++◌, length, refl, sym, ap, inl, inr, ◌∙◌, subst, arith, length-append}
 use Rattle.std.proofs.lemmas.Bool.{cases_lt}
 use Rattle.std.proofs.lemmas.List.{append-nil}
-use Rattle.dc_bound.specs.QueueTimes.{split_sides}
+use Rattle.dc_bound.specs.lemmas.QueueTimes.{split_sides}
 use Rattle.dc_tables.specs.TableRows.{TableRows}
 use Rattle.dc_event.specs.Admissible.{KeepsSources, KeepsBudgets}
 use Rattle.dc_event.specs.Claims.{Claims, ClaimsHold}

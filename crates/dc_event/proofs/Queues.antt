@@ -6,24 +6,25 @@ use Rattle.std.proofs.lemmas.List.{append-nil, take-append-le, take_all, take_mo
 use Rattle.std.proofs.lemmas.Grind.{flat_map-append}
 use Rattle.std.proofs.lemmas.Bool.{cases_lt, cases_eq, eq-eqb, ne_eqb, ltb-false, lt-ltb, le-ltb}
 use Rattle.dc_bound.specs.Run.{stamp, stamped}
-use Rattle.dc_bound.specs.FirstPlaces.{snoc_induction}
+use Rattle.dc_bound.specs.lemmas.FirstPlaces.{snoc_induction}
 use Rattle.dc_bound.specs.Places.{each_place}
 use Rattle.dc_bound.specs.Moves.{Move, move_ends, came, push, ins, is_overfull, latch, entered, taken, item, passed}
 use Rattle.dc_bound.specs.Moves.Move.{Tick as TickMove, In, Visit}
-use Rattle.dc_bound.specs.QueuePush.{item_in, latch-push, entered-open, entered-latched, entered-latching, entered-stays_open, taken-open, taken-le, taken-grows, queue-tick, queue-visit, queue-in_latched, queue-in_full, queue-in_room, none_from}
-use Rattle.dc_bound.specs.QueueTimes.{entered-le, arrived-le-routed}
+use Rattle.dc_bound.specs.lemmas.QueuePush.{item_in, latch-push, entered-open, entered-latched, entered-latching, entered-stays_open, taken-open, taken-le, taken-grows, queue-tick, queue-visit, queue-in_latched, queue-in_full, queue-in_room, none_from}
+use Rattle.dc_bound.specs.lemmas.QueueTimes.{entered-le, arrived-le-routed}
 use Rattle.dc_word.specs.Word.{is_odd}
 use Rattle.dc_tables.specs.Declares.{stream_of}
 use Rattle.dc_tables.specs.TableRows.{TableRows}
+use Rattle.dc_event.specs.Offers.{refuses, let_in}
 use Rattle.dc_event.specs.Buses.{visited_bus, in_of, move_of, moves, room, is_latched, bus_entered, bus_taken, bus_item, backlog}
 use Rattle.dc_event.specs.Outputs.{sent}
 use Rattle.dc_event.specs.Replies.{reply, outputs_of}
 use Rattle.dc_event.specs.Laws.{BacklogFits, words_of, taken_word, taken_words, waiting_words, IsFirstInFirstOut, QueuesGrow, AllEnter, ComeBeforeRouted}
-use Rattle.dc_event.specs.RunPush.{outputs_of-push, moves-push}
-use Rattle.dc_event.specs.RunMoves.{moves-beginning, moves-nil}
+use Rattle.dc_event.specs.lemmas.RunPush.{outputs_of-push, moves-push}
+use Rattle.dc_event.specs.lemmas.RunMoves.{moves-beginning, moves-nil}
 use Rattle.dc_event.specs.declared.event.Event.{Event}
 use Rattle.dc_event.specs.declared.event.Event.TheVariants.{Tick, Arrive, Route, Send}
-use Rattle.dc_event.specs.declared.event.Reply.TheVariants.{Queued, BadParity, Undeclared, Overrun, Latched, Took, Empty, Sent, Idle}
+use Rattle.dc_event.specs.declared.event.Reply.TheVariants.{Queued, BadParity, Undeclared, TooEarly, Overrun, Latched, Took, Empty, Sent, Idle}
 
 -- ---- the backlog
 
@@ -166,12 +167,13 @@ front-empty room ms h =
     front-same room ms (ms ++ Visit ∷ []) [] (q.1 ∙ sym (append-nil (entered room ms))) same
 
 -- an arrival's reply takes nothing
-arrival_takes_nothing : (b n : ℕ) (p q r s : Bool) → taken_word b (if p then BadParity else if q then Undeclared else if r then Latched else if s then Overrun else Queued n) ≡ []
-arrival_takes_nothing b n true q r s = refl
-arrival_takes_nothing b n false true r s = refl
-arrival_takes_nothing b n false false true s = refl
-arrival_takes_nothing b n false false false true = refl
-arrival_takes_nothing b n false false false false = refl
+arrival_takes_nothing : (b n : ℕ) (p q early r s : Bool) → taken_word b (if p then BadParity else if q then Undeclared else if early then TooEarly else if r then Latched else if s then Overrun else Queued n) ≡ []
+arrival_takes_nothing b n true q early r s = refl
+arrival_takes_nothing b n false true early r s = refl
+arrival_takes_nothing b n false false true r s = refl
+arrival_takes_nothing b n false false false true s = refl
+arrival_takes_nothing b n false false false false true = refl
+arrival_takes_nothing b n false false false false false = refl
 
 send_takes_nothing : (b l w : ℕ) (p : Bool) → taken_word b (if p then Sent l w else Idle) ≡ []
 send_takes_nothing b l w true = refl
@@ -200,11 +202,11 @@ module _ (t : TableRows) (b : ℕ) (run : List Event) where
   step-arrive a w =
       let R : ℕ = room t b in
       let same : front (room t b) (moves t b run ++ move_of t b run (Arrive a w)) ≡ front (room t b) (moves t b run) =
-      elim ((a == b) && is_odd w) as (λ v. front (room t b) (moves t b run ++ cond v (in_of (stream_of t b w) w) []) ≡ front (room t b) (moves t b run)) [
-        | true ↦ front-arrival (room t b) (moves t b run) (stream_of t b w) w
+      elim ((a == b) && is_odd w) as (λ v. front (room t b) (moves t b run ++ cond v (in_of (let_in t b run (stream_of t b w)) w) []) ≡ front (room t b) (moves t b run)) [
+        | true ↦ front-arrival (room t b) (moves t b run) (let_in t b run (stream_of t b w)) w
         | false ↦ ap (front (room t b)) (append-nil (moves t b run))
       ] in
-      quiet (Arrive a w) same (arrival_takes_nothing b (backlog t a (run ++ Arrive a w ∷ [])) (not (is_odd w)) (not (is_some (stream_of t a w))) (is_latched t a run) (is_latched t a (run ++ Arrive a w ∷ [])))
+      quiet (Arrive a w) same (arrival_takes_nothing b (backlog t a (run ++ Arrive a w ∷ [])) (not (is_odd w)) (not (is_some (stream_of t a w))) (refuses t a run (stream_of t a w)) (is_latched t a run) (is_latched t a (run ++ Arrive a w ∷ [])))
 
   step-send : (o : ℕ) → Steps (Send o)
   unfolding reply

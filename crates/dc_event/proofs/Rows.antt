@@ -1,6 +1,9 @@
 -- Worked rows, computed from the definitions.
-use Rattle.std.proofs.Common.{◌≡◌, ℕ, zero, suc, Some, None, List, [], ◌∷◌, ◌++◌, refl}
+use Rattle.std.proofs.Common.{true, false, ◌≡◌, ℕ, zero, suc, Some, None, List, [], ◌∷◌, ◌++◌, refl}
 use Rattle.dc_bound.specs.Run.{ticks, picks, stamped}
+use Rattle.dc_bound.specs.Early.{would_pass, admitted}
+use Rattle.dc_bound.specs.Window.{count_in}
+use Rattle.dc_event.specs.Offers.{is_early}
 use Rattle.dc_bound.specs.Places.{served_in, first_place, each_place}
 use Rattle.dc_bound.specs.Moves.{ins, passed, is_overfull, latch, entered, taken, routed_tick, arrived_tick, latest_number, latest_by}
 use Rattle.dc_word.specs.Word.{reversed, ones_in, is_odd, body_of, composed_word, copied_word, fallback_word}
@@ -17,7 +20,7 @@ use Rattle.dc_event.specs.Emissions.{emission, emission_ticks}
 use Rattle.dc_event.specs.Steady.{steady}
 use Rattle.dc_event.specs.declared.event.Event.{Event}
 use Rattle.dc_event.specs.declared.event.Event.TheVariants.{Tick, Arrive, Route, Send}
-use Rattle.dc_event.specs.declared.event.Reply.TheVariants.{Queued, BadParity, Undeclared, Overrun, Latched, Took, Empty, Sent, Idle, Now}
+use Rattle.dc_event.specs.declared.event.Reply.TheVariants.{Queued, BadParity, Undeclared, TooEarly, Overrun, Latched, Took, Empty, Sent, Idle, Now}
 
 -- ---- tables: labels 203 and 204 in octal are 131 and 132
 
@@ -25,8 +28,8 @@ use Rattle.dc_event.specs.declared.event.Reply.TheVariants.{Queued, BadParity, U
 abbrev pub small : ℕ → TableRows
 small queue = record {
   tick_us = 1000;
-  buses = record { queue = queue; spacing = 350; first = 0; streams = 2; router = 0 } ∷ [];
-  streams = record { bus = 0; label = 131; sdi = None; minimum = 10; maximum = 20 } ∷ record { bus = 0; label = 132; sdi = None; minimum = 10; maximum = 20 } ∷ [];
+  buses = record { queue = queue; police = false; spacing = 350; first = 0; streams = 2; router = 0 } ∷ [];
+  streams = record { bus = 0; label = 131; sdi = None; minimum = 10; maximum = 20; jitter = 0 } ∷ record { bus = 0; label = 132; sdi = None; minimum = 10; maximum = 20; jitter = 0 } ∷ [];
   routers = record { steps = 1; within = 1; most = 2; visits = 0 ∷ [] } ∷ [];
   outputs = record { steps = 1; within = 2; gap = 1; frame = 15; entries = record { offset = 0; label = 0 } ∷ [] } ∷ [];
   labels = record { output = 0; label = 131; sdi = 0; format = Bnr; sources = 0 ∷ []; stale = 22; oldest = 30; least = 11; greatest = 19 } ∷ [];
@@ -37,8 +40,8 @@ small queue = record {
 abbrev twice : TableRows
 twice = record {
   tick_us = 1000;
-  buses = record { queue = 2; spacing = 350; first = 0; streams = 2; router = 0 } ∷ [];
-  streams = record { bus = 0; label = 131; sdi = None; minimum = 10; maximum = 20 } ∷ record { bus = 0; label = 132; sdi = None; minimum = 10; maximum = 20 } ∷ [];
+  buses = record { queue = 2; police = false; spacing = 350; first = 0; streams = 2; router = 0 } ∷ [];
+  streams = record { bus = 0; label = 131; sdi = None; minimum = 10; maximum = 20; jitter = 0 } ∷ record { bus = 0; label = 132; sdi = None; minimum = 10; maximum = 20; jitter = 0 } ∷ [];
   routers = record { steps = 1; within = 1; most = 2; visits = 0 ∷ [] } ∷ [];
   outputs = record { steps = 1; within = 2; gap = 1; frame = 15; entries = record { offset = 0; label = 0 } ∷ record { offset = 1; label = 0 } ∷ [] } ∷ [];
   labels = record { output = 0; label = 131; sdi = 0; format = Bnr; sources = 0 ∷ []; stale = 22; oldest = 30; least = 11; greatest = 19 } ∷ [];
@@ -49,8 +52,8 @@ twice = record {
 abbrev two_buses : TableRows
 two_buses = record {
   tick_us = 1000;
-  buses = record { queue = 2; spacing = 350; first = 0; streams = 2; router = 0 } ∷ record { queue = 2; spacing = 350; first = 2; streams = 1; router = 0 } ∷ [];
-  streams = record { bus = 0; label = 131; sdi = None; minimum = 10; maximum = 20 } ∷ record { bus = 0; label = 132; sdi = None; minimum = 10; maximum = 20 } ∷ record { bus = 1; label = 131; sdi = None; minimum = 10; maximum = 20 } ∷ [];
+  buses = record { queue = 2; police = false; spacing = 350; first = 0; streams = 2; router = 0 } ∷ record { queue = 2; police = false; spacing = 350; first = 2; streams = 1; router = 0 } ∷ [];
+  streams = record { bus = 0; label = 131; sdi = None; minimum = 10; maximum = 20; jitter = 0 } ∷ record { bus = 0; label = 132; sdi = None; minimum = 10; maximum = 20; jitter = 0 } ∷ record { bus = 1; label = 131; sdi = None; minimum = 10; maximum = 20; jitter = 0 } ∷ [];
   routers = record { steps = 1; within = 1; most = 2; visits = 0 ∷ 1 ∷ [] } ∷ [];
   outputs = record { steps = 1; within = 2; gap = 1; frame = 15; entries = record { offset = 0; label = 0 } ∷ [] } ∷ [];
   labels = record { output = 0; label = 131; sdi = 0; format = Bnr; sources = 0 ∷ 2 ∷ []; stale = 22; oldest = 30; least = 11; greatest = 19 } ∷ [];
@@ -100,6 +103,27 @@ usable_source_before_fresh : outputs_of two_buses (Arrive 0 0xA00000C1 ∷ Arriv
     ≡ Queued 1 ∷ Queued 1 ∷ Took 0 0xA00000C1 ∷ Took 1 0xFFFFFCC1 ∷ Sent 131 0xFFFFFCC1 ∷ []
 unfolding served_in first_place each_place reversed ones_in is_odd body_of composed_word copied_word fallback_word ticks picks stamped stream_of ins passed is_overfull latch entered taken routed_tick arrived_tick latest_number latest_by moves latest due_by sent fresh chosen_source reply outputs_of
 usable_source_before_fresh = refl
+
+-- ---- policed buses
+
+-- a policed bus whose streams have this jitter
+abbrev policed : ℕ → ℕ → TableRows
+policed queue jitter = record (small queue) {
+  buses = record { queue = queue; police = true; spacing = 350; first = 0; streams = 2; router = 0 } ∷ [];
+  streams = record { bus = 0; label = 131; sdi = None; minimum = 10; maximum = 20; jitter = jitter } ∷ record { bus = 0; label = 132; sdi = None; minimum = 10; maximum = 20; jitter = jitter } ∷ [];
+}
+
+-- a second word at once is early, one of another stream is not, and it is judged before the latch and the full queue
+second_word_is_early : outputs_of (policed 1 0) (Arrive 0 0x600000C1 ∷ Arrive 0 0x600000C1 ∷ Arrive 0 0xE0000021 ∷ Arrive 0 0x600000C1 ∷ Arrive 0 0x200000C1 ∷ Arrive 0 0xE0000081 ∷ [])
+    ≡ Queued 1 ∷ TooEarly ∷ Overrun ∷ TooEarly ∷ BadParity ∷ Undeclared ∷ []
+unfolding would_pass admitted is_early count_in served_in first_place each_place reversed ones_in is_odd body_of composed_word copied_word fallback_word ticks picks stamped stream_of ins passed is_overfull latch entered taken routed_tick arrived_tick latest_number latest_by moves latest due_by sent fresh chosen_source reply outputs_of
+second_word_is_early = refl
+
+-- with a jitter of ten ticks the second is not early, and the third is
+third_word_is_early : outputs_of (policed 4 10) (Arrive 0 0x600000C1 ∷ Arrive 0 0x600000C1 ∷ Arrive 0 0x600000C1 ∷ [])
+    ≡ Queued 1 ∷ Queued 2 ∷ TooEarly ∷ []
+unfolding would_pass admitted is_early count_in served_in first_place each_place reversed ones_in is_odd body_of composed_word copied_word fallback_word ticks picks stamped stream_of ins passed is_overfull latch entered taken routed_tick arrived_tick latest_number latest_by moves latest due_by sent fresh chosen_source reply outputs_of
+third_word_is_early = refl
 
 -- ---- steady runs
 

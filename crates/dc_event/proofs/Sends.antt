@@ -7,14 +7,14 @@ use Rattle.std.proofs.lemmas.Grind.{flat_map-append}
 use Rattle.std.proofs.lemmas.Bool.{cases_lt, lt-ltb, le-ltb}
 use Rattle.dc_bound.specs.Run.{picks, one_if}
 use Rattle.dc_bound.specs.Places.{each_place}
-use Rattle.dc_bound.specs.FirstPlaces.{each_place-push, snoc_induction}
+use Rattle.dc_bound.specs.lemmas.FirstPlaces.{each_place-push, snoc_induction}
 use Rattle.dc_tables.specs.TableRows.{TableRows, AreValid}
 use Rattle.dc_event.specs.Time.{tick_after, send_of}
 use Rattle.dc_event.specs.Outputs.{due_tick, due_by, sent}
 use Rattle.dc_event.specs.Steady.{each_below}
 use Rattle.dc_event.specs.Laws.{sent_entry, sent_entries, SendsInOrder, SendInOrder}
-use Rattle.dc_event.specs.RunPush.{tick-push, sent-push, sent-le, sent-other}
-use Rattle.dc_event.specs.OutputMoves.{due_by-due}
+use Rattle.dc_event.specs.lemmas.RunPush.{tick-push, sent-push, sent-le, sent-other}
+use Rattle.dc_event.specs.lemmas.OutputMoves.{due_by-due}
 use Rattle.dc_event.specs.declared.event.Event.{Event}
 use Rattle.dc_event.specs.declared.event.Event.TheVariants.{Tick, Arrive, Route, Send}
 

@@ -5,22 +5,22 @@ use Rattle.std.proofs.lemmas.Bool.{cases_lt, cases_eq, eq-eqb, ne_eqb}
 use Rattle.std.proofs.Math.Nat.{mul-le-mul_left, mul-mod_right, mod-lt}
 use Rattle.dc_bound.specs.Window.{HoldAtLeast, count_in, within, ticks_of}
 use Rattle.dc_bound.specs.Run.{ticks, picks, one_if, stamp, stamped}
-use Rattle.dc_bound.specs.Counts.{within_cases}
-use Rattle.dc_bound.specs.Budget.{pace_times}
-use Rattle.dc_bound.specs.Segments.{ticks-append, picks-append}
-use Rattle.dc_bound.specs.Steps.{stamped-append, ticks_of-append, count-append, stamped-count}
-use Rattle.dc_bound.specs.Queued.{ins-append, ins-count}
+use Rattle.dc_bound.specs.lemmas.Counts.{within_cases}
+use Rattle.dc_bound.specs.lemmas.Budget.{pace_times}
+use Rattle.dc_bound.specs.lemmas.Segments.{ticks-append, picks-append}
+use Rattle.dc_bound.specs.lemmas.Steps.{stamped-append, ticks_of-append, count-append, stamped-count}
+use Rattle.dc_bound.specs.lemmas.Queued.{ins-append, ins-count}
 use Rattle.dc_bound.specs.Moves.{move_ends, tag_of, ins}
 use Rattle.dc_bound.specs.Moves.Move.{Visit}
-use Rattle.dc_bound.specs.Sums.{with_tag}
+use Rattle.dc_bound.specs.Tags.{with_tag}
 use Rattle.dc_tables.specs.TableRows.{TableRows, AreValid, router_row, output_row, stream_row}
 use Rattle.dc_event.specs.Time.{ends, route_of, send_of}
 use Rattle.dc_event.specs.Buses.{visited_bus, move_of, moves, bus_arrivals, arrivals}
 use Rattle.dc_event.specs.Admissible.{IsNumbered, IsRun, KeepsSources, KeepsBudgets}
 use Rattle.dc_event.specs.Steady.{each_below, router_steps, output_steps, steady_tick, steady}
 use Rattle.dc_event.specs.Laws.{SteadyAdmissible, SteadyTicks}
-use Rattle.dc_event.specs.RunPush.{moves-push}
-use Rattle.dc_event.specs.RunMoves.{moves-nil}
+use Rattle.dc_event.specs.lemmas.RunPush.{moves-push}
+use Rattle.dc_event.specs.lemmas.RunMoves.{moves-nil}
 use Rattle.dc_event.specs.declared.event.Event.{Event}
 use Rattle.dc_event.specs.declared.event.Event.TheVariants.{Tick, Arrive, Route, Send}
 
@@ -421,8 +421,8 @@ empty-most u d xs e = ap (λ z. count_in u d (ticks_of z)) e
 
 steps-sources : (t : TableRows) (es : List Event) → AreSteps t es → KeepsSources t es
 steps-sources t es h = record {
-  streams_rest = λ s there u. omega (arith, empty-most u (stream_row t s).minimum (arrivals t s es) (ap (with_tag s) (steps-arrivals t (stream_row t s).bus es h)));
-  wires_rest = λ b there d some u. omega (arith, empty-most u d (bus_arrivals t b es) (steps-arrivals t b es h));
+  streams_rest = λ s there unpoliced d u. omega (arith, empty-most u d (arrivals t s es) (ap (with_tag s) (steps-arrivals t (stream_row t s).bus es h)));
+  wires_rest = λ b there unpoliced d some u. omega (arith, empty-most u d (bus_arrivals t b es) (steps-arrivals t b es h));
 }
 
 pub steady-admissible : (t : TableRows) → AreValid t → SteadyAdmissible t

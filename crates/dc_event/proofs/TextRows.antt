@@ -7,7 +7,7 @@ use Rattle.dc_bound.specs.Places.{served_in, first_place, each_place}
 use Rattle.dc_bound.specs.Moves.{ins, passed, is_overfull, latch, entered, taken, routed_tick, arrived_tick, latest_number, latest_by}
 use Rattle.dc_device.specs.Lines.{spelled}
 use Rattle.dc_word.specs.Word.{reversed, ones_in, is_odd, body_of, composed_word, copied_word, fallback_word}
-use Rattle.dc_tables.specs.Names.{padded}
+use Rattle.dc_parts.specs.Names.{padded}
 use Rattle.dc_tables.specs.TableKeys.{no_keys}
 use Rattle.dc_tables.specs.TableRows.{TableRows}
 use Rattle.dc_tables.specs.Declares.{stream_of}
@@ -20,7 +20,7 @@ use Rattle.dc_event.specs.WordText.{word_of}
 use Rattle.dc_event.specs.TraceText.{line_event, trace_of}
 use Rattle.dc_event.specs.ReplyText.{reply_line, run_lines}
 use Rattle.dc_event.specs.declared.event.Event.TheVariants.{Tick, Arrive, Route, Send}
-use Rattle.dc_event.specs.declared.trace.TraceCode.TheVariants.{E1, E2, E3, E4, E5, E6}
+use Rattle.dc_event.specs.declared.trace.LineRule.TheVariants.{LineTooLong, KindUnknown, FieldCountWrong, NameUnknown, NotAWord, LineNotEnded}
 use Rattle.dc_event.proofs.Rows.{small}
 
 -- the small tables with names
@@ -47,28 +47,28 @@ unfolding word_of line_event trace_of
 small_digits_are_read = refl
 
 limit_at_line_3 : trace_of (named 2) 4 (spelled (codes "T" ∷ codes "T" ∷ codes "T" ∷ []))
-    ≡ record { events = Tick ∷ Tick ∷ []; fault = Some (record { code = E1; line = 3 }) }
+    ≡ record { events = Tick ∷ Tick ∷ []; fault = Some (record { rule = LineTooLong; line = 3 }) }
 unfolding line_event trace_of
 limit_at_line_3 = refl
 
-empty_line_has_no_kind : trace_of (named 2) 1000 (spelled (codes "T" ∷ [] ∷ [])) ≡ record { events = Tick ∷ []; fault = Some (record { code = E2; line = 2 }) }
+empty_line_has_no_kind : trace_of (named 2) 1000 (spelled (codes "T" ∷ [] ∷ [])) ≡ record { events = Tick ∷ []; fault = Some (record { rule = KindUnknown; line = 2 }) }
 unfolding line_event trace_of
 empty_line_has_no_kind = refl
 
-two_spaces_make_a_field : trace_of (named 2) 1000 (spelled (codes "R  R1" ∷ [])) ≡ record { events = []; fault = Some (record { code = E3; line = 1 }) }
+two_spaces_make_a_field : trace_of (named 2) 1000 (spelled (codes "R  R1" ∷ [])) ≡ record { events = []; fault = Some (record { rule = FieldCountWrong; line = 1 }) }
 unfolding line_event trace_of
 two_spaces_make_a_field = refl
 
-a_router_is_no_bus : trace_of (named 2) 1000 (spelled (codes "A R1 600000C" ∷ [])) ≡ record { events = []; fault = Some (record { code = E4; line = 1 }) }
+a_router_is_no_bus : trace_of (named 2) 1000 (spelled (codes "A R1 600000C" ∷ [])) ≡ record { events = []; fault = Some (record { rule = NameUnknown; line = 1 }) }
 unfolding word_of line_event trace_of
 a_router_is_no_bus = refl
 
-seven_digits_are_no_word : trace_of (named 2) 1000 (spelled (codes "A A 600000C" ∷ [])) ≡ record { events = []; fault = Some (record { code = E5; line = 1 }) }
+seven_digits_are_no_word : trace_of (named 2) 1000 (spelled (codes "A A 600000C" ∷ [])) ≡ record { events = []; fault = Some (record { rule = NotAWord; line = 1 }) }
 unfolding word_of line_event trace_of
 seven_digits_are_no_word = refl
 
 end_inside_a_line : trace_of (named 2) 1000 (spelled (codes "A A 600000C1" ∷ codes "R R1" ∷ codes "S O" ∷ []) ++ codes "S")
-    ≡ record { events = Arrive 0 0x600000C1 ∷ Route 0 ∷ Send 0 ∷ []; fault = Some (record { code = E6; line = 4 }) }
+    ≡ record { events = Arrive 0 0x600000C1 ∷ Route 0 ∷ Send 0 ∷ []; fault = Some (record { rule = LineNotEnded; line = 4 }) }
 unfolding word_of line_event trace_of
 end_inside_a_line = refl
 

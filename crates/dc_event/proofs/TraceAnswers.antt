@@ -2,11 +2,11 @@
 use Rattle.std.proofs.Common.{◌≡◌, ◌≢◌, ℕ, ◌+◌, ◌-◌, ◌<◌, ◌≤◌, ◌||◌, List, [], ◌∷◌, ◌++◌, length, length-append, add-zero, refl, sym, ◌∙◌, ap, append_assoc, arith, Bool, true, false, nat_lt, ◌⊎◌, inl, inr, Some, None}
 use Rattle.std.proofs.lemmas.Bool.Decides.{eqb_tells, nat_tests}
 use Rattle.dc_device.specs.Lines.{Held, NoFeed, lines_of, onto_first}
-use Rattle.dc_device.proofs.LineLemmas.{NoFeed-push, lines_of_front, lines_of_rest, lines_of_whole}
+use Rattle.dc_device.specs.lemmas.LineLemmas.{NoFeed-push, lines_of_front, lines_of_rest, lines_of_whole}
 use Rattle.dc_tables.specs.TableRows.{TableRows}
 use Rattle.dc_event.specs.TraceText.{ended_by, faulty, in_front, line_event, too_long, trace_lines, trace_of}
 use Rattle.dc_event.specs.Reading.{Reading, ahead, trace_from}
-use Rattle.dc_event.specs.declared.trace.TraceCode.TheVariants.{E1}
+use Rattle.dc_event.specs.declared.trace.LineRule.TheVariants.{LineTooLong}
 
 within : (n m : ℕ) → n ≤ m → nat_lt m n ≡ false
 within n m h = grind (arith, nat_tests)
@@ -40,7 +40,7 @@ trace_cut t room number line plain short fits =
 
 -- a byte past a limit
 long_lines : (t : TableRows) (room number : ℕ) (front : List ℕ) → (room < length front) ⊎ (64 < length front) → (ls : List (List ℕ)) (rest : List ℕ)
-    → (let lines = onto_first front ls rest in trace_lines t room number lines.0 lines.1) ≡ faulty E1 number
+    → (let lines = onto_first front ls rest in trace_lines t room number lines.0 lines.1) ≡ faulty LineTooLong number
 long_lines t room number front (inl h) [] rest =
     let p : room < length (front ++ rest) = omega (arith, length-append front rest) in
     rw (is_long room (length (front ++ rest)) (length (front ++ rest)) (inl p)) refl
@@ -55,18 +55,18 @@ long_lines t room number front (inr h) (l ∷ ls) rest =
     rw (is_long room (length (front ++ l)) (length (front ++ l) + 1) (inr p)) refl
 
 past : (t : TableRows) (room number : ℕ) (front rest : List ℕ) → NoFeed front → (room < length front) ⊎ (64 < length front)
-    → trace_from t room number (front ++ rest) ≡ faulty E1 number
+    → trace_from t room number (front ++ rest) ≡ faulty LineTooLong number
 past t room number front rest plain h =
     rw (lines_of_front front rest plain) (long_lines t room number front h (lines_of rest).0 (lines_of rest).1)
 
 no_room : (t : TableRows) (room number : ℕ) (line rest : List ℕ) → NoFeed line → length line ≡ room
-    → trace_from t room number (line ++ 10 ∷ rest) ≡ faulty E1 number
+    → trace_from t room number (line ++ 10 ∷ rest) ≡ faulty LineTooLong number
 no_room t room number line rest plain h =
     let p : room < length line + 1 = omega arith in
     rw (lines_of_whole line rest plain, is_long room (length line) (length line + 1) (inl p)) refl
 
 pub trace_long : (t : TableRows) (room number : ℕ) (line : List ℕ) (b : ℕ) (rest : List ℕ) → NoFeed line
-    → (length line ≡ room) ⊎ ((b ≢ 10) × (length line ≡ 64)) → trace_from t room number (line ++ b ∷ rest) ≡ faulty E1 number
+    → (length line ≡ room) ⊎ ((b ≢ 10) × (length line ≡ 64)) → trace_from t room number (line ++ b ∷ rest) ≡ faulty LineTooLong number
 trace_long t room number line b rest plain (inr (other, h)) =
     let p : 64 < length (line ++ b ∷ []) = omega (arith, length-append line (b ∷ [])) in
     ap (trace_from t room number) (sym (append_assoc line (b ∷ []) rest))

@@ -13,9 +13,9 @@ steps None n = n + 1
 steps (Some stop) n = 0
 
 -- a reader that had stopped is as it was
-abbrev pub Again : Option TraceStop → Reading → Reading → Option (List ℕ) → Option (List ℕ) → Type 0
-Again None old new from to = Unit {0}
-Again (Some stop) old new from to = (new ≡ old) × (to ≡ from)
+abbrev pub Again : Option TraceStop → Reading → Reading → Option (List ℕ) → Option (List ℕ) → ℕ → ℕ → ℕ → ℕ → Type 0
+Again None old new from to asked asked' dry dry' = Unit {0}
+Again (Some stop) old new from to asked asked' dry dry' = (new ≡ old) × (to ≡ from) × (asked' ≡ asked) × (dry' ≡ dry)
 
 pub Stays-trans : (a b c : Option Trace) → Stays a b → Stays b c → Stays a c
 Stays-trans None b c p q = tt

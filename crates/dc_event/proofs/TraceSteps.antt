@@ -4,14 +4,14 @@ use Rattle.std.proofs.Math.Seq.{drop-append-add}
 use Rattle.std.specs.Io.KnownBytes.{IsAtEnd, Keeps}
 use Rattle.dc_device.specs.Lines.{Held, HoldsLine, NoFeed, ReadsOn}
 use Rattle.dc_device.specs.declared.reader.Part.TheVariants.{Long, Whole}
-use Rattle.dc_device.proofs.LineLemmas.{NoFeed-append}
+use Rattle.dc_device.specs.lemmas.LineLemmas.{NoFeed-append}
 use Rattle.dc_tables.specs.TableRows.{TableRows}
 use Rattle.dc_event.specs.TraceText.{Trace, ended_by, in_front, line_event}
 use Rattle.dc_event.specs.ReadingFits.{Fits}
 use Rattle.dc_event.specs.Reading.{IsOver, Reading, ReadsNext, Stays, Tells, TellsEvent, ahead, no_more, stop_behind, told_from, trace_from}
 use Rattle.dc_event.specs.declared.event.Event.{Event}
-use Rattle.dc_event.specs.declared.trace.TraceCode.{TraceCode}
-use Rattle.dc_event.specs.declared.trace.TraceCode.TheVariants.{E1}
+use Rattle.dc_event.specs.declared.trace.LineRule.{LineRule}
+use Rattle.dc_event.specs.declared.trace.LineRule.TheVariants.{LineTooLong}
 use Rattle.dc_event.specs.declared.trace.TraceStop.{TraceStop}
 use Rattle.dc_event.specs.declared.trace.TraceStop.TheVariants.{Fault}
 use Rattle.dc_event.proofs.TraceAnswers.{trace_cut, trace_long, trace_whole}
@@ -26,7 +26,7 @@ past_limit line line' front room b e (inr (other, h)) = inr (other, ap length (s
 
 -- a byte past a limit
 long_text : (t : TableRows) (line line' : List ℕ) (old new : Held) (number : ℕ) (xs : List ℕ) → NoFeed line → ReadsOn old new line line' (Some Long)
-    → trace_from t (old.room + length line) number ((line ++ old.bytes) ++ xs) ≡ no_more (Some (record { code = E1; line = number }))
+    → trace_from t (old.room + length line) number ((line ++ old.bytes) ++ xs) ≡ no_more (Some (record { rule = LineTooLong; line = number }))
 long_text t line line' old new number xs plain (front, byte, back, e, f, more, limit) =
     let whole : (line ++ old.bytes) ++ xs ≡ (line ++ front) ++ byte ∷ (back ++ xs) = ap (λ l. (line ++ l) ++ xs) e ∙ split_rest line front back xs byte in
     ap (trace_from t (old.room + length line) number) whole
@@ -34,7 +34,7 @@ long_text t line line' old new number xs plain (front, byte, back, e, f, more, l
 
 pub long_tells : (stopped : Option TraceStop) (t : TableRows) (line line' : List ℕ) (old new : Held) (number : ℕ) (coming : Option (List ℕ)) → stopped ≡ None → NoFeed line
     → ReadsOn old new line line' (Some Long)
-    → (let r : Reading = record { tables = t; line = line; held = old.bytes; room = old.room; number = number; stopped = stopped } in IsOver (ahead r coming) (Some (record { code = E1; line = number })))
+    → (let r : Reading = record { tables = t; line = line; held = old.bytes; room = old.room; number = number; stopped = stopped } in IsOver (ahead r coming) (Some (record { rule = LineTooLong; line = number })))
 long_tells stopped t line line' old new number None runs plain reads = tt
 long_tells stopped t line line' old new number (Some xs) runs plain reads = rw runs (long_text t line line' old new number xs plain reads)
 
@@ -50,11 +50,11 @@ whole_text t line line' old new number xs plain (front, e, f, more, room) short 
     ∙ trace_whole t (old.room + length line) number line' (new.bytes ++ xs) plain' short fits
     ∙ ap (λ n. in_front number (line_event t line') (trace_from t n (number + 1) (new.bytes ++ xs))) left_room
 
-pub refused_tells : (stopped : Option TraceStop) (t : TableRows) (line line' : List ℕ) (old new : Held) (number : ℕ) (code : TraceCode) (coming : Option (List ℕ)) → stopped ≡ None → NoFeed line
-    → ReadsOn old new line line' (Some Whole) → length line' ≤ 64 → line_event t line' ≡ Err code
-    → (let r : Reading = record { tables = t; line = line; held = old.bytes; room = old.room; number = number; stopped = stopped } in IsOver (ahead r coming) (Some (record { code = code; line = number })))
-refused_tells stopped t line line' old new number code None runs plain reads short is = tt
-refused_tells stopped t line line' old new number code (Some xs) runs plain reads short is =
+pub refused_tells : (stopped : Option TraceStop) (t : TableRows) (line line' : List ℕ) (old new : Held) (number : ℕ) (rule : LineRule) (coming : Option (List ℕ)) → stopped ≡ None → NoFeed line
+    → ReadsOn old new line line' (Some Whole) → length line' ≤ 64 → line_event t line' ≡ Err rule
+    → (let r : Reading = record { tables = t; line = line; held = old.bytes; room = old.room; number = number; stopped = stopped } in IsOver (ahead r coming) (Some (record { rule = rule; line = number })))
+refused_tells stopped t line line' old new number rule None runs plain reads short is = tt
+refused_tells stopped t line line' old new number rule (Some xs) runs plain reads short is =
     let later = trace_from t new.room (number + 1) (new.bytes ++ xs) in
     rw runs (whole_text t line line' old new number xs plain reads short ∙ ap (λ e. in_front number e later) is)
 
@@ -95,18 +95,18 @@ abbrev parts : TableRows → List ℕ → Held → ℕ → Option TraceStop → 
 parts t line held number stopped = record { tables = t; line = line; held = held.bytes; room = held.room; number = number; stopped = stopped }
 
 pub long_told : (now : Reading) (stopped : Option TraceStop) (t : TableRows) (line line' : List ℕ) (old new : Held) (number : ℕ) (coming : Option (List ℕ)) (later : Option Trace) (stop : TraceStop)
-    → parts t line old number stopped ≡ now → stop ≡ Fault (record { code = E1; line = number }) → stopped ≡ None → Fits stopped line old.room number
+    → parts t line old number stopped ≡ now → stop ≡ Fault (record { rule = LineTooLong; line = number }) → stopped ≡ None → Fits stopped line old.room number
     → ReadsOn old new line line' (Some Long) → Tells (ahead now coming) later (Err stop)
 long_told now stopped t line line' old new number coming later stop view is runs fits reads =
     let (plain, small) = rw runs at fits in
     rw (is, ← view) (long_tells stopped t line line' old new number coming runs plain reads)
 
-pub refused_told : (now : Reading) (stopped : Option TraceStop) (t : TableRows) (line line' : List ℕ) (old new : Held) (number : ℕ) (code : TraceCode) (coming : Option (List ℕ)) (later : Option Trace) (stop : TraceStop)
-    → parts t line old number stopped ≡ now → stop ≡ Fault (record { code = code; line = number }) → stopped ≡ None → Fits stopped line old.room number
-    → ReadsOn old new line line' (Some Whole) → length line' ≤ 64 → line_event t line' ≡ Err code → Tells (ahead now coming) later (Err stop)
-refused_told now stopped t line line' old new number code coming later stop view is runs fits reads short event =
+pub refused_told : (now : Reading) (stopped : Option TraceStop) (t : TableRows) (line line' : List ℕ) (old new : Held) (number : ℕ) (rule : LineRule) (coming : Option (List ℕ)) (later : Option Trace) (stop : TraceStop)
+    → parts t line old number stopped ≡ now → stop ≡ Fault (record { rule = rule; line = number }) → stopped ≡ None → Fits stopped line old.room number
+    → ReadsOn old new line line' (Some Whole) → length line' ≤ 64 → line_event t line' ≡ Err rule → Tells (ahead now coming) later (Err stop)
+refused_told now stopped t line line' old new number rule coming later stop view is runs fits reads short event =
     let (plain, small) = rw runs at fits in
-    rw (is, ← view) (refused_tells stopped t line line' old new number code coming runs plain reads short event)
+    rw (is, ← view) (refused_tells stopped t line line' old new number rule coming runs plain reads short event)
 
 pub event_told : (now : Reading) (stopped : Option TraceStop) (t : TableRows) (line line' empty : List ℕ) (old new : Held) (number : ℕ) (event : Event) (coming : Option (List ℕ))
     → parts t line old number stopped ≡ now → stopped ≡ None → Fits stopped line old.room number
@@ -118,7 +118,7 @@ event_told now stopped t line line' empty old new number event coming view runs 
 
 -- ---- the same, by what the next line says
 
-pub next_event_told : (now : Reading) (stopped : Option TraceStop) (t : TableRows) (line line' : List ℕ) (old new : Held) (number : ℕ) (event : Event) (read : Result Event TraceCode) (coming : Option (List ℕ))
+pub next_event_told : (now : Reading) (stopped : Option TraceStop) (t : TableRows) (line line' : List ℕ) (old new : Held) (number : ℕ) (event : Event) (read : Result Event LineRule) (coming : Option (List ℕ))
     → parts t line old number stopped ≡ now → stopped ≡ None → Fits stopped line old.room number
     → ReadsNext t old new line line' (Some read) → read ≡ Ok event
     → TellsEvent (ahead now coming) (ahead (parts t line' new (number + 1) stopped) coming) event
@@ -126,17 +126,17 @@ next_event_told now stopped t line line' old new number event read coming view r
 next_event_told now stopped t line line' old new number event read coming view runs fits (inr (whole, reads, short, says, none)) is =
     event_told now stopped t line whole line' old new number event coming view runs fits reads short (sym says ∙ is) none
 
-pub next_refused_told : (now : Reading) (stopped : Option TraceStop) (t : TableRows) (line line' : List ℕ) (old new : Held) (number : ℕ) (code : TraceCode) (read : Result Event TraceCode) (coming : Option (List ℕ)) (later : Option Trace) (stop : TraceStop)
-    → parts t line old number stopped ≡ now → stop ≡ Fault (record { code = code; line = number }) → stopped ≡ None → Fits stopped line old.room number
-    → ReadsNext t old new line line' (Some read) → read ≡ Err code → Tells (ahead now coming) later (Err stop)
-next_refused_told now stopped t line line' old new number code read coming later stop view stops runs fits (inl (reads, long)) is =
-    let same : code ≡ E1 = cc in
-    long_told now stopped t line line' old new number coming later stop view (stops ∙ ap (λ (x : TraceCode). Fault (record { code = x; line = number })) same) runs fits reads
-next_refused_told now stopped t line line' old new number code read coming later stop view stops runs fits (inr (whole, reads, short, says, none)) is =
-    refused_told now stopped t line whole old new number code coming later stop view stops runs fits reads short (sym says ∙ is)
+pub next_refused_told : (now : Reading) (stopped : Option TraceStop) (t : TableRows) (line line' : List ℕ) (old new : Held) (number : ℕ) (rule : LineRule) (read : Result Event LineRule) (coming : Option (List ℕ)) (later : Option Trace) (stop : TraceStop)
+    → parts t line old number stopped ≡ now → stop ≡ Fault (record { rule = rule; line = number }) → stopped ≡ None → Fits stopped line old.room number
+    → ReadsNext t old new line line' (Some read) → read ≡ Err rule → Tells (ahead now coming) later (Err stop)
+next_refused_told now stopped t line line' old new number rule read coming later stop view stops runs fits (inl (reads, long)) is =
+    let same : rule ≡ LineTooLong = cc in
+    long_told now stopped t line line' old new number coming later stop view (stops ∙ ap (λ (x : LineRule). Fault (record { rule = x; line = number })) same) runs fits reads
+next_refused_told now stopped t line line' old new number rule read coming later stop view stops runs fits (inr (whole, reads, short, says, none)) is =
+    refused_told now stopped t line whole old new number rule coming later stop view stops runs fits reads short (sym says ∙ is)
 
 -- a line that stands among the held bytes
-pub held_read : (t : TableRows) (old new : Held) (line whole : List ℕ) (read : Result Event TraceCode) → line ≡ [] → HoldsLine old whole
+pub held_read : (t : TableRows) (old new : Held) (line whole : List ℕ) (read : Result Event LineRule) → line ≡ [] → HoldsLine old whole
     → new.bytes ≡ drop (length whole + 1) old.bytes → (length whole + 1) + new.room ≡ old.room → read ≡ line_event t whole
     → ReadsNext t old new line line (Some read)
 held_read t old new line whole read none (rest, e, plain, short, fits) passed room says =

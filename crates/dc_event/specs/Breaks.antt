@@ -23,7 +23,7 @@ IsFirstBreak P run (Some n) = BreaksFirst P run n
 abbrev pub BreaksBudgetsAt : TableRows → List Event → Option ℕ → Type 0
 BreaksBudgetsAt t run place = IsFirstBreak (KeepsBudgets t) run place
 
--- the place at which a run first breaks the sources' minimum
+-- the place at which a run first breaks what is asked of the sources
 abbrev pub BreaksSourcesAt : TableRows → List Event → Option ℕ → Type 0
 BreaksSourcesAt t run place = IsFirstBreak (KeepsSources t) run place
 

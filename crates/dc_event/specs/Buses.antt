@@ -4,11 +4,12 @@ use Rattle.std.specs.List.{flat_map}
 use Rattle.dc_bound.specs.Places.{each_place}
 use Rattle.dc_bound.specs.Moves.{Move, entries, latch, entered, taken, item}
 use Rattle.dc_bound.specs.Moves.Move.{Tick as TickMove, In, Visit}
-use Rattle.dc_bound.specs.Sums.{with_tag}
+use Rattle.dc_bound.specs.Tags.{with_tag}
 use Rattle.dc_word.specs.Word.{is_odd}
 use Rattle.dc_tables.specs.Declares.{stream_of}
 use Rattle.dc_tables.specs.TableRows.{TableRows, bus_row, stream_row, visited}
 use Rattle.dc_event.specs.Time.{routes}
+use Rattle.dc_event.specs.Offers.{let_in}
 use Rattle.dc_event.specs.declared.event.Event.{Event}
 use Rattle.dc_event.specs.declared.event.Event.TheVariants.{Tick, Arrive, Route, Send}
 
@@ -22,10 +23,10 @@ in_of None w = []
 in_of (Some s) w = In (s, w) ∷ []
 
 -- What an event is to the bus, after the events of past; nothing, where it does not concern it. The one place that says what is an arrival:
--- a word of odd parity (2.3.4) whose label and SDI a stream of the bus declares
+-- a word of odd parity (2.3.4) whose label and SDI a stream of the bus declares, and that the bus does not refuse as early
 abbrev pub move_of : TableRows → ℕ → List Event → Event → List Move
 move_of t b past Tick = TickMove ∷ []
-move_of t b past (Arrive a w) = cond ((a == b) && is_odd w) (in_of (stream_of t b w) w) []
+move_of t b past (Arrive a w) = cond ((a == b) && is_odd w) (in_of (let_in t b past (stream_of t b w)) w) []
 move_of t b past (Route r) = cond (visited_bus t r past == b) (Visit ∷ []) []
 move_of t b past (Send o) = []
 

@@ -1,11 +1,14 @@
 -- Laws above the definitions of a run. Each is the contract of a function in `laws`.
-use Rattle.std.specs.Prelude.{◌≡◌, ℕ, ◌≤◌, ◌<◌, false, cond, ◌==◌, nat_lt, Option, List, [], ◌∷◌, ◌++◌, length, take, drop, map}
+use Rattle.std.specs.Prelude.{true, ◌≡◌, ℕ, ◌≤◌, ◌<◌, false, cond, ◌==◌, nat_lt, Option, List, [], ◌∷◌, ◌++◌, length, take, drop, map}
 use Rattle.std.specs.List.{All, flat_map}
 use Rattle.dc_bound.specs.Places.{each_place}
 use Rattle.dc_bound.specs.Moves.{arrived_tick, routed_tick}
-use Rattle.dc_tables.specs.TableRows.{TableRows}
+use Rattle.dc_bound.specs.Window.{ticks_of}
+use Rattle.dc_bound.specs.Early.{HoldsCap, admitted}
+use Rattle.dc_tables.specs.TableRows.{TableRows, stream_row, is_policed}
+use Rattle.dc_event.specs.Offers.{offered, cap_of}
 use Rattle.dc_event.specs.Time.{tick_after}
-use Rattle.dc_event.specs.Buses.{moves, room, is_latched, bus_entered, bus_taken, backlog}
+use Rattle.dc_event.specs.Buses.{arrivals, moves, room, is_latched, bus_entered, bus_taken, backlog}
 use Rattle.dc_event.specs.Outputs.{due_tick, sent}
 use Rattle.dc_event.specs.Replies.{outputs_of}
 use Rattle.dc_event.specs.Admissible.{IsAdmissible}
@@ -14,7 +17,7 @@ use Rattle.dc_event.specs.Steady.{each_below, steady}
 use Rattle.dc_event.specs.Breaks.{BreaksBudgetsAt, BreaksSourcesAt, BreaksClaimsAt}
 use Rattle.dc_event.specs.declared.event.Event.{Event}
 use Rattle.dc_event.specs.declared.event.Reply.{Reply}
-use Rattle.dc_event.specs.declared.event.Reply.TheVariants.{Queued, BadParity, Undeclared, Overrun, Latched, Took, Empty, Sent, Idle, Now}
+use Rattle.dc_event.specs.declared.event.Reply.TheVariants.{Queued, BadParity, Undeclared, TooEarly, Overrun, Latched, Took, Empty, Sent, Idle, Now}
 use Rattle.dc_event.specs.declared.event.Claim.{Claim}
 
 -- ---- queues
@@ -33,6 +36,7 @@ taken_word b (Took a w) = cond (a == b) (w ∷ []) []
 taken_word b (Queued n) = []
 taken_word b BadParity = []
 taken_word b Undeclared = []
+taken_word b TooEarly = []
 taken_word b Overrun = []
 taken_word b Latched = []
 taken_word b (Empty a) = []
@@ -68,6 +72,18 @@ AllEnter t = (b : ℕ) (run : List Event) → is_latched t b run ≡ false → m
 -- a routed word came no later than it was routed
 abbrev pub ComeBeforeRouted : TableRows → Type 0
 ComeBeforeRouted t = (b n : ℕ) (run : List Event) → n < bus_taken t b run → arrived_tick n (moves t b run) ≤ routed_tick (room t b) n (moves t b run)
+
+-- ---- policed buses
+
+-- of a stream of a policed bus the arrivals are its offered words that are not early, and keep its cap in any consecutive ticks, in every run;
+-- of another stream they are its offered words
+pub record PoliceWorks (t : TableRows) (s : ℕ) (run : List Event) : Type 0 where
+  pub admits : is_policed t (stream_row t s).bus ≡ true → ticks_of (arrivals t s run) ≡ admitted (cap_of t s) (offered t s run)
+  pub keeps : is_policed t (stream_row t s).bus ≡ true → HoldsCap (cap_of t s) (ticks_of (arrivals t s run))
+  pub others : is_policed t (stream_row t s).bus ≡ false → ticks_of (arrivals t s run) ≡ offered t s run
+
+abbrev pub PolicesEach : TableRows → Type 0
+PolicesEach t = (s : ℕ) → s < length t.streams → (run : List Event) → PoliceWorks t s run
 
 -- ---- replies
 
@@ -113,7 +129,7 @@ SteadyTicks t = (n : ℕ) → tick_after (steady t n) ≡ n
 
 -- ---- places
 
--- there is one place, at most, at which a run first breaks the budgets, the sources' minimum or the claims
+-- there is one place, at most, at which a run first breaks the budgets, what is asked of the sources, or the claims
 pub record OneFirstBreak (t : TableRows) (run : List Event) : Type 0 where
   pub of_budgets : (p q : Option ℕ) → BreaksBudgetsAt t run p → BreaksBudgetsAt t run q → p ≡ q
   pub of_sources : (p q : Option ℕ) → BreaksSourcesAt t run p → BreaksSourcesAt t run q → p ≡ q

@@ -1,4 +1,5 @@
 pub mod Time
+pub mod Offers
 pub mod Buses
 pub mod Latest
 pub mod Outputs
@@ -11,17 +12,13 @@ pub mod Claims
 pub mod ClaimNumber
 pub mod Breaks
 pub mod Steady
-pub mod Runs
 pub mod Works
-pub mod RunPush
-pub mod BudgetsPush
-pub mod RunMoves
-pub mod OutputMoves
 pub mod Laws
-pub mod Beginnings
 pub mod WordText
 pub mod TraceText
+pub mod TraceFaults
 pub mod ReplyText
-pub mod Arrivals
 pub mod Reading
 pub mod ReadingFits
+-- lemmas that laws and crates above cite
+pub mod lemmas

@@ -6,8 +6,8 @@ use Rattle.dc_device.specs.declared.reader.Part.TheVariants.{Long, Whole}
 use Rattle.dc_tables.specs.TableRows.{TableRows}
 use Rattle.dc_event.specs.TraceText.{Trace, line_event, trace_lines}
 use Rattle.dc_event.specs.declared.event.Event.{Event}
-use Rattle.dc_event.specs.declared.trace.TraceCode.{TraceCode}
-use Rattle.dc_event.specs.declared.trace.TraceCode.TheVariants.{E1, E6}
+use Rattle.dc_event.specs.declared.trace.LineRule.{LineRule}
+use Rattle.dc_event.specs.declared.trace.LineRule.TheVariants.{LineTooLong, LineNotEnded}
 use Rattle.dc_event.specs.declared.trace.TraceFault.{TraceFault}
 use Rattle.dc_event.specs.declared.trace.TraceStop.{TraceStop}
 use Rattle.dc_event.specs.declared.trace.TraceStop.TheVariants.{End, Fault, Broken}
@@ -77,10 +77,10 @@ NeedsMore old new = (old.stopped ≡ None) × (new.stopped ≡ None) × (new.hel
 
 -- What the next line says, with the bytes of it that were read before and those that are held: it goes on behind them
 -- (None); it is past a limit; or it is whole, and nothing is read yet of the line behind it.
-abbrev pub ReadsNext : TableRows → Held → Held → List ℕ → List ℕ → Option (Result Event TraceCode) → Type 0
+abbrev pub ReadsNext : TableRows → Held → Held → List ℕ → List ℕ → Option (Result Event LineRule) → Type 0
 ReadsNext t old new line line' None = ReadsOn old new line line' None
 ReadsNext t old new line line' (Some read) =
-    (ReadsOn old new line line' (Some Long) × (read ≡ Err E1))
+    (ReadsOn old new line line' (Some Long) × (read ≡ Err LineTooLong))
     ⊎ ((whole : List ℕ) × ReadsOn old new line whole (Some Whole) × (length whole ≤ 64) × (read ≡ line_event t whole) × (line' ≡ []))
 
 -- what a line tells: its event or its fault
@@ -98,7 +98,7 @@ stop_of (Err stop) = Some stop
 -- why a reader stops where the text ends behind these bytes of a line
 abbrev pub stop_behind : ℕ → List ℕ → TraceStop
 stop_behind number [] = End
-stop_behind number (c ∷ cs) = Fault (record { code = E6; line = number })
+stop_behind number (c ∷ cs) = Fault (record { rule = LineNotEnded; line = number })
 
 -- how many failures of the source a reader counts that stopped so
 abbrev pub failures_at : Option TraceStop → ℕ
@@ -107,11 +107,13 @@ failures_at (Some End) = 0
 failures_at (Some (Fault f)) = 0
 failures_at (Some Broken) = 1
 
--- a reader and its source: what the source has still to give, and how often it has failed
+-- a reader and its source: what the source has still to give, and how often it has failed, was pulled, and gave no byte
 pub record Reader : Type 0 where
   pub lines : Reading
   pub coming : Option (List ℕ)
   pub failed : ℕ
+  pub asked : ℕ
+  pub dry : ℕ
 
 -- the trace that a reader has still to tell
 abbrev pub left : Reader → Option Trace
@@ -126,3 +128,19 @@ new_failures (Some stop) new = 0
 abbrev pub waits : List ℕ → ℕ
 waits [] = 1
 waits (b ∷ bs) = 0
+
+-- how often a reader may still pull: once for each byte that the text may still have, and once more at its end
+abbrev pub pulls_left : Option TraceStop → ℕ → List ℕ → ℕ
+pulls_left None room held = room + waits held
+pulls_left (Some stop) room held = 0
+
+-- how many pulls may still give no byte
+abbrev pub dry_left : Option TraceStop → ℕ
+dry_left None = 1
+dry_left (Some stop) = 0
+
+-- A source was pulled no more often than the reader has less to pull, and behind a pull that gave no byte not again.
+abbrev pub AsksFor : Reading → Reading → ℕ → ℕ → ℕ → ℕ → Type 0
+AsksFor old new asked asked' dry dry' =
+    (asked' + pulls_left new.stopped new.room new.held ≤ asked + pulls_left old.stopped old.room old.held)
+    × (dry' + dry_left new.stopped ≤ dry + dry_left old.stopped)

@@ -5,20 +5,22 @@ use Rattle.dc_word.specs.Word.{is_odd}
 use Rattle.dc_tables.specs.Declares.{stream_of}
 use Rattle.dc_tables.specs.TableRows.{TableRows, label_row}
 use Rattle.dc_event.specs.Time.{tick_after}
+use Rattle.dc_event.specs.Offers.{refuses}
 use Rattle.dc_event.specs.Buses.{visited_bus, is_latched, bus_taken, bus_item, backlog}
 use Rattle.dc_event.specs.Outputs.{entry_label, sent}
 use Rattle.dc_event.specs.Choice.{chosen}
 use Rattle.dc_event.specs.declared.event.Event.{Event}
 use Rattle.dc_event.specs.declared.event.Event.TheVariants.{Tick, Arrive, Route, Send}
 use Rattle.dc_event.specs.declared.event.Reply.{Reply}
-use Rattle.dc_event.specs.declared.event.Reply.TheVariants.{Queued, BadParity, Undeclared, Overrun, Latched, Took, Empty, Sent, Idle, Now}
+use Rattle.dc_event.specs.declared.event.Reply.TheVariants.{Queued, BadParity, Undeclared, TooEarly, Overrun, Latched, Took, Empty, Sent, Idle, Now}
 
--- the first that applies: even parity, an undeclared word, a latched bus, a full queue; else the word is queued
+-- the first that applies: even parity, an undeclared word, a word that the bus refuses as early, a latched bus, a full queue; else the word is queued
 abbrev pub arrive_reply : TableRows → List Event → ℕ → ℕ → Reply
 arrive_reply t past b w =
     let now = past ++ Arrive b w ∷ [] in
     if not (is_odd w) then BadParity
     else if not (is_some (stream_of t b w)) then Undeclared
+    else if refuses t b past (stream_of t b w) then TooEarly
     else if is_latched t b past then Latched
     else if is_latched t b now then Overrun
     else Queued (backlog t b now)

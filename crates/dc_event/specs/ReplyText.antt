@@ -2,7 +2,7 @@
 use Rattle.std.specs.Prelude.{ℕ, Bool, true, false, ◌||◌, cond, List, [], ◌∷◌, ◌++◌, slice_index_or, codes, decimal}
 use Rattle.std.specs.List.{flat_map}
 use Rattle.dc_bound.specs.Places.{each_place}
-use Rattle.dc_tables.specs.Names.{text_of}
+use Rattle.dc_parts.specs.Names.{text_of}
 use Rattle.dc_tables.specs.TableRows.{TableRows}
 use Rattle.dc_event.specs.Time.{tick_after}
 use Rattle.dc_event.specs.Replies.{reply}
@@ -10,7 +10,7 @@ use Rattle.dc_event.specs.WordText.{eight_hex}
 use Rattle.dc_event.specs.declared.event.Event.{Event}
 use Rattle.dc_event.specs.declared.event.Event.TheVariants.{Tick, Arrive, Route, Send}
 use Rattle.dc_event.specs.declared.event.Reply.{Reply}
-use Rattle.dc_event.specs.declared.event.Reply.TheVariants.{Queued, BadParity, Undeclared, Overrun, Latched, Took, Empty, Sent, Idle, Now}
+use Rattle.dc_event.specs.declared.event.Reply.TheVariants.{Queued, BadParity, Undeclared, TooEarly, Overrun, Latched, Took, Empty, Sent, Idle, Now}
 
 -- the name of a row's number
 abbrev pub name_at : List (List ℕ) → ℕ → List ℕ
@@ -21,6 +21,7 @@ abbrev pub is_told : Reply → Bool
 is_told (Queued n) = false
 is_told BadParity = true
 is_told Undeclared = true
+is_told TooEarly = true
 is_told Overrun = true
 is_told Latched = true
 is_told (Took b w) = false
@@ -34,6 +35,7 @@ abbrev pub arrival_text : ℕ → Reply → List ℕ
 arrival_text w (Queued n) = codes " queued " ++ decimal n
 arrival_text w BadParity = codes " parity " ++ eight_hex w
 arrival_text w Undeclared = codes " undeclared " ++ eight_hex w
+arrival_text w TooEarly = codes " early " ++ eight_hex w
 arrival_text w Overrun = codes " overrun " ++ eight_hex w
 arrival_text w Latched = codes " latched " ++ eight_hex w
 arrival_text w _ = []

@@ -25,6 +25,8 @@ pub enum Reply {
     BadParity,
     /// No stream of the bus declares the word's label and SDI.
     Undeclared,
+    /// The bus is policed, and the word comes sooner than its stream's jitter lets it.
+    TooEarly,
     /// The queue was full: the word is lost, and the bus latches.
     Overrun,
     /// The bus has latched before: the word is lost.
@@ -78,18 +80,5 @@ impl Claim {
             Claim::LiveSource => 3,
             Claim::Interval => 4,
         }
-    }
-}
-
-#[cfg(test)]
-mod tests {
-    use super::*;
-
-    #[test]
-    fn claims_are_printed_by_number(rt: HostRuntime) {
-        assert_eq!(rt; Claim::NoOverrun.number(), 1);
-        assert_eq!(rt; Claim::DataAge.number(), 2);
-        assert_eq!(rt; Claim::LiveSource.number(), 3);
-        assert_eq!(rt; Claim::Interval.number(), 4);
     }
 }

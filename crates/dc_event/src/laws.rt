@@ -2,6 +2,7 @@
 //! tables and all runs.
 
 ghost use Rattle.dc_event.specs.Laws.{BacklogFits, IsFirstInFirstOut, QueuesGrow, AllEnter, ComeBeforeRouted};
+ghost use Rattle.dc_event.specs.Laws.{PolicesEach};
 ghost use Rattle.dc_event.specs.Laws.{RepliesStand, EachReplied, SendInOrder, BeginningsAdmissible};
 ghost use Rattle.dc_event.specs.Laws.{SteadyAdmissible, SteadyTicks, BreaksOnce};
 
@@ -31,6 +32,14 @@ pub fn all_enter(tables: &Tables)
 pub fn come_before_routed(tables: &Tables)
     ensures { ComeBeforeRouted tables.now }
 {}
+
+/// A policed bus lets in just the words that are not early, and they keep their streams' caps in every run; another bus
+/// lets in all.
+pub fn polices_each(tables: &Tables)
+    ensures { PolicesEach tables.now }
+{
+    tables.valid();
+}
 
 /// A reply never depends on what comes after it: the outputs of a beginning are the beginning of the outputs.
 pub fn replies_stand(tables: &Tables)
@@ -66,7 +75,7 @@ pub fn steady_ticks(tables: &Tables)
     ensures { SteadyTicks tables.now }
 {}
 
-/// A run first breaks its budgets, its sources' minimum or its claims at one place at most.
+/// A run first breaks its budgets, what is asked of its sources, or its claims at one place at most.
 pub fn breaks_once(tables: &Tables)
     ensures { BreaksOnce tables.now }
 {}

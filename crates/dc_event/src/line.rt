@@ -6,8 +6,9 @@ ghost use Rattle.dc_event.specs.WordText.{hex_value, word_of};
 
 use crate::event::Event;
 use crate::fields::Fields;
-use crate::trace::TraceCode;
-use dc_tables::{Name, Tables};
+use crate::trace::LineRule;
+use dc_parts::Name;
+use dc_tables::Tables;
 use dc_word::Word;
 
 // The value of a hexadecimal digit in either case.
@@ -70,77 +71,77 @@ fn output_named(tables: &Tables, text: &[u8]) -> Option<usize>
 }
 
 // Behind A: a bus and a word.
-fn read_arrive(tables: &Tables, fields: &mut Fields) -> Result<Event, TraceCode>
+fn read_arrive(tables: &Tables, fields: &mut Fields) -> Result<Event, LineRule>
     ensures { result ≡ arrive_fields tables.now fields.old }
 {
     let Some(bus) = fields.next() else {
-        return Err(TraceCode::E3);
+        return Err(LineRule::FieldCountWrong);
     };
     let Some(word) = fields.next() else {
-        return Err(TraceCode::E3);
+        return Err(LineRule::FieldCountWrong);
     };
     let None = fields.next() else {
-        return Err(TraceCode::E3);
+        return Err(LineRule::FieldCountWrong);
     };
     let Some(bus) = bus_named(tables, bus) else {
-        return Err(TraceCode::E4);
+        return Err(LineRule::NameUnknown);
     };
     let Some(word) = read_word(word) else {
-        return Err(TraceCode::E5);
+        return Err(LineRule::NotAWord);
     };
     Ok(Event::Arrive(bus, word))
 }
 
 // Behind R: a router.
-fn read_route(tables: &Tables, fields: &mut Fields) -> Result<Event, TraceCode>
+fn read_route(tables: &Tables, fields: &mut Fields) -> Result<Event, LineRule>
     ensures { result ≡ route_fields tables.now fields.old }
 {
     let Some(router) = fields.next() else {
-        return Err(TraceCode::E3);
+        return Err(LineRule::FieldCountWrong);
     };
     let None = fields.next() else {
-        return Err(TraceCode::E3);
+        return Err(LineRule::FieldCountWrong);
     };
     let Some(router) = router_named(tables, router) else {
-        return Err(TraceCode::E4);
+        return Err(LineRule::NameUnknown);
     };
     Ok(Event::Route(router))
 }
 
 // Behind S: an output.
-fn read_send(tables: &Tables, fields: &mut Fields) -> Result<Event, TraceCode>
+fn read_send(tables: &Tables, fields: &mut Fields) -> Result<Event, LineRule>
     ensures { result ≡ send_fields tables.now fields.old }
 {
     let Some(output) = fields.next() else {
-        return Err(TraceCode::E3);
+        return Err(LineRule::FieldCountWrong);
     };
     let None = fields.next() else {
-        return Err(TraceCode::E3);
+        return Err(LineRule::FieldCountWrong);
     };
     let Some(output) = output_named(tables, output) else {
-        return Err(TraceCode::E4);
+        return Err(LineRule::NameUnknown);
     };
     Ok(Event::Send(output))
 }
 
 // Behind T: nothing.
-fn read_tick(fields: &mut Fields) -> Result<Event, TraceCode>
+fn read_tick(fields: &mut Fields) -> Result<Event, LineRule>
     ensures { result ≡ tick_fields fields.old }
 {
     let None = fields.next() else {
-        return Err(TraceCode::E3);
+        return Err(LineRule::FieldCountWrong);
     };
     Ok(Event::Tick)
 }
 
 /// The event of a line of at most 64 bytes, or the code of its fault.
 #[tactic(auto, unfolding(crate::specs::TraceText::line_event))]
-pub fn read_line(tables: &Tables, line: &[u8]) -> Result<Event, TraceCode>
+pub fn read_line(tables: &Tables, line: &[u8]) -> Result<Event, LineRule>
     ensures { result ≡ line_event tables.now line.now }
 {
     let mut fields = Fields::of(line);
     let Some(kind) = fields.next() else {
-        return Err(TraceCode::E2);
+        return Err(LineRule::KindUnknown);
     };
     if is_letter(kind, b'A') {
         return read_arrive(tables, &mut fields);
@@ -154,5 +155,5 @@ pub fn read_line(tables: &Tables, line: &[u8]) -> Result<Event, TraceCode>
     if is_letter(kind, b'T') {
         return read_tick(&mut fields);
     }
-    Err(TraceCode::E2)
+    Err(LineRule::KindUnknown)
 }

@@ -1,29 +1,55 @@
 //! Why a trace is refused.
+ghost use Rattle.std.specs.Prelude.{◌≡◌, ◌≤◌, length};
+ghost use Rattle.dc_event.specs.TraceFaults.{line_rule_code};
 
 use thiserror::Error;
 
-/// Why a line of a trace is refused. For one line E1 comes first, then E6, then E2 to E5 in order.
-#[derive(Clone, Copy, Debug, PartialEq, Eq)]
-pub enum TraceCode {
-    /// The line has over 64 bytes, or the trace passes its limit.
-    E1,
-    /// The first field is not A, R, S or T.
-    E2,
-    /// The number of fields is not that of the kind.
-    E3,
-    /// The name is not in the tables.
-    E4,
-    /// The word is not eight hexadecimal digits.
-    E5,
-    /// The input ends inside a line that has at least one byte.
-    E6,
+/// The rules of a trace's lines, in the order of their codes. For one line `LineTooLong` comes first, then
+/// `LineNotEnded`, then the others in their order.
+#[derive(Clone, Copy, Debug, PartialEq, Eq, Error)]
+pub enum LineRule {
+    /// E1: the line has over 64 bytes, or the trace passes its limit.
+    #[error("the line has over 64 bytes, or the trace passes its limit")]
+    LineTooLong,
+    /// E2: the first field is not A, R, S or T.
+    #[error("the first field is not A, R, S or T")]
+    KindUnknown,
+    /// E3: the number of fields is not that of the kind.
+    #[error("the number of fields is not that of the kind")]
+    FieldCountWrong,
+    /// E4: the name is not in the tables.
+    #[error("the name is not in the tables")]
+    NameUnknown,
+    /// E5: the word is not eight hexadecimal digits.
+    #[error("the word is not eight hexadecimal digits")]
+    NotAWord,
+    /// E6: the input ends inside a line that has at least one byte.
+    #[error("the input ends inside a line")]
+    LineNotEnded,
+}
+
+impl LineRule {
+    /// The code as it is printed, as `E4`.
+    pub fn code(self) -> &'static str
+        ensures text { result.now ≡ line_rule_code self }
+        ensures short { length result.now ≤ 2 }
+    {
+        match self {
+            LineRule::LineTooLong => "E1",
+            LineRule::KindUnknown => "E2",
+            LineRule::FieldCountWrong => "E3",
+            LineRule::NameUnknown => "E4",
+            LineRule::NotAWord => "E5",
+            LineRule::LineNotEnded => "E6",
+        }
+    }
 }
 
 /// A refused line of a trace, counted from 1.
 #[derive(Clone, Copy, Debug, PartialEq, Eq, Error)]
-#[error("{code:?} at line {line}")]
+#[error("{rule} (at line {line})")]
 pub struct TraceFault {
-    pub code: TraceCode,
+    pub rule: LineRule,
     pub line: u64,
 }
 

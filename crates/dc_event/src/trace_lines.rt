@@ -1,20 +1,20 @@
 //! The events of a trace, in the bytes that are held of it.
-ghost use Rattle.std.specs.Prelude.{◌≡◌, ◌≢◌, ℕ, List, Option, [], ◌+◌, ◌^◌, ◌<◌, Some, None, IfSome, IfOk, MatchOption};
+ghost use Rattle.std.specs.Prelude.{◌≡◌, ◌≢◌, ℕ, List, Option, [], ◌+◌, ◌^◌, ◌<◌, Some, None, IfSome, IfOk, MatchOption, false};
 ghost use Rattle.dc_event.specs.TraceText.{trace_of};
-ghost use Rattle.dc_event.specs.Reading.{IsOfLine, NeedsMore, ReadsNext, Stays, Tells, ahead, at_start, failures_at, stop_behind, stop_of};
+ghost use Rattle.dc_event.specs.Reading.{AsksFor, IsOfLine, NeedsMore, ReadsNext, Stays, Tells, ahead, at_start, failures_at, stop_behind, stop_of};
 
 use crate::event::Event;
 use crate::line::read_line;
-use crate::trace::{TraceCode, TraceFault, TraceStop};
-use dc_device::{Line, LineReader, LineWriter, Part, Source};
+use crate::trace::{LineRule, TraceFault, TraceStop};
+use dc_device::{Line, LineReader, LineWriter, Part, Sink, Source};
 use dc_tables::Tables;
 use std::marker::Model;
 
 // A reader stops at this fault of a line.
-fn fault(code: TraceCode, line: u64) -> TraceStop
-    ensures { result ≡ TraceStop.Fault (record { code = code; line = line }) }
+fn fault(rule: LineRule, line: u64) -> TraceStop
+    ensures { result ≡ TraceStop.Fault (record { rule = rule; line = line }) }
 {
-    TraceStop::Fault(TraceFault { code, line })
+    TraceStop::Fault(TraceFault { rule, line })
 }
 
 // A text ended behind these bytes of a line.
@@ -23,7 +23,7 @@ fn end_inside(line: &[u8], number: u64) -> TraceStop
 {
     match line {
         [] => TraceStop::End,
-        _ => fault(TraceCode::E6, number),
+        _ => fault(LineRule::LineNotEnded, number),
     }
 }
 
@@ -33,7 +33,7 @@ fn read_next(
     tables: &Tables,
     reader: &mut LineReader,
     line: &mut Line,
-) -> Option<Result<Event, TraceCode>>
+) -> Option<Result<Event, LineRule>>
     ensures { ReadsNext tables.now reader.old reader.new line.old.items line.new.items result }
 {
     if line.is_empty() {
@@ -45,7 +45,7 @@ fn read_next(
         }
     }
     match reader.read_on(line)? {
-        Part::Long => Some(Err(TraceCode::E1)),
+        Part::Long => Some(Err(LineRule::LineTooLong)),
         Part::Whole => {
             let read = read_line(tables, line.as_slice());
             line.clear();
@@ -113,28 +113,30 @@ impl<'t> TraceLines<'t> {
                 self.number += 1;
                 Some(Ok(event))
             }
-            Err(code) => {
-                let refused = fault(code, self.number);
+            Err(rule) => {
+                let refused = fault(rule, self.number);
                 self.stopped = Some(refused);
                 Some(Err(refused))
             }
         }
     }
 
-    /// Pulls the next bytes, where none is held. What was written must not wait any more: who reads the answers sees
-    /// each before the source is asked again. Where nothing came, `advance` tells why.
-    pub fn pull<S: Source>(&mut self, source: &mut S, written: &LineWriter)
+    /// Pulls the next bytes, where none is held. What was written must not wait any more, nor be hidden: who reads the
+    /// answers sees each before the source is asked again. Where nothing came, `advance` tells why.
+    pub fn pull<S: Source, K: Sink>(&mut self, source: &mut S, written: &LineWriter, sink: &K)
         requires read { self.old.held ≡ [] }
         requires runs { self.old.stopped ≡ None }
         requires seen { written.now ≡ [] }
+        requires shown { K.hidden sink.now ≡ false }
         requires countable { S.failed source.old + 1 < 2 ^ 64 }
         ensures kept { Stays (ahead self.old (S.remaining source.old)) (ahead self.new (S.remaining source.new)) }
         ensures came { self.new.stopped ≡ None → self.new.held ≢ [] }
         ensures room { self.new.room ≡ self.old.room }
         ensures tables { self.new.tables ≡ self.old.tables }
         ensures count { S.failed source.new ≡ S.failed source.old + failures_at self.new.stopped }
+        ensures asks { AsksFor self.old self.new (S.asked source.old) (S.asked source.new) (S.dry source.old) (S.dry source.new) }
     {
-        match self.reader.fill(source, written) {
+        match self.reader.fill(source, written, sink) {
             Ok(true) => {}
             Ok(false) => self.stopped = Some(end_inside(self.line.as_slice(), self.number)),
             Err(_) => self.stopped = Some(TraceStop::Broken),

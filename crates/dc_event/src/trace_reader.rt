@@ -1,12 +1,12 @@
 //! The events of a trace, from its source.
-ghost use Rattle.std.specs.Prelude.{◌≡◌, ◌≢◌, [], ◌+◌, ◌^◌, ◌<◌, Some, None, IfSome, option_map};
+ghost use Rattle.std.specs.Prelude.{◌≡◌, ◌≢◌, [], ◌+◌, ◌^◌, ◌<◌, ◌≤◌, Some, None, IfSome, option_map};
 ghost use Rattle.dc_event.specs.TraceText.{trace_of};
-ghost use Rattle.dc_event.specs.Reading.{Stays, Tells, ahead, at_start, failures_at, left, new_failures, stop_of};
+ghost use Rattle.dc_event.specs.Reading.{AsksFor, Stays, Tells, ahead, at_start, failures_at, left, new_failures, stop_of};
 
 use crate::event::Event;
 use crate::trace::TraceStop;
 use crate::trace_lines::TraceLines;
-use dc_device::{LineWriter, Source};
+use dc_device::{LineWriter, Nowhere, Source};
 use dc_tables::Tables;
 use std::marker::Model;
 
@@ -25,7 +25,7 @@ impl<'t, S: Source + Drop> Model for TraceReader<'t, S> {
 
     ghost Value = { Reader };
 
-    ghost view = { λ r. record { lines = r.lines; coming = S.remaining r.source; failed = S.failed r.source } };
+    ghost view = { λ r. record { lines = r.lines; coming = S.remaining r.source; failed = S.failed r.source; asked = S.asked r.source; dry = S.dry r.source } };
 }
 
 // Pulls for a reader whose owner writes nothing.
@@ -38,9 +38,10 @@ fn pull_unwatched<S: Source>(lines: &mut TraceLines, source: &mut S)
     ensures room { lines.new.room ≡ lines.old.room }
     ensures tables { lines.new.tables ≡ lines.old.tables }
     ensures count { S.failed source.new ≡ S.failed source.old + failures_at lines.new.stopped }
+    ensures asks { AsksFor lines.old lines.new (S.asked source.old) (S.asked source.new) (S.dry source.old) (S.dry source.new) }
 {
     let nothing = LineWriter::new();
-    lines.pull(source, &nothing);
+    lines.pull(source, &nothing, &Nowhere);
 }
 
 impl<'t, S: Source + Drop> TraceReader<'t, S> {
@@ -49,6 +50,8 @@ impl<'t, S: Source + Drop> TraceReader<'t, S> {
         ensures start { result.lines ≡ at_start tables.now 1073741824 }
         ensures trace { left result ≡ option_map (λ text. trace_of tables.now 1073741824 text) (S.remaining source) }
         ensures failed { result.failed ≡ S.failed source }
+        ensures asked { result.asked ≡ S.asked source }
+        ensures dry { result.dry ≡ S.dry source }
     {
         TraceReader::limited(tables, source, TRACE_LIMIT)
     }
@@ -59,6 +62,8 @@ impl<'t, S: Source + Drop> TraceReader<'t, S> {
         ensures start { result.lines ≡ at_start tables.now bytes }
         ensures trace { left result ≡ option_map (λ text. trace_of tables.now bytes text) (S.remaining source) }
         ensures failed { result.failed ≡ S.failed source }
+        ensures asked { result.asked ≡ S.asked source }
+        ensures dry { result.dry ≡ S.dry source }
     {
         TraceReader {
             lines: TraceLines::new(tables, bytes),
@@ -67,7 +72,8 @@ impl<'t, S: Source + Drop> TraceReader<'t, S> {
     }
 
     /// Tells the next event, or why there is none: the text ended, a line is refused, or the source failed. Once it told
-    /// why there is none, it tells that same from then on. It pulls only where the held bytes end before the line does.
+    /// why there is none, it tells that same from then on. It pulls only where the held bytes end before the line does: in
+    /// all its calls at most once more than the trace may have bytes, and not again behind a pull that gave none.
     pub fn next(&mut self) -> Result<Event, TraceStop>
         requires { self.old.failed + 1 < 2 ^ 64 }
         ensures told { Tells (left self.old) (left self.new) result }
@@ -75,6 +81,7 @@ impl<'t, S: Source + Drop> TraceReader<'t, S> {
         ensures stopped { self.new.lines.stopped ≡ stop_of result }
         ensures count { self.new.failed ≡ self.old.failed + new_failures self.old.lines.stopped self.new.lines.stopped }
         ensures tables { self.new.lines.tables ≡ self.old.lines.tables }
+        ensures asks { AsksFor self.old.lines self.new.lines self.old.asked self.new.asked self.old.dry self.new.dry }
     {
         loop {
             match self.lines.advance() {

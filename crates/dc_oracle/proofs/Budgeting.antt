@@ -4,12 +4,12 @@ use Rattle.std.proofs.lemmas.List.{get_or-set_same, get_or-set_other}
 use Rattle.std.proofs.lemmas.Bool.{cases_eq, ne_eqb}
 use Rattle.dc_bound.specs.Window.{HoldAtMost, count_in, ticks_of}
 use Rattle.dc_bound.specs.Run.{ticks, stamped}
-use Rattle.dc_bound.specs.Recent.{recent, most_push}
+use Rattle.dc_bound.specs.lemmas.Recent.{recent, most_push}
 use Rattle.dc_tables.specs.TableRows.{TableRows, AreValid, router_row, output_row}
 use Rattle.dc_event.specs.Time.{ends, tick_after, route_of, send_of, route_ticks, send_ticks}
 use Rattle.dc_event.specs.Admissible.{KeepsBudgets}
-use Rattle.dc_event.specs.RunPush.{tick-push, ticks-other, ticks-step, steps-none_later}
-use Rattle.dc_event.specs.BudgetsPush.{rest-same, calm, keeps-step, keeps-tick, tick-works_router, tick-works_output}
+use Rattle.dc_event.specs.lemmas.RunPush.{tick-push, ticks-other, ticks-step, steps-none_later}
+use Rattle.dc_event.specs.lemmas.BudgetsPush.{rest-same, calm, keeps-step, keeps-tick, tick-works_router, tick-works_output}
 use Rattle.dc_event.specs.Works.{Works}
 use Rattle.dc_event.specs.declared.event.Event.{Event}
 use Rattle.dc_event.specs.declared.event.Event.TheVariants.{Tick, Route, Send}

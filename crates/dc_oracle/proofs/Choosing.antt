@@ -28,11 +28,14 @@ all_same : (f g : ℕ → List (ℕ × ℕ)) (xs : List ℕ) → ((k : ℕ) → 
 all_same f g [] h = refl
 all_same f g (x ∷ xs) h = ap (λ l. l ++ flat_map f xs) (h 0 (omega arith)) ∙ ap (λ l. g x ++ l) (all_same f g xs (λ k l. h (suc k) (omega arith)))
 
-pub chosen-is : (t : TableRows) (w : ReplyWatch) (run : List Event) (x : ℕ) → AreValid t → x < length t.labels → Holds t w run → word_for t x (choice t x (all_fresh t w x (label_row t x).sources)) ≡ chosen t x run
+pub choice-is : (t : TableRows) (w : ReplyWatch) (run : List Event) (x : ℕ) → AreValid t → x < length t.labels → Holds t w run → choice t x (all_fresh t w x (label_row t x).sources) ≡ chosen_source t x run
 unfolding chosen_source all_fresh
-chosen-is t w run x v there h =
-    ap (λ cs. word_for t x (choice t x cs)) (all_same (fresh_now t w x) (fresh t x run) (label_row t x).sources
+choice-is t w run x v there h =
+    ap (λ cs. choice t x cs) (all_same (fresh_now t w x) (fresh t x run) (label_row t x).sources
     (λ k l. fresh-is t w run x (get_or (label_row t x).sources k 0) h (v.sources_there x k there l) (v.streams_on_buses (get_or (label_row t x).sources k 0) (v.sources_there x k there l))))
+
+pub chosen-is : (t : TableRows) (w : ReplyWatch) (run : List Event) (x : ℕ) → AreValid t → x < length t.labels → Holds t w run → word_for t x (choice t x (all_fresh t w x (label_row t x).sources)) ≡ chosen t x run
+chosen-is t w run x v there h = ap (word_for t x) (choice-is t w run x v there h)
 
 -- ---- the first that is asked for, source by source
 

@@ -3,14 +3,15 @@ use Rattle.std.proofs.Common.{◌≡◌, ℕ, ◌+◌, ◌≤◌, ◌<◌, List,
 use Rattle.std.specs.Prelude.{IfOk, Ok, Err}
 use Rattle.std.specs.declared.result.Result.{Result}
 use Rattle.std.proofs.lemmas.List.{take_more}
-use Rattle.dc_bound.specs.Dues.{ascending_ge}
-use Rattle.dc_bound.specs.Due.{due, due_ascend}
+use Rattle.dc_bound.specs.lemmas.Dues.{ascending_ge}
+use Rattle.dc_bound.specs.Frame.{due}
+use Rattle.dc_bound.specs.lemmas.Due.{due_ascend}
 use Rattle.dc_bound.specs.Places.{each_place}
 use Rattle.dc_tables.specs.TableRows.{TableRows, AreValid, output_row, offsets}
 use Rattle.dc_event.specs.Outputs.{due_tick}
-use Rattle.dc_event.specs.OutputMoves.{due_tick-is, offsets_fit}
+use Rattle.dc_event.specs.lemmas.OutputMoves.{due_tick-is, offsets_fit}
 use Rattle.dc_event.specs.Replies.{reply, outputs_of}
-use Rattle.dc_event.specs.RunPush.{outputs_of-push}
+use Rattle.dc_event.specs.lemmas.RunPush.{outputs_of-push}
 use Rattle.dc_event.specs.declared.event.Event.{Event}
 use Rattle.dc_event.specs.declared.event.Reply.{Reply}
 

@@ -4,10 +4,10 @@ use Rattle.std.specs.Prelude.{not}
 use Rattle.std.proofs.lemmas.Bool.{cases_lt, lt-ltb, le-ltb, le-leb, lt-leb, leb-true, leb-false}
 use Rattle.dc_bound.specs.Window.{HoldAtLeast, count_in, within, ticks_of}
 use Rattle.dc_bound.specs.Run.{ticks, stamp, stamped}
-use Rattle.dc_bound.specs.Counts.{within_cases}
+use Rattle.dc_bound.specs.lemmas.Counts.{within_cases}
 use Rattle.dc_bound.specs.Turns.{NeverFall}
-use Rattle.dc_bound.specs.Recent.{recent}
-use Rattle.dc_bound.specs.Steps.{pace_tick}
+use Rattle.dc_bound.specs.lemmas.Recent.{recent}
+use Rattle.dc_bound.specs.lemmas.Steps.{pace_tick}
 use Rattle.dc_oracle.specs.History.{UpTo, held, lacking}
 
 -- ---- the ticks of what is picked from a run never fall, and none is later than the running tick

@@ -7,3 +7,11 @@ pub mod Logs
 pub mod Entries
 pub mod Replying
 pub mod Choosing
+pub mod Policing
+pub mod Steadying
+pub mod Living
+pub mod Taking
+pub mod Arriving
+pub mod Emitting
+pub mod Judging
+pub mod Claiming

@@ -5,7 +5,7 @@ use Rattle.dc_bound.specs.Run.{picks}
 use Rattle.dc_bound.specs.Places.{served_in, first_place, each_place}
 use Rattle.dc_bound.specs.Moves.{Move, ins, passed, is_overfull, latch, entered, taken}
 use Rattle.dc_bound.specs.Moves.Move.{Tick, Visit}
-use Rattle.dc_bound.specs.QueuePush.{queue-in_latched, queue-in_full, queue-in_room, queue-visit, queue-tick, none_from, taken-le}
+use Rattle.dc_bound.specs.lemmas.QueuePush.{queue-in_latched, queue-in_full, queue-in_room, queue-visit, queue-tick, none_from, taken-le}
 use Rattle.dc_tables.specs.TableRows.{TableRows}
 use Rattle.dc_event.specs.Buses.{moves, room}
 use Rattle.dc_event.specs.declared.event.Reply.TheVariants.{Queued, Overrun, Latched}

@@ -8,23 +8,26 @@ use Rattle.dc_bound.specs.Run.{ticks, picks, one_if}
 use Rattle.dc_bound.specs.Places.{served_in, first_place, each_place}
 use Rattle.dc_bound.specs.Moves.{Move, ticks_in, ins, passed, is_overfull, latch, entered, taken, item, latest_number, latest_by}
 use Rattle.dc_bound.specs.Moves.Move.{Tick as TickMove, In, Visit}
-use Rattle.dc_bound.specs.QueuePush.{queue-in_latched, queue-in_full, queue-in_room, queue-visit, queue-tick, none_from, taken-le, latest_by-same, latest_by-takes}
+use Rattle.dc_bound.specs.lemmas.QueuePush.{queue-in_latched, queue-in_full, queue-in_room, queue-visit, queue-tick, none_from, taken-le, latest_by-same, latest_by-takes}
 use Rattle.dc_word.specs.Word.{is_odd, label_of, sdi_of}
 use Rattle.dc_tables.specs.Declares.{stream_of, declares, fits}
 use Rattle.dc_tables.specs.TableRows.{TableRows, AreValid, visited, stream_row, router_row, label_row}
 use Rattle.dc_event.specs.Time.{ends, tick_after, route_of, send_of, routes}
+use Rattle.dc_event.specs.Offers.{refuses, let_in}
+use Rattle.dc_oracle.specs.Police.{is_refused}
 use Rattle.dc_event.specs.Buses.{in_of, move_of, moves, room}
 use Rattle.dc_event.specs.Latest.{is_of, latest}
 use Rattle.dc_event.specs.Outputs.{due_tick, due_by, sent, entry_label}
 use Rattle.dc_event.specs.Choice.{chosen}
+use Rattle.dc_event.specs.Emissions.{emission}
 use Rattle.dc_event.specs.Replies.{reply}
-use Rattle.dc_event.specs.OutputMoves.{due_by-due, due-due_by}
-use Rattle.dc_event.specs.RunPush.{tick-push, steps-push, moves-push, moves-other, latest-other, ticks_in-moves, sent-push, sent-le, sent-other, entered-declared}
-use Rattle.dc_event.specs.BudgetsPush.{calm}
+use Rattle.dc_event.specs.lemmas.OutputMoves.{due_by-due, due-due_by}
+use Rattle.dc_event.specs.lemmas.RunPush.{tick-push, steps-push, moves-push, moves-other, latest-other, ticks_in-moves, sent-push, sent-le, sent-other, entered-declared}
+use Rattle.dc_event.specs.lemmas.BudgetsPush.{calm}
 use Rattle.dc_event.specs.declared.event.Event.{Event}
 use Rattle.dc_event.specs.declared.event.Event.TheVariants.{Tick, Arrive, Route, Send}
 use Rattle.dc_event.specs.declared.event.Reply.{Reply}
-use Rattle.dc_event.specs.declared.event.Reply.TheVariants.{BadParity, Undeclared, Took, Empty, Sent, Idle, Now}
+use Rattle.dc_event.specs.declared.event.Reply.TheVariants.{BadParity, Undeclared, TooEarly, Took, Empty, Sent, Idle, Now}
 use Rattle.dc_oracle.specs.declared.replies.ReplyWatch.{ReplyWatch}
 use Rattle.dc_oracle.specs.Fresh.{AllMade}
 use Rattle.dc_oracle.specs.BusData.{BusData}
@@ -35,7 +38,7 @@ use Rattle.dc_oracle.proofs.Entries.{due-late}
 
 -- ---- no events
 
-taken-new : (room : ℕ) → taken room [] ≡ 0
+pub taken-new : (room : ℕ) → taken room [] ≡ 0
 unfolding latch first_place is_overfull ins passed served_in entered taken picks
 taken-new room = let calm : ltb (room + 0) 0 ≡ false = le-ltb _ _ (omega arith) in rw calm refl
 
@@ -114,12 +117,12 @@ cond_same true = refl
 cond_same false = refl
 
 move_elsewhere : (t : TableRows) (run : List Event) (a b w : ℕ) → (b ≡ a → ⊥) → move_of t a run (Arrive b w) ≡ []
-move_elsewhere t run a b w other = ap (λ x. cond (x && is_odd w) (in_of (stream_of t a w) w) []) (ne_eqb b a other)
+move_elsewhere t run a b w other = ap (λ x. cond (x && is_odd w) (in_of (let_in t a run (stream_of t a w)) w) []) (ne_eqb b a other)
 
 arrive_even : (t : TableRows) (run : List Event) (b w : ℕ) → is_odd w ≡ false → IsNothing t run (Arrive b w)
 arrive_even t run b w h = record {
   no_tick = refl;
-  no_move = λ a. ap (λ x. cond x (in_of (stream_of t a w) w) []) (false_and (b == a) (is_odd w) h);
+  no_move = λ a. ap (λ x. cond x (in_of (let_in t a run (stream_of t a w)) w) []) (false_and (b == a) (is_odd w) h);
   no_route = λ r. refl;
   no_send = λ o. refl;
 }
@@ -130,12 +133,51 @@ arrive_undeclared t run b w h = record {
   no_move = λ a. elim (cases_eq b a) [
     | inl same ↦
         let P : ℕ → Type 0 = λ a. move_of t a run (Arrive b w) ≡ [] in
-        subst P same (ap (λ o. cond ((b == b) && is_odd w) (in_of o w) []) h ∙ cond_same ((b == b) && is_odd w))
+        subst P same (ap (λ o. cond ((b == b) && is_odd w) (in_of (let_in t b run o) w) []) h ∙ cond_same ((b == b) && is_odd w))
     | inr other ↦ move_elsewhere t run a b w other
   ];
   no_route = λ r. refl;
   no_send = λ o. refl;
 }
+
+-- a word that the bus refuses
+refused_parts : (t : TableRows) (run : List Event) (b w : ℕ) → is_refused t run (Arrive b w) ≡ true → (is_odd w ≡ true) × ((k : ℕ) × (stream_of t b w ≡ Some k) × (refuses t b run (Some k) ≡ true))
+refused_parts t run b w h =
+    let p = and_parts (is_odd w) (refuses t b run (stream_of t b w)) h in (
+      p.0,
+      elim (stream_of t b w) as (λ o. stream_of t b w ≡ o → refuses t b run o ≡ true → (k : ℕ) × (stream_of t b w ≡ Some k) × (refuses t b run (Some k) ≡ true)) [
+        | None ↦ λ e r. absurd cc
+        | Some k ↦ λ e r. (k, e, r)
+      ] refl p.1,
+    )
+
+arrive_refused : (t : TableRows) (run : List Event) (b w s : ℕ) → stream_of t b w ≡ Some s → refuses t b run (Some s) ≡ true → IsNothing t run (Arrive b w)
+arrive_refused t run b w s some early = record {
+  no_tick = refl;
+  no_move = λ a. elim (cases_eq b a) [
+    | inl same ↦
+        let P : ℕ → Type 0 = λ a. move_of t a run (Arrive b w) ≡ [] in
+        subst P same (ap (λ o. cond ((b == b) && is_odd w) (in_of (let_in t b run o) w) []) some ∙ ap (λ v. cond ((b == b) && is_odd w) (in_of (cond v None (Some s)) w) []) early ∙ cond_same ((b == b) && is_odd w))
+    | inr other ↦ move_elsewhere t run a b w other
+  ];
+  no_route = λ r. refl;
+  no_send = λ o. refl;
+}
+
+replies-refused_word : (t : TableRows) (w : ReplyWatch) (run : List Event) (b word : ℕ) → is_refused t run (Arrive b word) ≡ true → Holds t w run → Replies t w run (Arrive b word) TooEarly
+unfolding reply
+replies-refused_word t w run b word h holds =
+    let p = refused_parts t run b word h in
+    let odd : is_odd word ≡ true = p.0 in
+    let some : stream_of t b word ≡ Some p.1.0 = p.1.1 in
+    let early : refuses t b run (Some p.1.0) ≡ true = p.1.2 in
+    record { holds = holds-nothing t w run (Arrive b word) (arrive_refused t run b word p.1.0 some early) holds; answer = rw (odd, some, early) refl }
+
+pub replies-refused : (t : TableRows) (w : ReplyWatch) (run : List Event) (e : Event) → is_refused t run e ≡ true → Holds t w run → Replies t w run e TooEarly
+replies-refused t w run Tick h holds = absurd cc
+replies-refused t w run (Arrive b word) h holds = replies-refused_word t w run b word h holds
+replies-refused t w run (Route r) h holds = absurd cc
+replies-refused t w run (Send o) h holds = absurd cc
 
 pub replies-even : (t : TableRows) (w : ReplyWatch) (run : List Event) (b word : ℕ) → is_odd word ≡ false → Holds t w run → Replies t w run (Arrive b word) BadParity
 unfolding reply
@@ -145,8 +187,8 @@ pub replies-undeclared : (t : TableRows) (w : ReplyWatch) (run : List Event) (b 
 unfolding reply
 replies-undeclared t w run b word odd none h = record { holds = holds-nothing t w run (Arrive b word) (arrive_undeclared t run b word none) h; answer = rw (odd, none) refl }
 
-move_here : (t : TableRows) (run : List Event) (b w s : ℕ) → is_odd w ≡ true → stream_of t b w ≡ Some s → move_of t b run (Arrive b w) ≡ In (s, w) ∷ []
-move_here t run b w s odd some = let e : (b == b) ≡ true = eq-eqb b b refl in rw (e, odd, some) refl
+move_here : (t : TableRows) (run : List Event) (b w s : ℕ) → is_odd w ≡ true → stream_of t b w ≡ Some s → refuses t b run (Some s) ≡ false → move_of t b run (Arrive b w) ≡ In (s, w) ∷ []
+move_here t run b w s odd some free = let e : (b == b) ≡ true = eq-eqb b b refl in rw (e, odd, some, free) refl
 
 -- a word that comes leaves every latest word
 latest_by-in : (room : ℕ) (p : ℕ × ℕ → Bool) (ms : List Move) (x : ℕ × ℕ) → latest_by room p (ms ++ In x ∷ []) ≡ latest_by room p ms
@@ -158,24 +200,24 @@ latest_by-in room p ms x = elim (cases_Bool (is_some (latch room ms))) [
   ]
 ]
 
-latest-arrive : (t : TableRows) (s : ℕ) (run : List Event) (b w k : ℕ) → is_odd w ≡ true → stream_of t b w ≡ Some k → latest t s (run ++ Arrive b w ∷ []) ≡ latest t s run
+latest-arrive : (t : TableRows) (s : ℕ) (run : List Event) (b w k : ℕ) → is_odd w ≡ true → stream_of t b w ≡ Some k → refuses t b run (Some k) ≡ false → latest t s (run ++ Arrive b w ∷ []) ≡ latest t s run
 unfolding latest
-latest-arrive t s run b w k odd some =
+latest-arrive t s run b w k odd some free =
     let a = (stream_row t s).bus in
     elim (cases_eq b (stream_row t s).bus) [
       | inl same ↦
           let P : ℕ → Type 0 = λ a. move_of t a run (Arrive b w) ≡ In (k, w) ∷ [] in
-          let here : move_of t a run (Arrive b w) ≡ In (k, w) ∷ [] = subst P same (move_here t run b w k odd some) in
+          let here : move_of t a run (Arrive b w) ≡ In (k, w) ∷ [] = subst P same (move_here t run b w k odd some free) in
           ap (λ ms. latest_by (room t a) (is_of s) ms) (moves-push t a run (Arrive b w) ∙ ap (λ m. moves t a run ++ m) here) ∙ latest_by-in (room t a) (is_of s) (moves t a run) (k, w)
       | inr other ↦ latest-other t s run (Arrive b w) (move_elsewhere t run a b w other)
     ]
 
-pub replies-arrive : (t : TableRows) (old new : ReplyWatch) (run : List Event) (b w s : ℕ) (d : BusData) (r : Reply) → b < length old.buses.items → is_odd w ≡ true → stream_of t b w ≡ Some s
+pub replies-arrive : (t : TableRows) (old new : ReplyWatch) (run : List Event) (b w s : ℕ) (d : BusData) (r : Reply) → b < length old.buses.items → is_odd w ≡ true → stream_of t b w ≡ Some s → refuses t b run (Some s) ≡ false
     → Received (room t b) d (moves t b run) (s, w) r → new.tick ≡ old.tick → new.buses.items ≡ set old.buses.items b d → new.latest.items ≡ old.latest.items → new.cursors.items ≡ old.cursors.items → new.sent.items ≡ old.sent.items
     → Holds t old run → Replies t new run (Arrive b w) r
 unfolding reply
-replies-arrive t old new run b w s d r there odd some got same_tick buses latests cursors sents h =
-    let more : moves t b (run ++ Arrive b w ∷ []) ≡ moves t b run ++ In (s, w) ∷ [] = moves-push t b run (Arrive b w) ∙ ap (λ m. moves t b run ++ m) (move_here t run b w s odd some) in
+replies-arrive t old new run b w s d r there odd some free got same_tick buses latests cursors sents h =
+    let more : moves t b (run ++ Arrive b w ∷ []) ≡ moves t b run ++ In (s, w) ∷ [] = moves-push t b run (Arrive b w) ∙ ap (λ m. moves t b run ++ m) (move_here t run b w s odd some free) in
     let P : List Move → Type 0 = λ ms. IsLog (room t b) d ms in
     let here : IsLog (room t b) d (moves t b (run ++ Arrive b w ∷ [])) = subst P (sym more) got.holds in
     let Q : List BusData → Type 0 = λ xs. (a : ℕ) → a < length t.buses → IsLog (room t a) (get_or xs a no_log) (moves t a (run ++ Arrive b w ∷ [])) in
@@ -183,11 +225,11 @@ replies-arrive t old new run b w s d r there odd some got same_tick buses latest
       holds = record {
         clock = same_tick ∙ h.clock ∙ sym (calm run (Arrive b w) refl);
         logs = subst Q (sym buses) (logs-set t run (Arrive b w) old.buses.items b d there here (λ a other. move_elsewhere t run a b w other) h.logs);
-        words = λ k l. ap (λ xs. get_or xs k None) latests ∙ h.words k l ∙ sym (latest-arrive t k run b w s odd some);
+        words = λ k l. ap (λ xs. get_or xs k None) latests ∙ h.words k l ∙ sym (latest-arrive t k run b w s odd some free);
         turns = λ q l. ap (λ xs. get_or xs q 0) cursors ∙ h.turns q l ∙ turn-same t q run (Arrive b w) refl;
         counts = λ o l. ap (λ xs. get_or xs o 0) sents ∙ h.counts o l ∙ sym (sent-other t o run (Arrive b w) refl);
       };
-      answer = rw (odd, some, more) got.answer;
+      answer = rw (odd, some, free, more) got.answer;
     }
 
 -- ---- a router visits
@@ -216,7 +258,7 @@ visit_elsewhere t run r b a is other = let none : (visited t r (routes r run) ==
 bus_of : (t : TableRows) (b x k : ℕ) → stream_of t b x ≡ Some k → b ≡ (stream_row t k).bus
 unfolding stream_of
 bus_of t b x k of =
-    let p = position-Some (declares b x) t.streams k (record { bus = 0; label = 0; sdi = None; minimum = 0; maximum = 0 }) of in
+    let p = position-Some (declares b x) t.streams k (record { bus = 0; label = 0; sdi = None; minimum = 0; maximum = 0; jitter = 0 }) of in
     let parts = and_parts (((stream_row t k).bus == b) && ((stream_row t k).label == label_of x)) (fits (stream_row t k).sdi (sdi_of x)) p.1 in
     let first = and_parts ((stream_row t k).bus == b) ((stream_row t k).label == label_of x) parts.0 in
     sym (eqb-true _ _ first.0)
@@ -351,6 +393,14 @@ module _ (t : TableRows) (old new : ReplyWatch) (run : List Event) (r b : ℕ) (
           answer = rw (visits_b, more_b, rises) (ap (λ (y : ℕ × ℕ). Took b y.1) item_is);
         }
 
+-- nothing but a send emits
+pub emission-none : (t : TableRows) (run : List Event) (e : Event) → ((o : ℕ) → e ≡ Send o → ⊥) → None ≡ emission t run e
+unfolding emission
+emission-none t run Tick h = refl
+emission-none t run (Arrive b w) h = refl
+emission-none t run (Route r) h = refl
+emission-none t run (Send o) h = absurd (h o refl)
+
 -- ---- an output sends
 
 send_here : (o : ℕ) → send_of o (Send o) ≡ Some o
@@ -425,6 +475,20 @@ module _ (t : TableRows) (valid : AreValid t) (old new : ReplyWatch) (run : List
       let rises : ltb (sent t o run) (sent t o (run ++ Send o ∷ [])) ≡ true = lt-ltb _ _ (omega (arith, one_more due, number_is)) in
       let e : x ≡ entry_label t o (sent t o run) = x_is ∙ ap (entry_label t o) number_is in
       rw (rises, ← e) (ap (λ w. Sent (label_row t x).label w) word)
+
+  -- what it emits
+  pub emission-idle : old.tick < due_tick t o number → emission t run (Send o) ≡ None
+  unfolding emission
+  emission-idle late =
+      let same : sent t o (run ++ Send o ∷ []) ≡ sent t o run = omega (arith, pushed, none_due late, sent-le t o run, number_is) in
+      let stays : ltb (sent t o run) (sent t o (run ++ Send o ∷ [])) ≡ false = le-ltb _ _ (omega (arith, same)) in
+      rw stays refl
+
+  pub emission-sent : due_tick t o number ≤ old.tick → emission t run (Send o) ≡ Some (entry_label t o number)
+  unfolding emission
+  emission-sent due =
+      let rises : ltb (sent t o run) (sent t o (run ++ Send o ∷ [])) ≡ true = lt-ltb _ _ (omega (arith, one_more due, number_is)) in
+      rw rises (ap (λ n. Some (entry_label t o n)) (sym number_is))
 
 -- ---- a tick ends
 

@@ -3,10 +3,10 @@ use Rattle.std.proofs.Common.{◌≡◌, ℕ, suc, ◌+◌, ◌-◌, ◌*◌, �
 use Rattle.std.proofs.Math.Nat.{mul-le-mul_right, le-div_iff_mul-le}
 use Rattle.std.proofs.lemmas.Bool.{cases_lt}
 use Rattle.dc_bound.specs.Window.{count_in}
-use Rattle.dc_bound.specs.Counts.{within_cases, count_in-nil, ceil_from}
-use Rattle.dc_bound.specs.Budget.{count_in_sum}
-use Rattle.dc_bound.specs.Steps.{count_in-push}
-use Rattle.dc_bound.specs.Recent.{NoneLater, recent}
+use Rattle.dc_bound.specs.lemmas.Counts.{within_cases, count_in-nil, ceil_from}
+use Rattle.dc_bound.specs.lemmas.Budget.{count_in_sum}
+use Rattle.dc_bound.specs.lemmas.Steps.{count_in-push}
+use Rattle.dc_bound.specs.lemmas.Recent.{NoneLater, recent}
 use Rattle.dc_oracle.specs.declared.wire.WireLoad.{WireLoad}
 use Rattle.dc_oracle.specs.WireLoad.{left_us, free_us, loaded, since, IsFreeAt, IsLoad}
 

@@ -1,5 +1,5 @@
 -- What is carried along the moves of a bus.
-use Rattle.std.specs.Prelude.{◌≡◌, ℕ, ◌-◌, if◌then◌else◌, false, is_some, List, [], ◌∷◌, ◌++◌, length}
+use Rattle.std.specs.Prelude.{◌≡◌, ℕ, ◌+◌, ◌-◌, ◌<◌, ◌⊎◌, if◌then◌else◌, false, Option, Some, None, is_some, List, [], ◌∷◌, ◌++◌, length, slice_index_or}
 use Rattle.dc_bound.specs.Moves.{Move, latch, entered, taken}
 use Rattle.dc_bound.specs.Moves.Move.{In}
 use Rattle.dc_event.specs.declared.event.Reply.{Reply}
@@ -27,3 +27,8 @@ queue_reply room ms x =
 pub record Received (room : ℕ) (new : BusData) (ms : List Move) (x : ℕ × ℕ) (r : Reply) : Type 0 where
   pub holds : IsLog room new (ms ++ In x ∷ [])
   pub answer : r ≡ queue_reply room ms x
+
+-- the last word that was taken, as its number and the number of its stream
+abbrev pub IsLastTaken : BusData → Option (ℕ × ℕ) → Type 0
+IsLastTaken log None = (log.taken ≡ 0) ⊎ (length log.words < log.taken)
+IsLastTaken log (Some x) = (x.0 + 1 ≡ log.taken) × (x.0 < length log.words) × (x.1 ≡ (slice_index_or log.words x.0 (0, 0)).0)

@@ -1,8 +1,14 @@
 pub mod History
 pub mod Fresh
 pub mod WireLoad
+pub mod Pace
+pub mod Police
 pub mod Sources
 pub mod Budgets
 pub mod BusData
 pub mod BusLog
 pub mod Replies
+pub mod Life
+pub mod Arrivals
+pub mod Emissions
+pub mod Claims

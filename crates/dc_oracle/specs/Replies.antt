@@ -3,7 +3,12 @@ use Rattle.std.specs.Prelude.{◌≡◌, ℕ, ◌%◌, ◌<◌, Bool, true, fals
 use Rattle.std.specs.List.{flat_map}
 use Rattle.dc_word.specs.Format.{is_usable}
 use Rattle.dc_tables.specs.TableRows.{TableRows, stream_row, router_row, label_row}
-use Rattle.dc_event.specs.Runs.{tick_after, routes, moves, room, latest, sent, fresh_word, reply}
+use Rattle.dc_event.specs.Time.{tick_after, routes}
+use Rattle.dc_event.specs.Buses.{moves, room}
+use Rattle.dc_event.specs.Latest.{latest}
+use Rattle.dc_event.specs.Outputs.{sent}
+use Rattle.dc_event.specs.Choice.{fresh_word}
+use Rattle.dc_event.specs.Replies.{reply}
 use Rattle.dc_event.specs.declared.event.Event.{Event}
 use Rattle.dc_event.specs.declared.event.Reply.{Reply}
 use Rattle.dc_oracle.specs.declared.replies.ReplyWatch.{ReplyWatch}

@@ -1,7 +1,7 @@
 ghost use Rattle.std.specs.Prelude.{◌≡◌, ◌<◌, ◌≤◌, ℕ, List, [], ◌∷◌, ◌++◌, length, slice_index_or, IfOk, MatchOption};
 ghost use Rattle.dc_bound.specs.Moves.{Move};
 ghost use Rattle.dc_bound.specs.Moves.Move.{Visit};
-ghost use Rattle.dc_oracle.specs.BusLog.{IsLog, Received, no_log};
+ghost use Rattle.dc_oracle.specs.BusLog.{IsLog, Received, IsLastTaken, no_log};
 ghost use Rattle.dc_oracle.specs.Fresh.{AllMade};
 
 use dc_event::Reply;
@@ -75,6 +75,18 @@ impl BusLog {
         let item = self.words[self.taken];
         self.taken += 1;
         Some(item)
+    }
+
+    /// The last word that was taken: its number, from 0, and the number of its stream.
+    pub fn last_taken(&self) -> Option<(usize, usize)>
+        ensures { IsLastTaken self.now result }
+    {
+        if self.taken == 0 || self.taken > self.words.len() {
+            return None;
+        }
+        let number = self.taken - 1;
+        let (stream, _) = self.words[number];
+        Some((number, stream))
     }
 }
 

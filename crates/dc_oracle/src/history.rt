@@ -1,4 +1,4 @@
-ghost use Rattle.std.specs.Prelude.{◌≡◌, ◌≤◌, ◌++◌, ◌∷◌, [], IfOk, OnOk};
+ghost use Rattle.std.specs.Prelude.{◌≡◌, ◌≤◌, ◌++◌, ◌∷◌, [], slice_index, IfOk, OnOk};
 ghost use Rattle.dc_oracle.specs.Fresh.{AllMade};
 ghost use Rattle.dc_oracle.specs.History.{held, lacking};
 
@@ -40,6 +40,13 @@ impl History {
         Ok(())
     }
 
+    /// The tick of this number, from 0; 0 where there is none.
+    pub fn at(&self, number: usize) -> u64
+        ensures { result ≡ slice_index self.now number }
+    {
+        at(self.ticks.as_slice(), number)
+    }
+
     /// Whether the last `window` ticks up to this one hold at least `count`, 1 or more.
     pub fn holds(&self, count: u32, window: u32, tick: u64) -> bool
         requires { 1 ≤ count }
@@ -66,6 +73,16 @@ pub fn no_histories(alloc: Global, count: usize) -> Result<Vec<History>, AllocEr
         histories.push(History::new(alloc))?;
     }
     Ok(histories)
+}
+
+/// The number at this place, 0 where there is none.
+fn at(ticks: &[u64], number: usize) -> u64
+    ensures { result ≡ slice_index ticks.now number }
+{
+    if number >= ticks.len() {
+        return 0;
+    }
+    ticks[number]
 }
 
 /// The same of ticks in order: the one so many places before the end lies in the window.

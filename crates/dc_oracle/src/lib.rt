@@ -1,20 +1,25 @@
-//! The plain program of the definitions: whether a recorded run keeps its budgets and its sources' intervals, and what
-//! should have come out of it. It is the second opinion beside the machine, and shares no code with it.
+//! The second opinion on a recorded run, beside the machine: whether its actors keep their budgets and its sources what
+//! is asked of them, and what should have come out of it. With the machine it shares the definitions, the readers of
+//! tables and the calls on words; it keeps a state of its own beside the history.
 #![tactic(auto)]
 
+mod arrivals;
 mod budgets;
 mod bus_log;
-#[cfg(test)]
-mod fixture;
+mod claim_watch;
+mod emissions;
 mod history;
+mod life;
+mod pace;
+mod police;
 mod replies;
+mod sent_word;
 mod sources;
 mod steady_run;
-#[cfg(test)]
-mod tests;
 mod wire;
 
 pub use budgets::keeps_budgets;
+pub use claim_watch::claims;
 pub use replies::outputs;
 pub use sources::keeps_sources;
 pub use steady_run::steady;

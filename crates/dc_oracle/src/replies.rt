@@ -1,11 +1,17 @@
-ghost use Rattle.std.specs.Prelude.{◌≡◌, ℕ, ◌+◌, ◌-◌, ◌<◌, ◌≤◌, ◌^◌, min, List, [], length, filter, slice_set, Some, None, IfOk};
+ghost use Rattle.std.specs.Prelude.{◌≡◌, ℕ, ◌+◌, ◌-◌, ◌<◌, ◌≤◌, ◌^◌, min, List, [], length, filter, slice_set, Some, None, IfOk, IfSome, ◌∷◌, ◌++◌, false, slice_index_or};
 ghost use Rattle.dc_tables.specs.TableRows.{label_row};
-ghost use Rattle.dc_event.specs.Runs.{due_tick, entry_label, head, choice, word_for, outputs_of};
+ghost use Rattle.dc_event.specs.Outputs.{due_tick, entry_label};
+ghost use Rattle.dc_event.specs.Choice.{head, choice, word_for};
+ghost use Rattle.dc_event.specs.Emissions.{emission};
+ghost use Rattle.dc_event.specs.Replies.{outputs_of};
 ghost use Rattle.dc_event.specs.Admissible.{IsRun, IsNumbered};
 ghost use Rattle.dc_oracle.specs.Fresh.{AllMade};
-ghost use Rattle.dc_oracle.specs.Replies.{is_wanted};
+ghost use Rattle.dc_oracle.specs.Replies.{is_wanted, IsSized, Holds, Replies};
+ghost use Rattle.dc_oracle.specs.Police.{Polices};
+ghost use Rattle.dc_event.specs.declared.event.Event.{Event};
 
 use crate::bus_log::{BusLog, no_logs};
+use crate::police::Police;
 use dc_event::{Event, Reply};
 use dc_tables::Tables;
 use dc_word::Word;
@@ -23,7 +29,7 @@ pub struct ReplyWatch {
 }
 
 /// So many of the same value.
-fn all_of<T: Copy>(alloc: Global, count: usize, value: T) -> Result<Vec<T>, AllocError>
+pub fn all_of<T: Copy>(alloc: Global, count: usize, value: T) -> Result<Vec<T>, AllocError>
     ensures { IfOk result (λ v. AllMade (λ _. value) value count v.items) }
 {
     let mut values = Vec::new(alloc);
@@ -50,7 +56,7 @@ fn entry(tables: &Tables, output: usize, number: u64) -> (usize, u64)
 }
 
 /// The word that the label sends for its choice: a copy, or its fallback.
-fn word_for(tables: &Tables, label: usize, choice: Option<(usize, Word)>) -> Word
+pub fn word_for(tables: &Tables, label: usize, choice: Option<(usize, Word)>) -> Word
     requires { label < length tables.now.labels }
     ensures { result ≡ word_for tables.now label choice }
 {
@@ -71,11 +77,13 @@ fn note(latest: &mut Vec<Option<((usize, Word), u64)>>, stream: usize, word: Wor
 }
 
 impl ReplyWatch {
+    ghost use Rattle.dc_oracle.specs.BusLog.{no_log};
     ghost use Rattle.dc_oracle.specs.Replies.{IsSized, Holds, Replies, fresh_now, all_fresh};
+    ghost use Rattle.dc_oracle.specs.Police.{is_refused};
     ghost use Rattle.dc_event.specs.declared.event.Event.{Event};
 
     /// Before any event.
-    fn new(alloc: Global, tables: &Tables) -> Result<ReplyWatch, AllocError>
+    pub fn new(alloc: Global, tables: &Tables) -> Result<ReplyWatch, AllocError>
         ensures sized { IfOk result (λ w. IsSized tables.now w) }
         ensures holds { IfOk result (λ w. Holds tables.now w []) }
         ensures tick { IfOk result (λ w. w.tick ≡ 0) }
@@ -95,7 +103,7 @@ impl ReplyWatch {
         requires sized { IsSized tables.now self.old }
         ensures sized { IsSized tables.now self.new }
         ensures tick { self.new.tick ≡ self.old.tick }
-        ensures reply { (run : List Event) → Holds tables.now self.old run → bus < length tables.now.buses → IfOk result (Replies tables.now self.new run (Event.Arrive bus word)) }
+        ensures reply { (run : List Event) → Holds tables.now self.old run → bus < length tables.now.buses → is_refused tables.now run (Event.Arrive bus word) ≡ false → IfOk result (Replies tables.now self.new run (Event.Arrive bus word)) }
     {
         if !word.is_odd() {
             return Ok(Reply::BadParity);
@@ -167,18 +175,73 @@ impl ReplyWatch {
         None
     }
 
-    /// The word that the label sends: of its fresh sources by priority the first whose word is usable is copied; else the
-    /// first; else the fallback leaves.
+    /// What the label copies: of its fresh sources by priority the first whose word is usable; else the first.
+    pub fn choice(&self, tables: &Tables, label: usize) -> Option<(usize, Word)>
+        requires sized { IsSized tables.now self.now }
+        requires label { label < length tables.now.labels }
+        ensures { result ≡ choice tables.now label (all_fresh tables.now self.now label (label_row tables.now label).sources) }
+    {
+        let usable = self.first_fresh(tables, label, true);
+        if usable.is_some() {
+            return usable;
+        }
+        self.first_fresh(tables, label, false)
+    }
+
+    /// The word that the label sends: a copy of its choice, or its fallback.
     fn chosen(&self, tables: &Tables, label: usize) -> Word
         requires sized { IsSized tables.now self.now }
         requires label { label < length tables.now.labels }
         ensures { result ≡ word_for tables.now label (choice tables.now label (all_fresh tables.now self.now label (label_row tables.now label).sources)) }
     {
-        let usable = self.first_fresh(tables, label, true);
-        if usable.is_some() {
-            return word_for(tables, label, usable);
+        word_for(tables, label, self.choice(tables, label))
+    }
+
+    /// The tick.
+    pub fn tick(&self) -> u64
+        ensures { result ≡ self.now.tick }
+    {
+        self.tick
+    }
+
+    /// The log of a bus.
+    pub fn log(&self, bus: usize) -> &BusLog
+        requires { bus < length self.now.buses.items }
+        ensures { result.now ≡ slice_index_or self.now.buses.items bus no_log }
+    {
+        &self.buses[bus]
+    }
+
+    /// The number of the label that the event emits, if it emits one.
+    pub fn emits(&self, tables: &Tables, event: &Event) -> Option<usize>
+        requires sized { IsSized tables.now self.now }
+        requires early { self.now.tick < 2 ^ 64 - 1 }
+        ensures there { IfSome result (λ x. x < length tables.now.labels) }
+        ensures emission { (run : List Event) → Holds tables.now self.now run → IsNumbered tables.now event.now → result ≡ emission tables.now run event.now }
+    {
+        match *event {
+            Event::Send(output) => self.sends(tables, output),
+            _ => None,
         }
-        word_for(tables, label, self.first_fresh(tables, label, false))
+    }
+
+    /// The number of the label that a send of the output emits, if it emits one.
+    fn sends(&self, tables: &Tables, output: usize) -> Option<usize>
+        requires sized { IsSized tables.now self.now }
+        requires early { self.now.tick < 2 ^ 64 - 1 }
+        ensures there { IfSome result (λ x. x < length tables.now.labels) }
+        ensures emission { (run : List Event) → Holds tables.now self.now run → output < length tables.now.outputs → result ≡ emission tables.now run (Event.Send output) }
+    {
+        tables.valid();
+        if output >= self.sent.len() {
+            return None;
+        }
+        let number = self.sent[output];
+        let (label, due) = entry(tables, output, number);
+        if due > self.tick {
+            return None;
+        }
+        Some(label)
     }
 
     /// An output makes a send step. A step of an output that is not there is told as idle.
@@ -221,7 +284,7 @@ impl ReplyWatch {
         requires early { self.old.tick < 2 ^ 64 - 1 }
         ensures sized { IsSized tables.now self.new }
         ensures tick { self.new.tick ≤ self.old.tick + 1 }
-        ensures reply { (run : List Event) → Holds tables.now self.old run → IsNumbered tables.now event → IfOk result (Replies tables.now self.new run event) }
+        ensures reply { (run : List Event) → Holds tables.now self.old run → IsNumbered tables.now event → is_refused tables.now run event ≡ false → IfOk result (Replies tables.now self.new run event) }
     {
         match event {
             Event::Arrive(bus, word) => self.arrive(tables, bus, word),
@@ -243,6 +306,30 @@ fn is_wanted(usable: bool, tables: &Tables, label: usize, word: Word) -> bool
     word.usable(tables.label(label).format)
 }
 
+/// The reply to an event: a word that its bus refuses comes no further.
+pub fn answer(
+    watch: &mut ReplyWatch,
+    police: &mut Police,
+    tables: &Tables,
+    event: &Event,
+) -> Result<Reply, AllocError>
+    requires sized { IsSized tables.now watch.old }
+    requires paces { length police.old.paces.items ≡ length tables.now.streams }
+    requires early { watch.old.tick < 2 ^ 64 - 1 }
+    requires police_early { police.old.tick < 2 ^ 64 - 1 }
+    ensures sized { IsSized tables.now watch.new }
+    ensures paces { length police.new.paces.items ≡ length tables.now.streams }
+    ensures tick { watch.new.tick ≤ watch.old.tick + 1 }
+    ensures police_tick { police.new.tick ≤ police.old.tick + 1 }
+    ensures reply { (run : List Event) → Holds tables.now watch.old run → Polices tables.now police.old run → IsNumbered tables.now event.now → IfOk result (Replies tables.now watch.new run event.now) }
+    ensures judges { (run : List Event) → Polices tables.now police.old run → IsNumbered tables.now event.now → Polices tables.now police.new (run ++ event.now ∷ []) }
+{
+    if police.refuses(tables, event) {
+        return Ok(Reply::TooEarly);
+    }
+    watch.see(tables, *event)
+}
+
 /// What should have come out of a run of these tables: the reply to each of its events, in order. Of a run that names a
 /// bus, router or output that is not in the tables nothing is said.
 ///
@@ -252,9 +339,10 @@ pub fn outputs(alloc: Global, tables: &Tables, run: &[Event]) -> Result<Vec<Repl
     ensures { IsRun tables.now run.now → IfOk result (λ replies. replies.items ≡ outputs_of tables.now run.now) }
 {
     let mut watch = ReplyWatch::new(alloc, tables)?;
+    let mut police = Police::new(alloc, tables)?;
     let mut replies = Vec::new(alloc);
     for event in run {
-        let reply = watch.see(tables, *event)?;
+        let reply = answer(&mut watch, &mut police, tables, event)?;
         replies.push(reply)?;
     }
     Ok(replies)

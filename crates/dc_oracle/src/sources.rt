@@ -1,21 +1,33 @@
 ghost use Rattle.std.specs.Prelude.{◌≡◌, ◌-◌, ◌<◌, ◌^◌, List, [], IfOk};
 ghost use Rattle.dc_event.specs.Breaks.{BreaksSourcesAt};
 ghost use Rattle.dc_oracle.specs.Fresh.{AllMade};
+ghost use Rattle.dc_oracle.specs.Pace.{no_pace};
 ghost use Rattle.dc_oracle.specs.WireLoad.{no_load};
 
-use crate::history::{History, no_histories};
+use crate::pace::Pace;
 use crate::wire::WireLoad;
 use dc_event::Event;
 use dc_tables::Tables;
 use dc_word::Word;
 use std::alloc::{AllocError, Global};
 
-/// What the sources have done so far: the ticks of each stream's arrivals, and how far each wire is loaded.
+/// What the sources of buses that are not policed have done so far: the pace of each stream, and the load of each wire.
 #[derive(Drop)]
 pub struct SourceWatch {
     tick: u64,
-    streams: Vec<History>,
+    streams: Vec<Pace>,
     wires: Vec<WireLoad>,
+}
+
+/// So many streams that brought nothing.
+pub fn no_paces(alloc: Global, count: usize) -> Result<Vec<Pace>, AllocError>
+    ensures { IfOk result (λ v. AllMade (λ _. no_pace) no_pace count v.items) }
+{
+    let mut paces = Vec::new(alloc);
+    for _stream in 0..count {
+        paces.push(Pace { tick: 0, ahead: 0 })?;
+    }
+    Ok(paces)
 }
 
 /// So many wires that carried nothing.
@@ -44,7 +56,7 @@ impl SourceWatch {
         tables.valid();
         Ok(SourceWatch {
             tick: 0,
-            streams: no_histories(alloc, tables.stream_count())?,
+            streams: no_paces(alloc, tables.stream_count())?,
             wires: free_wires(alloc, tables.bus_count())?,
         })
     }
@@ -62,16 +74,18 @@ impl SourceWatch {
         let Some(stream) = tables.stream_of(bus, word) else {
             return Ok(true);
         };
-        let minimum = tables.stream(stream).minimum;
-        if self.streams[stream].holds(1, minimum, self.tick) {
+        if tables.bus(bus).police {
+            return Ok(true);
+        }
+        let row = tables.stream(stream);
+        if self.streams[stream].refuses(self.tick, row.minimum, row.jitter) {
             return Ok(false);
         }
-        self.streams[stream].add(self.tick)?;
         let spacing = tables.bus(bus).spacing;
         Ok(self.wires[bus].carry(self.tick, tables.tick_us(), spacing))
     }
 
-    /// Whether the run with this event keeps the sources' minimum, where the run before it does.
+    /// Whether the run with this event keeps what is asked of the sources, where the run before it does.
     fn see(&mut self, tables: &Tables, event: Event) -> Result<bool, AllocError>
         requires sized { IsSized tables.now self.old }
         requires early { self.old.tick < 2 ^ 64 - 1 }
@@ -90,8 +104,8 @@ impl SourceWatch {
     }
 }
 
-/// The first event, counted from 1, at which the run breaks the sources' minimum: a word of a stream sooner than its
-/// minimum after the last, or more words than the wire carries.
+/// The first event, counted from 1, at which a source of a bus that is not policed breaks what is asked of it: a word
+/// sooner than its stream's interval and jitter let it, or more words than the wire carries.
 ///
 /// # Errors
 /// Out of memory.

@@ -1,7 +1,9 @@
 ghost use Rattle.std.specs.Prelude.{◌≡◌, ◌++◌, ◌<◌, length, IfOk, OnOk};
-ghost use Rattle.dc_event.specs.Steady.{router_steps, output_steps, steady_tick, steady};
+ghost use Rattle.dc_event.specs.Admissible.{IsAdmissible};
+ghost use Rattle.dc_event.specs.Steady.{router_steps, output_steps, steady_tick, steady as steady_of};
 
 use dc_event::Event;
+use dc_event::laws::steady_admissible;
 use dc_tables::Tables;
 use std::alloc::{AllocError, Global};
 
@@ -47,17 +49,27 @@ fn push_tick(run: &mut Vec<Event>, tables: &Tables, tick: u64) -> Result<(), All
     Ok(())
 }
 
-/// The steady run of so many ticks, in which every actor makes its steps in each tick. It keeps the budgets.
-///
-/// # Errors
-/// Out of memory.
+/// The events of so many ticks.
 #[tactic(auto, unfolding(dc_event::specs::Steady::steady))]
-pub fn steady(alloc: Global, tables: &Tables, ticks: u64) -> Result<Vec<Event>, AllocError>
-    ensures { IfOk result (λ run. run.items ≡ steady tables.now ticks) }
+fn steady_ticks(alloc: Global, tables: &Tables, ticks: u64) -> Result<Vec<Event>, AllocError>
+    ensures { IfOk result (λ run. run.items ≡ steady_of tables.now ticks) }
 {
     let mut run = Vec::new(alloc);
     for tick in 0..ticks {
         push_tick(&mut run, tables, tick)?;
     }
     Ok(run)
+}
+
+/// The steady run of so many ticks, in which every actor makes its steps in each tick. It keeps the budgets of all actors,
+/// and its sources are silent.
+///
+/// # Errors
+/// Out of memory.
+pub fn steady(alloc: Global, tables: &Tables, ticks: u64) -> Result<Vec<Event>, AllocError>
+    ensures run { IfOk result (λ run. run.items ≡ steady_of tables.now ticks) }
+    ensures admissible { IfOk result (λ run. IsAdmissible tables.now run.items) }
+{
+    steady_admissible(tables);
+    steady_ticks(alloc, tables, ticks)
 }

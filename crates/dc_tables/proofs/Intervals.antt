@@ -7,14 +7,15 @@ use Rattle.std.proofs.Math.Nat.{div-lt_iff_lt-mul, lt-div-mul-add, mul-le-mul_ri
 use Rattle.std.proofs.lemmas.Bool.{cases_lt}
 use Rattle.std.specs.Int.{div_ceil}
 use Rattle.std.proofs.lemmas.Grind.{div_ceil_times}
-use Rattle.dc_dict.specs.Ticks.{in_minimum, in_maximum, out_minimum, out_maximum}
-use Rattle.dc_tables.specs.Ticks.{output_gap, input_spacing}
-use Rattle.dc_tables.specs.Rules.{parameter_of, parameter_key, same_parameter, too_quick, no_interval}
-use Rattle.dc_tables.specs.declared.keys.ParameterKey.{ParameterKey}
-use Rattle.dc_tables.specs.declared.parts.ParameterPart.{ParameterPart}
-use Rattle.dc_tables.specs.declared.rows.Speed.{Speed}
-use Rattle.dc_tables.specs.declared.rows.Speed.TheVariants.{High, Low}
-use Rattle.dc_tables.proofs.Picks.{not_below}
+use Rattle.dc_dict.specs.Ticks.{in_minimum, in_maximum, jitter_ticks, out_minimum, out_maximum}
+use Rattle.dc_parts.specs.Ticks.{output_gap, input_spacing}
+use Rattle.dc_rules.specs.Rules.{parameter_of, too_quick, no_interval}
+use Rattle.dc_parts.specs.Keys.{parameter_key, same_parameter}
+use Rattle.dc_parts.specs.declared.keys.ParameterKey.{ParameterKey}
+use Rattle.dc_dict.specs.declared.parameter.Parameter.{Parameter as ParameterPart}
+use Rattle.dc_parts.specs.declared.parts.Speed.{Speed}
+use Rattle.dc_parts.specs.declared.parts.Speed.TheVariants.{High, Low}
+use Rattle.dc_rules.specs.lemmas.Picks.{not_below}
 
 div_mono : (k x y : ℕ) → 0 < k → x ≤ y → x / k ≤ y / k
 div_mono k x y h l =
@@ -44,21 +45,6 @@ ceil_some x k h l =
       | inr g ↦ let z : div_ceil x k ≡ 0 = omega arith in absurd (omega (arith, (div_ceil_times x k h).0, z, ap (λ n. n * k) z, l))
     ]
 
--- ---- the parameter that was found
-
-got : {A : Type 0} (xs : List A) (i : ℕ) (x : A) → slice_get xs i ≡ Some x → (i < length xs) × (get_or xs i x ≡ x)
-got [] i x h = absurd (cc h)
-got (y ∷ ys) zero x h = (omega arith, cc h)
-got (y ∷ ys) (suc i) x h = let r = got ys i x h in (omega (arith, r.0), r.1)
-
-found_at : (Q : ParameterPart → Type 0) (ps : List ParameterPart) (r : Option ℕ) (p : ParameterPart) → ((k : ℕ) (d : ParameterPart) → k < length ps → Q (get_or ps k d)) → option_and_then (slice_get ps) r ≡ Some p → Q p
-found_at Q ps None p each h = absurd (cc h)
-found_at Q ps (Some i) p each h = let r = got ps i p h in subst Q r.1 (each i p r.0)
-
--- what holds of each parameter holds of the one that is found
-pub found_holds : (Q : ParameterPart → Type 0) (ps : List ParameterPart) (key : ParameterKey) (p : ParameterPart) → ((k : ℕ) (d : ParameterPart) → k < length ps → Q (get_or ps k d)) → parameter_of ps key ≡ Some p → Q p
-found_holds Q ps key p each h = found_at Q ps (position (same_parameter key) (map parameter_key ps)) p each h
-
 -- ---- a stream's interval
 
 pub minimum_some : (tick : ℕ) (o : Option ParameterPart) → is_none o ≡ false → too_quick tick o ≡ false → 1 ≤ option_map_or (λ p. in_minimum p.min_us tick) o 0
@@ -72,6 +58,9 @@ maximum_after tick (Some p) t h = omega (arith, div_mono tick p.min_us p.max_us 
 pub maximum_small : (tick : ℕ) (o : Option ParameterPart) → 100 ≤ tick → ((p : ParameterPart) → o ≡ Some p → p.max_us ≤ 60000000) → option_map_or (λ p. in_maximum p.max_us tick) o 0 ≤ 600000
 maximum_small tick None t h = omega arith
 maximum_small tick (Some p) t h = ceil_below p.max_us tick 600000 (omega arith) (omega (arith, h p refl))
+
+pub jitter_small : (tick jitter_us : ℕ) → 100 ≤ tick → jitter_us ≤ 60000000 → jitter_ticks jitter_us tick ≤ 600000
+jitter_small tick jitter_us t h = ceil_below jitter_us tick 600000 (omega arith) (omega (arith, h))
 
 -- ---- a label's interval
 

@@ -51,7 +51,7 @@ not_of_bus : (b w : ℕ) (s : Stream) → (s.bus ≡ b → ⊥) → declares b w
 not_of_bus b w s h = elim (eqb_tells s.bus b) [ inl q ↦ absurd (h q.1) | inr q ↦ rw (q.0) refl ]
 
 abbrev no_row : Stream
-no_row = record { bus = 0; label = 0; sdi = None; minimum = 0; maximum = 0 }
+no_row = record { bus = 0; label = 0; sdi = None; minimum = 0; maximum = 0; jitter = 0 }
 
 -- the streams that declare a word on a bus are those of the bus
 own_stream : (t : TableRows) (b w : ℕ) → AreValid t → b < length t.buses → option_map (λ k. (bus_row t b).first + k) (position (declares b w) (bus_streams t b)) ≡ stream_of t b w

@@ -1,29 +1,29 @@
 -- One more row.
-use Rattle.std.proofs.Common.{◌≡◌, ℕ, zero, suc, ◌+◌, ◌<◌, ◌≤◌, Option, inl, inr, arith, subst, List, [], ◌∷◌, ◌++◌, length, get_or, drop, true, false, nat_lt, ◌==◌, refl, sym, ap, ◌∙◌, add-one, append_assoc}
+use Rattle.std.proofs.Common.{◌≡◌, ℕ, zero, suc, ◌+◌, ◌<◌, ◌≤◌, inl, inr, arith, subst, List, [], ◌∷◌, ◌++◌, length, get_or, drop, true, false, nat_lt, ◌==◌, refl, sym, ap, ◌∙◌, add-one, append_assoc}
 use Rattle.std.proofs.Math.Seq.{drop-cons}
 use Rattle.dc_tables.specs.RowsOf.{bus_row_with, bus_row_of, bus_rows_from}
 use Rattle.dc_tables.specs.declared.rows.Bus.{Bus}
-use Rattle.dc_tables.specs.declared.parts.BusPart.{BusPart}
-use Rattle.dc_tables.specs.declared.parts.RouterPart.{RouterPart}
-use Rattle.dc_tables.specs.declared.parts.OutputPart.{OutputPart}
+use Rattle.dc_parts.specs.declared.parts.BusPart.{BusPart}
+use Rattle.dc_parts.specs.declared.parts.RouterPart.{RouterPart}
+use Rattle.dc_parts.specs.declared.parts.OutputPart.{OutputPart}
 use Rattle.dc_tables.specs.declared.rows.Output.{Output}
 use Rattle.dc_tables.specs.declared.rows.OutputLabel.{OutputLabel}
-use Rattle.dc_tables.specs.declared.keys.PlacedEntry.{PlacedEntry}
-use Rattle.dc_tables.specs.Rules.{counts}
-use Rattle.dc_tables.specs.Visits.{visitors_of, first_of}
-use Rattle.dc_tables.specs.declared.visits.Visitors.{Visitors}
+use Rattle.dc_rules.specs.declared.keys.PlacedEntry.{PlacedEntry}
+use Rattle.dc_rules.specs.Rules.{counts, visits_bus}
+use Rattle.dc_rules.specs.Visits.{visiting_routers}
+use Rattle.std.specs.Prelude.{unwrap_or}
+use Rattle.std.specs.List.{position}
 use Rattle.std.proofs.lemmas.Grind.{get_or_default_zero}
-use Rattle.dc_tables.proofs.Apart.{counts_length, counts_at}
-use Rattle.dc_tables.proofs.Visited.{visitor_is}
+use Rattle.dc_rules.specs.lemmas.Apart.{counts_length, counts_at}
 use Rattle.dc_tables.specs.RowsOf.{IsOutputRow, AreOutputs}
 use Rattle.std.specs.List.{All}
 use Rattle.std.proofs.lemmas.List.Elements.{All-push}
-use Rattle.std.proofs.lemmas.List.{get_or_append_left, length-append}
+use Rattle.std.proofs.lemmas.List.{get_or_append_left, get_or-map, length-append, length-map}
 use Rattle.std.proofs.Math.Seq.{get_or-append_seam}
 use Rattle.std.specs.List.{count_by}
 use Rattle.std.proofs.lemmas.Bool.{cases_lt}
 use Rattle.std.proofs.lemmas.Bool.Decides.{nat_tests}
-use Rattle.dc_tables.proofs.Owners.{one, counted, one_false, owners_fit}
+use Rattle.dc_rules.specs.lemmas.Owners.{one, counted, one_false, owners_fit}
 
 -- one more row of a bus
 pub bus_rows_step : (owners : List ℕ) (routers : List RouterPart) (past : List Bus) (xs : List BusPart) (b : ℕ) (x : BusPart) (row : Bus) → b < length xs → x ≡ get_or xs b x → row ≡ bus_row_of owners routers b x
@@ -77,12 +77,19 @@ pub own_count : (owners all : List ℕ) (n b v : ℕ) → all ≡ counts owners 
 own_count owners all n b v h l e =
     omega (arith, e, get_or_default_zero all b v (omega (arith, l, ap length h, counts_length owners n)), ap (λ xs. get_or xs b 0) h, counts_at owners n b l)
 
--- the row of a bus, made of its streams and its visitors
-pub bus_row_is : (owners : List ℕ) (routers : List RouterPart) (b : ℕ) (x : BusPart) (first streams : ℕ) (found : Option Visitors) (row : Bus) → row ≡ bus_row_with first streams (first_of found) x
-    → first ≡ below b owners → streams ≡ at b owners → found ≡ visitors_of routers x.name → row ≡ bus_row_of owners routers b x
-bus_row_is owners routers b x first streams found row h f s v =
-    h ∙ ap (λ k. bus_row_with k streams (first_of found) x) f ∙ ap (λ k. bus_row_with (below b owners) k (first_of found) x) s
-    ∙ ap (λ k. bus_row_with (below b owners) (at b owners) k x) (visitor_is routers x.name found v)
+-- the router that visits a bus, read from those of all
+pub own_router : (routers : List RouterPart) (parts : List BusPart) (all : List ℕ) (b v : ℕ) (x : BusPart) → all ≡ visiting_routers routers parts → b < length parts → x ≡ get_or parts b x → v ≡ get_or all b v
+    → v ≡ unwrap_or (position (visits_bus x.name) routers) 0
+own_router routers parts all b v x h l at e =
+    let f : BusPart → ℕ = λ y. unwrap_or (position (visits_bus y.name) routers) 0 in
+    omega (arith, e, get_or_default_zero all b v (omega (arith, l, ap length h, length-map parts f)), ap (λ xs. get_or xs b 0) h, get_or-map f parts b x 0 l, ap f at)
+
+-- the row of a bus, made of its streams and its router
+pub bus_row_is : (owners : List ℕ) (routers : List RouterPart) (b : ℕ) (x : BusPart) (first streams router : ℕ) (row : Bus) → row ≡ bus_row_with first streams router x
+    → first ≡ below b owners → streams ≡ at b owners → router ≡ unwrap_or (position (visits_bus x.name) routers) 0 → row ≡ bus_row_of owners routers b x
+bus_row_is owners routers b x first streams router row h f s v =
+    h ∙ ap (λ k. bus_row_with k streams router x) f ∙ ap (λ k. bus_row_with (below b owners) k router x) s
+    ∙ ap (λ k. bus_row_with (below b owners) (at b owners) k x) v
 
 -- the streams of the buses so far are no more than all
 pub first_fits : (owners : List ℕ) (b first streams : ℕ) → first ≡ below b owners → streams ≡ at b owners → first + streams ≤ length owners

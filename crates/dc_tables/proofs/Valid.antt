@@ -1,25 +1,26 @@
 -- Tables that break no rule are valid.
-use Rattle.std.proofs.Common.{◌≡◌, ℕ, ◌<◌, Option, Some, None, Ok, List, [], length, map, refl, sym, ap, ◌∙◌, arith}
+use Rattle.std.proofs.Common.{◌≡◌, ℕ, ◌<◌, Option, Some, None, List, [], length, map, refl, sym, ap, ◌∙◌, arith, subst}
 use Rattle.std.specs.Prelude.{option_map}
 use Rattle.std.specs.List.{All, slice_get}
 use Rattle.std.proofs.lemmas.List.{length-map}
 use Rattle.dc_word.specs.declared.format.Format.TheVariants.{Bnr}
-use Rattle.dc_tables.specs.Document.{Document, IsInOrder}
-use Rattle.dc_tables.specs.RowsOf.{AreRows}
+use Rattle.dc_parts.specs.Document.{Document, IsInOrder}
+use Rattle.dc_rules.specs.Rules.{bus_names, stream_names, router_names, output_names, label_names}
+use Rattle.dc_tables.specs.RowsOf.{AreRows, keys_of}
 use Rattle.dc_tables.specs.TableRows.{TableRows, AreValid}
 use Rattle.dc_tables.specs.TableKeys.{TableKeys, WrittenKeys}
-use Rattle.dc_tables.specs.declared.parts.ParameterPart.{ParameterPart}
-use Rattle.dc_tables.specs.Keyed.{AreKeyed}
+use Rattle.dc_dict.specs.declared.parameter.Parameter.{Parameter as ParameterPart}
+use Rattle.dc_tables.specs.Keyed.{AreKeyed, AreOnce}
 use Rattle.dc_tables.specs.declared.rows.OutputLabel.{OutputLabel}
-use Rattle.dc_tables.proofs.Picks.{no_item, not_below}
-use Rattle.dc_tables.specs.Rules.{told, then_told, shape, totals, quantities, later_quantities, names, references, schedules, first_rules, later_rules, doubled, same_parameter, parameter_key}
-use Rattle.dc_tables.specs.declared.fault.Code.TheVariants.{T09}
-use Rattle.dc_tables.specs.declared.fault.Section.TheVariants.{Parameter}
-use Rattle.dc_tables.proofs.Obeys.{both, shape_obeys, totals_obey, quantities_obey, references_obey, schedules_obey, ShapeObeys, TotalsObey, QuantitiesObey, ReferencesObey, SchedulesObey}
+use Rattle.dc_rules.specs.lemmas.Picks.{no_item, not_below}
+use Rattle.dc_rules.specs.Obeys.{ShapeObeys, TotalsObey, QuantitiesObey, NamesObey, ReferencesObey, SchedulesObey, Obeys}
 use Rattle.dc_tables.proofs.ValidBuses as buses
 use Rattle.dc_tables.proofs.ValidRouters as routers
 use Rattle.dc_tables.proofs.ValidLabels as labels
 use Rattle.dc_tables.proofs.ValidOutputs as outputs
+use Rattle.dc_tables.proofs.ValidApart as apart
+use Rattle.dc_tables.proofs.ValidVisits as visits
+use Rattle.dc_tables.proofs.ValidFormats as formats
 
 unmapped : {A : Type 0} (f : A → ℕ) (r : Option A) → option_map f r ≡ None → r ≡ None
 unmapped f None h = refl
@@ -29,8 +30,8 @@ unmapped f (Some x) h = absurd (cc h)
 abbrev pub LabelsFit : TableRows → Type 0
 LabelsFit t = All (λ (r : OutputLabel). (r.label < 256) × (r.sdi < 4)) t.labels
 
-pub valid : (d : Document) (t : TableRows) → IsInOrder d → AreRows d t → LabelsFit t → ShapeObeys d → TotalsObey d → QuantitiesObey d → ReferencesObey d → SchedulesObey d → AreValid t
-valid d t order rows fit shape totals quantities refs schedules = record {
+valid : (d : Document) (t : TableRows) → IsInOrder d → AreRows d t → LabelsFit t → ShapeObeys d → TotalsObey d → QuantitiesObey d → NamesObey d → ReferencesObey d → SchedulesObey d → AreValid t
+valid d t order rows fit shape totals quantities names refs schedules = record {
   ticks_short = omega (arith, rows.tick, (buses.tick_in d t rows shape).1);
   ticks_some = omega (arith, rows.tick, (buses.tick_in d t rows shape).0);
   few_buses = omega (arith, buses.bus_count d t rows, not_below 64 (length d.buses) shape.top.buses);
@@ -46,10 +47,13 @@ valid d t order rows fit shape totals quantities refs schedules = record {
   bus_of_streams = buses.bus_of_streams d t rows order;
   routers_of_buses = routers.routers_of_buses d t rows shape refs;
   visited_by_one = routers.visited_by_one d t rows shape refs;
+  buses_visited = visits.buses_visited d t rows shape names refs;
   streams_on_buses = buses.streams_on_buses d t rows order;
   minimums = buses.minimums d t rows shape quantities refs;
   maximums = buses.maximums d t rows shape quantities refs;
   maximums_small = buses.maximums_small d t rows shape;
+  jitters_small = buses.jitters_small d t rows shape;
+  streams_apart = apart.streams_apart d t rows refs;
   visits_there = routers.visits_there d t rows shape;
   few_visits = routers.few_visits d t rows shape;
   visits_on_buses = routers.visits_on_buses d t rows shape refs;
@@ -71,11 +75,13 @@ valid d t order rows fit shape totals quantities refs schedules = record {
   entries_ascend = outputs.entries_ascend d t rows schedules;
   entries_in_frame = outputs.entries_in_frame d t rows schedules;
   entries_labelled = outputs.entries_labelled d t rows;
+  labels_apart = apart.labels_apart d t rows schedules;
   labels_on_outputs = labels.labels_on_outputs d t rows order;
   labels_in_frames = outputs.labels_in_frames d t rows order shape;
   labels_fit = λ x h. fit x (record { output = 0; label = 0; sdi = 0; format = Bnr; sources = []; stale = 0; oldest = 0; least = 0; greatest = 0 }) h;
   sources_some = labels.sources_some d t rows shape;
   few_sources = labels.few_sources d t rows shape;
+  sources_once = apart.sources_once d t rows refs;
   sources_there = labels.sources_there d t rows shape quantities refs;
   stales = labels.stales d t rows shape;
   limits = labels.limits d t rows shape;
@@ -83,24 +89,21 @@ valid d t order rows fit shape totals quantities refs schedules = record {
   intervals_small = labels.intervals_small d t rows shape;
 }
 
--- the same, from the verdicts
-pub valid_rows : (d : Document) (t : TableRows) → IsInOrder d → AreRows d t → LabelsFit t → first_rules d ≡ Ok tt → later_rules d ≡ Ok tt → AreValid t
-valid_rows d t order rows fit first later =
-    let a = both (shape d) (then_told (totals d) (quantities d)) first in
-    let b = both (totals d) (quantities d) a.1 in
-    let e = both (told T09 Parameter (doubled same_parameter (map parameter_key d.parameters))) (later_quantities d) b.1 in
-    let f = both (names d) (then_told (references d) (schedules d)) later in
-    let g = both (references d) (schedules d) f.1 in
-    valid d t order rows fit (shape_obeys d a.0) (totals_obey d b.0) (quantities_obey d e.1) (references_obey d g.0) (schedules_obey d g.1)
+pub valid_rows : (d : Document) (t : TableRows) → IsInOrder d → AreRows d t → LabelsFit t → Obeys d → AreValid t
+valid_rows d t order rows fit all = valid d t order rows fit all.shape all.totals all.quantities all.names all.references all.schedules
 
 -- names alike make keys alike
 pub keys_same : {a b e f g a2 b2 e2 f2 g2 : List (List ℕ)} {m m2 : List ParameterPart} {w w2 : WrittenKeys} → a ≡ a2 → b ≡ b2 → e ≡ e2 → f ≡ f2 → g ≡ g2 → m ≡ m2 → w ≡ w2
     → ◌≡◌ {A = TableKeys} (record { buses = a; streams = b; routers = e; outputs = f; labels = g; parameters = m; written = w }) (record { buses = a2; streams = b2; routers = e2; outputs = f2; labels = g2; parameters = m2; written = w2 })
 keys_same p q r s u v w = λ i. record { buses = p i; streams = q i; routers = r i; outputs = s i; labels = u i; parameters = v i; written = w i }
 
+-- names that stand once in the document do so in the keys
+once : (d : Document) (t : TableRows) → AreRows d t → (f : TableKeys → List (List ℕ)) → AreOnce (f (keys_of d)) → AreOnce (f t.keys)
+once d t rows f h = let P : TableKeys → Type 0 = λ k. AreOnce (f k) in subst P (sym rows.keys) h
+
 -- each row has a name
-pub keyed_rows : (d : Document) (t : TableRows) → AreRows d t → AreKeyed t
-keyed_rows d t rows = record {
+pub keyed_rows : (d : Document) (t : TableRows) → AreRows d t → Obeys d → AreKeyed t
+keyed_rows d t rows all = record {
   buses = ap (λ (k : TableKeys). length k.buses) rows.keys ∙ length-map d.buses (λ b. b.name) ∙ sym (buses.bus_count d t rows);
   streams = ap (λ (k : TableKeys). length k.streams) rows.keys ∙ length-map d.streams (λ s. s.name) ∙ sym (buses.stream_count d t rows);
   routers = ap (λ (k : TableKeys). length k.routers) rows.keys ∙ length-map d.routers (λ r. r.name) ∙ sym (routers.router_count d t rows);
@@ -109,6 +112,14 @@ keyed_rows d t rows = record {
   bus_speeds = ap (λ (k : TableKeys). length k.written.bus_speeds) rows.keys ∙ length-map d.buses (λ b. b.speed) ∙ sym (buses.bus_count d t rows);
   output_speeds = ap (λ (k : TableKeys). length k.written.output_speeds) rows.keys ∙ length-map d.outputs (λ o. o.speed) ∙ sym rows.outputs_there;
   stream_equipment = ap (λ (k : TableKeys). length k.written.stream_equipment) rows.keys ∙ length-map d.streams (λ s. s.equipment) ∙ sym (buses.stream_count d t rows);
+  stream_jitters = ap (λ (k : TableKeys). length k.written.stream_jitters) rows.keys ∙ length-map d.streams (λ s. s.jitter_us) ∙ sym (buses.stream_count d t rows);
   label_equipment = ap (λ (k : TableKeys). length k.written.label_equipment) rows.keys ∙ length-map d.labels (λ x. x.equipment) ∙ sym (labels.label_count d t rows);
   label_offsets = ap (λ (k : TableKeys). length k.written.label_offsets) rows.keys ∙ length-map d.labels (λ x. x.offsets.items) ∙ sym (labels.label_count d t rows);
+  buses_once = once d t rows (λ k. k.buses) (apart.names_once (bus_names d) all.names.buses);
+  streams_once = once d t rows (λ k. k.streams) (apart.names_once (stream_names d) all.names.streams);
+  routers_once = once d t rows (λ k. k.routers) (apart.names_once (router_names d) all.names.routers);
+  outputs_once = once d t rows (λ k. k.outputs) (apart.names_once (output_names d) all.names.outputs);
+  labels_once = once d t rows (λ k. k.labels) (apart.names_once (label_names d) all.names.labels);
+  formats = formats.formats d t rows all.references;
+  sources_alike = formats.sources_alike d t rows all.references all.schedules;
 }

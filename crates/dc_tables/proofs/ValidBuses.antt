@@ -1,21 +1,23 @@
 -- The buses and streams of tables that break no rule.
-use Rattle.std.proofs.Common.{◌≡◌, ℕ, zero, suc, ◌+◌, ◌<◌, ◌≤◌, nat_lt, None, List, [], ◌∷◌, length, get_or, refl, sym, ap, ◌∙◌, arith, subst}
+use Rattle.std.proofs.Common.{false, ◌≡◌, ℕ, zero, suc, ◌+◌, ◌<◌, ◌≤◌, nat_lt, None, List, [], ◌∷◌, length, get_or, refl, sym, ap, ◌∙◌, arith, subst}
 use Rattle.std.specs.Prelude.{is_none}
 use Rattle.std.proofs.lemmas.List.{get_or-map, length-map}
-use Rattle.dc_tables.specs.Document.{Document, stream_owners, IsInOrder}
-use Rattle.dc_tables.specs.Rules.{parameter_of, stream_key, too_quick, outside, parameter_out}
+use Rattle.dc_parts.specs.Document.{Document, stream_owners, IsInOrder}
+use Rattle.dc_rules.specs.Rules.{parameter_of, too_quick, outside, parameter_out}
+use Rattle.dc_parts.specs.Keys.{stream_key}
 use Rattle.dc_tables.specs.RowsOf.{bus_row_of, bus_rows_from, stream_row_of, AreRows}
 use Rattle.dc_tables.specs.TableRows.{TableRows, bus_row, stream_row}
 use Rattle.dc_tables.specs.declared.rows.Bus.{Bus}
 use Rattle.dc_tables.specs.declared.rows.Stream.{Stream}
-use Rattle.dc_tables.specs.declared.parts.BusPart.{BusPart}
-use Rattle.dc_tables.specs.declared.parts.StreamPart.{StreamPart}
-use Rattle.dc_tables.specs.declared.parts.RouterPart.{RouterPart}
-use Rattle.dc_tables.specs.declared.parts.ParameterPart.{ParameterPart}
-use Rattle.dc_tables.proofs.Picks.{rows_each, each_fails, not_outside, or_none, not_below}
-use Rattle.dc_tables.proofs.Owners.{owners_fit, placed, IsPlaced}
-use Rattle.dc_tables.proofs.Intervals.{found_holds, minimum_some, maximum_after, maximum_small, spacing_some}
-use Rattle.dc_tables.proofs.Obeys.{ShapeObeys, ReferencesObey, QuantitiesObey}
+use Rattle.dc_parts.specs.declared.parts.BusPart.{BusPart}
+use Rattle.dc_parts.specs.declared.parts.StreamPart.{StreamPart}
+use Rattle.dc_parts.specs.declared.parts.RouterPart.{RouterPart}
+use Rattle.dc_dict.specs.declared.parameter.Parameter.{Parameter as ParameterPart}
+use Rattle.dc_rules.specs.lemmas.Picks.{rows_each, each_fails, not_outside, or_none, not_below}
+use Rattle.dc_rules.specs.lemmas.Owners.{owners_fit, placed, IsPlaced}
+use Rattle.dc_rules.specs.lemmas.Found.{found_holds}
+use Rattle.dc_tables.proofs.Intervals.{jitter_small, minimum_some, maximum_after, maximum_small, spacing_some}
+use Rattle.dc_rules.specs.Obeys.{ShapeObeys, ReferencesObey, QuantitiesObey}
 
 pub buses_length : (owners : List ℕ) (routers : List RouterPart) (b : ℕ) (xs : List BusPart) → length (bus_rows_from owners routers b xs) ≡ length xs
 buses_length owners routers b [] = refl
@@ -47,7 +49,7 @@ module _ (d : Document) (t : TableRows) (rows : AreRows d t) where
   -- what holds of each bus's row holds of each row
   pub each_bus : (P : ℕ → Bus → Type 0) → ((k : ℕ) (x : BusPart) → k < length d.buses → P k (bus_row_of (stream_owners d) d.routers k (get_or d.buses k x))) → (b : ℕ) → b < length t.buses → P b (bus_row t b)
   each_bus P each b h =
-      let e : Bus = record { queue = 0; spacing = 0; first = 0; streams = 0; router = 0 } in
+      let e : Bus = record { queue = 0; police = false; spacing = 0; first = 0; streams = 0; router = 0 } in
       let l : b < length d.buses = omega (arith, bus_count) in
       let Q : List Bus → Type 0 = λ l. P b (get_or l b e) in
       let z : 0 + b ≡ b = omega arith in
@@ -58,13 +60,13 @@ module _ (d : Document) (t : TableRows) (rows : AreRows d t) where
       subst S (sym y) (each k x m)) b l))
 
   pub each_stream : (P : Stream → Type 0) → ((k : ℕ) (x : StreamPart) → k < length d.streams → P (stream_row_of d.tick_us d.parameters (get_or d.streams k x))) → (s : ℕ) → s < length t.streams → P (stream_row t s)
-  each_stream P each = rows_each P (stream_row_of d.tick_us d.parameters) d.streams t.streams (record { bus = 0; label = 0; sdi = None; minimum = 0; maximum = 0 }) rows.streams each
+  each_stream P each = rows_each P (stream_row_of d.tick_us d.parameters) d.streams t.streams (record { bus = 0; label = 0; sdi = None; minimum = 0; maximum = 0; jitter = 0 }) rows.streams each
 
   pub owner_of : (s : ℕ) → s < length t.streams → (stream_row t s).bus ≡ get_or (stream_owners d) s 0
   owner_of s h =
       let l : s < length d.streams = omega (arith, stream_count) in
-      let e : Stream = record { bus = 0; label = 0; sdi = None; minimum = 0; maximum = 0 } in
-      let x : StreamPart = record { bus = 0; name = []; label = 0; equipment = 0; sdi = None } in
+      let e : Stream = record { bus = 0; label = 0; sdi = None; minimum = 0; maximum = 0; jitter = 0 } in
+      let x : StreamPart = record { bus = 0; name = []; label = 0; equipment = 0; sdi = None; jitter_us = 0 } in
       ap (λ (ys : List Stream). (get_or ys s e).bus) rows.streams
       ∙ ap (λ (r : Stream). r.bus) (get_or-map (stream_row_of d.tick_us d.parameters) d.streams s x e l)
       ∙ sym (get_or-map (λ (y : StreamPart). y.bus) d.streams s x 0 l)
@@ -116,6 +118,11 @@ module _ (d : Document) (t : TableRows) (rows : AreRows d t) (shape : ShapeObeys
   maximums_small = each_stream d t rows (λ r. r.maximum ≤ 600000) (λ k x l.
       let key = stream_key (get_or d.streams k x) in
       maximum_small d.tick_us (parameter_of d.parameters key) tick_in.0 (λ p e. found_holds (λ q. q.max_us ≤ 60000000) d.parameters key p max_in e))
+
+  pub jitters_small : (s : ℕ) → s < length t.streams → (stream_row t s).jitter ≤ 600000
+  jitters_small = each_stream d t rows (λ r. r.jitter ≤ 600000) (λ k x l.
+      let s = get_or d.streams k x in
+      jitter_small d.tick_us s.jitter_us tick_in.0 (not_below 60000000 s.jitter_us (each_fails (λ s. nat_lt 60000000 s.jitter_us) d.streams shape.streams k x l)))
 
 module _ (d : Document) (t : TableRows) (rows : AreRows d t) (shape : ShapeObeys d) (quantities : QuantitiesObey d) (refs : ReferencesObey d) where
   pub minimums : (s : ℕ) → s < length t.streams → 1 ≤ (stream_row t s).minimum

@@ -4,12 +4,12 @@ use Rattle.std.specs.List.{All, Contains, count_by}
 use Rattle.std.proofs.lemmas.List.{length-map, get_or-map}
 use Rattle.std.proofs.lemmas.List.Elements.{All-nil, All-cons, All-append, All-map, Contains-append_left, Contains-append_right}
 use Rattle.std.proofs.lemmas.Bool.Decides.{nat_tests}
-use Rattle.dc_tables.specs.Rules.{label_entries, entries_from}
+use Rattle.dc_rules.specs.Rules.{label_entries, entries_from}
 use Rattle.dc_tables.specs.RowsOf.{entry_of, own_entries}
 use Rattle.dc_tables.specs.declared.rows.Entry.{Entry}
-use Rattle.dc_tables.specs.declared.keys.PlacedEntry.{PlacedEntry}
-use Rattle.dc_tables.specs.declared.parts.LabelPart.{LabelPart}
-use Rattle.dc_tables.proofs.Owners.{one, counted, one_true, one_false, bool_cases}
+use Rattle.dc_rules.specs.declared.keys.PlacedEntry.{PlacedEntry}
+use Rattle.dc_parts.specs.declared.parts.LabelPart.{LabelPart}
+use Rattle.dc_rules.specs.lemmas.Owners.{one, counted, one_true, one_false, bool_cases}
 
 pub is_same : (a b : ℕ) → (a == b) ≡ true → a ≡ b
 is_same a b h = grind (arith, nat_tests)

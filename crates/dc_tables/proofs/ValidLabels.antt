@@ -2,18 +2,20 @@
 use Rattle.std.proofs.Common.{◌≡◌, ℕ, ◌+◌, ◌<◌, ◌≤◌, ◌||◌, is_none, List, [], length, get_or, map, sym, ap, ◌∙◌, arith, subst}
 use Rattle.std.proofs.lemmas.List.{length-map, get_or-map}
 use Rattle.dc_word.specs.declared.format.Format.TheVariants.{Bnr}
-use Rattle.dc_tables.specs.Document.{Document, label_owners, IsInOrder}
-use Rattle.dc_tables.specs.Rules.{outside, offsets_out, label_out, parameter_of, label_key, no_interval, has_unknown, stream_names}
+use Rattle.dc_parts.specs.Document.{Document, label_owners, IsInOrder}
+use Rattle.dc_rules.specs.Rules.{outside, offsets_out, label_out, parameter_of, no_interval, has_unknown, stream_names}
+use Rattle.dc_parts.specs.Keys.{label_key}
 use Rattle.dc_tables.specs.RowsOf.{number_in, label_row_of, AreRows}
 use Rattle.dc_tables.specs.TableRows.{TableRows, label_row}
 use Rattle.dc_tables.specs.declared.rows.OutputLabel.{OutputLabel}
-use Rattle.dc_tables.specs.declared.parts.LabelPart.{LabelPart}
-use Rattle.dc_tables.specs.declared.parts.StreamPart.{StreamPart}
-use Rattle.dc_tables.proofs.Picks.{rows_each, each_fails, not_outside, or_none}
-use Rattle.dc_tables.proofs.Intervals.{found_holds, interval_there, interval_small}
+use Rattle.dc_parts.specs.declared.parts.LabelPart.{LabelPart}
+use Rattle.dc_parts.specs.declared.parts.StreamPart.{StreamPart}
+use Rattle.dc_rules.specs.lemmas.Picks.{rows_each, each_fails, not_outside, or_none}
+use Rattle.dc_rules.specs.lemmas.Found.{found_holds}
+use Rattle.dc_tables.proofs.Intervals.{interval_there, interval_small}
 use Rattle.dc_tables.proofs.ValidBuses.{stream_count, tick_in, max_in}
 use Rattle.dc_tables.proofs.ValidRouters.{numbers_always, map_from}
-use Rattle.dc_tables.proofs.Obeys.{ShapeObeys, ReferencesObey, QuantitiesObey}
+use Rattle.dc_rules.specs.Obeys.{ShapeObeys, ReferencesObey, QuantitiesObey}
 
 module _ (d : Document) (t : TableRows) (rows : AreRows d t) where
   pub label_count : length t.labels ≡ length d.labels

@@ -5,25 +5,25 @@ use Rattle.std.specs.Prelude.{option_map, option_and_then}
 use Rattle.std.proofs.lemmas.List.{length-map, get_or-map}
 use Rattle.std.proofs.lemmas.List.Sorted.{All-permutation, Contains-permutation, sum_by-IsPermutation, length_permutation}
 use Rattle.std.proofs.lemmas.Bool.{cases_lt}
-use Rattle.dc_tables.specs.Document.{Document, label_owners, IsInOrder}
-use Rattle.dc_tables.specs.Ticks.{output_gap}
-use Rattle.dc_tables.specs.Rules.{outside, output_out, counts, doubled, doubled_from, same_offset, offset_of, entries_from, entry_owners, frame_of}
+use Rattle.dc_parts.specs.Document.{Document, label_owners, IsInOrder}
+use Rattle.dc_parts.specs.Ticks.{output_gap}
+use Rattle.dc_rules.specs.Rules.{outside, output_out, counts, doubled, doubled_from, same_offset, offset_of, entries_from, entry_owners, frame_of}
 use Rattle.dc_tables.specs.RowsOf.{entry_of, own_entries, IsOutputRow, AreRows}
 use Rattle.dc_tables.specs.TableRows.{TableRows, output_row, label_row, entry_row}
-use Rattle.dc_tables.specs.declared.rows.Speed.TheVariants.{High}
+use Rattle.dc_parts.specs.declared.parts.Speed.TheVariants.{High}
 use Rattle.dc_tables.specs.declared.rows.Entry.{Entry}
-use Rattle.dc_tables.specs.declared.keys.PlacedEntry.{PlacedEntry}
-use Rattle.dc_tables.specs.declared.keys.PlacedOffset.{PlacedOffset}
-use Rattle.dc_tables.specs.declared.parts.OutputPart.{OutputPart}
-use Rattle.dc_tables.specs.declared.parts.LabelPart.{LabelPart}
-use Rattle.dc_tables.proofs.Picks.{each_fails, any_fails, not_outside, or_none, not_below, not_le, first_passes, and_some}
-use Rattle.dc_tables.proofs.Owners.{bool_cases, counted_there}
-use Rattle.dc_tables.proofs.Apart.{apart, one_at_most, two_at_least, counts_length, counts_at}
+use Rattle.dc_rules.specs.declared.keys.PlacedEntry.{PlacedEntry}
+use Rattle.dc_rules.specs.declared.keys.PlacedOffset.{PlacedOffset}
+use Rattle.dc_parts.specs.declared.parts.OutputPart.{OutputPart}
+use Rattle.dc_parts.specs.declared.parts.LabelPart.{LabelPart}
+use Rattle.dc_rules.specs.lemmas.Picks.{each_fails, any_fails, not_outside, or_none, not_below, not_le, first_passes, and_some}
+use Rattle.dc_rules.specs.lemmas.Owners.{bool_cases, counted_there}
+use Rattle.dc_rules.specs.lemmas.Apart.{apart, one_at_most, two_at_least, counts_length, counts_at}
 use Rattle.dc_tables.proofs.Intervals.{gap_some}
 use Rattle.dc_tables.proofs.ValidBuses.{tick_in}
 use Rattle.dc_tables.proofs.ValidLabels.{label_count, output_of, each_label_at}
 use Rattle.dc_tables.proofs.ValidEntries.{is_same, same_is, both_true, all_entries, entry_there, own_all, own_length, own_count, own_contains}
-use Rattle.dc_tables.proofs.Obeys.{ShapeObeys, TotalsObey, SchedulesObey}
+use Rattle.dc_rules.specs.Obeys.{ShapeObeys, TotalsObey, SchedulesObey}
 
 frame_at : (xs : List OutputPart) (o : ℕ) (e : OutputPart) → o < length xs → frame_of xs o ≡ (get_or xs o e).frame
 frame_at [] o e h = absurd (omega arith)

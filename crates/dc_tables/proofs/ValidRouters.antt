@@ -9,17 +9,18 @@ use Rattle.std.proofs.lemmas.List.{length-map, get_or-map}
 use Rattle.std.proofs.lemmas.Bool.{cases_lt}
 use Rattle.std.proofs.lemmas.Bool.Decides.{nat_tests}
 use Rattle.std.proofs.lemmas.Slice.Eq.{bytes_eq-Decides}
-use Rattle.dc_tables.specs.Document.{Document}
-use Rattle.dc_tables.specs.Rules.{outside, router_out, visits_bus, number_of, has_unknown, bus_names}
+use Rattle.dc_parts.specs.Document.{Document}
+use Rattle.dc_rules.specs.Rules.{outside, router_out, visits_bus, has_unknown, bus_names}
+use Rattle.dc_parts.specs.Names.{number_of}
 use Rattle.dc_tables.specs.RowsOf.{number_in, router_row_of, AreRows}
 use Rattle.dc_tables.specs.TableRows.{TableRows, bus_row, router_row, visited}
 use Rattle.dc_tables.specs.declared.rows.Router.{Router}
-use Rattle.dc_tables.specs.declared.parts.BusPart.{BusPart}
-use Rattle.dc_tables.specs.declared.parts.RouterPart.{RouterPart}
-use Rattle.dc_tables.proofs.Picks.{map_each, rows_each, each_fails, any_fails, not_outside, or_none, not_below, not_false, first_passes, number_there}
-use Rattle.dc_tables.proofs.Owners.{counted_there, only_one}
+use Rattle.dc_parts.specs.declared.parts.BusPart.{BusPart}
+use Rattle.dc_parts.specs.declared.parts.RouterPart.{RouterPart}
+use Rattle.dc_rules.specs.lemmas.Picks.{map_each, rows_each, each_fails, any_fails, not_outside, or_none, not_below, not_false, first_passes, number_there}
+use Rattle.dc_rules.specs.lemmas.Owners.{counted_there, only_one}
 use Rattle.dc_tables.proofs.ValidBuses.{bus_count, each_bus}
-use Rattle.dc_tables.proofs.Obeys.{ShapeObeys, ReferencesObey, SchedulesObey}
+use Rattle.dc_rules.specs.Obeys.{ShapeObeys, ReferencesObey, SchedulesObey}
 
 -- ---- numbers of names
 
@@ -36,7 +37,7 @@ numbers_always names wanted h some n =
           omega (arith, e, numbers_below names wanted h 0 some)
     ]
 
-named_as : (names : List (List ℕ)) (w : List ℕ) (r : Option ℕ) (b : ℕ) → number_of names w ≡ r → is_none r ≡ false → unwrap_or r 0 ≡ b → bytes_eq w (get_or names b []) ≡ true
+pub named_as : (names : List (List ℕ)) (w : List ℕ) (r : Option ℕ) (b : ℕ) → number_of names w ≡ r → is_none r ≡ false → unwrap_or r 0 ≡ b → bytes_eq w (get_or names b []) ≡ true
 named_as names w None b h s e = absurd (cc s)
 named_as names w (Some j) b h s e =
     let P : ℕ → Type 0 = λ k. bytes_eq w (get_or names k []) ≡ true in
@@ -129,7 +130,7 @@ module _ (d : Document) (t : TableRows) (rows : AreRows d t) (shape : ShapeObeys
   pub visits_on_buses : (r n : ℕ) → r < length t.routers → get_or (router_row t r).visits n 0 < length t.buses
   visits_on_buses r n h = each_router d t rows (λ w. get_or w.visits n 0 < length t.buses) (λ k x l. omega (arith, numbers_always (bus_names d) (get_or d.routers k x).visits.items (known k x l) (visits_in d t rows shape k x l).0 n, names_length d t rows)) r h
 
-  served : (k : ℕ) (x : BusPart) → k < length d.buses → count_by (visits_bus (get_or d.buses k x).name) d.routers ≡ 1
+  pub served : (k : ℕ) (x : BusPart) → k < length d.buses → count_by (visits_bus (get_or d.buses k x).name) d.routers ≡ 1
   served k x l = is_one (count_by (visits_bus (get_or d.buses k x).name) d.routers) (not_false (count_by (visits_bus (get_or d.buses k x).name) d.routers == 1) (each_fails (λ b. not (count_by (visits_bus b.name) d.routers == 1)) d.buses refs.served k x l))
 
   pub routers_of_buses : (b : ℕ) → b < length t.buses → (bus_row t b).router < length t.routers

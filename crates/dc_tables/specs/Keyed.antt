@@ -1,6 +1,20 @@
--- Rows and their names.
-use Rattle.std.specs.Prelude.{◌≡◌, length}
-use Rattle.dc_tables.specs.TableRows.{TableRows, AreValid}
+-- Rows and their names, and the parameters of their rows.
+use Rattle.std.specs.Prelude.{◌≡◌, ℕ, ◌<◌, List, [], length, Option, Some, option_map, slice_index, slice_index_or}
+use Rattle.dc_rules.specs.Rules.{parameter_of}
+use Rattle.dc_dict.specs.declared.parameter.Parameter.{Parameter as ParameterPart}
+use Rattle.dc_tables.specs.TableRows.{TableRows, AreValid, stream_row, label_row}
+
+-- no name stands twice
+abbrev pub AreOnce : List (List ℕ) → Type 0
+AreOnce names = (i j : ℕ) → i < length names → j < length names → slice_index_or names i [] ≡ slice_index_or names j [] → i ≡ j
+
+-- the parameter of a stream, by its label and equipment code
+abbrev pub stream_parameter : TableRows → ℕ → Option ParameterPart
+stream_parameter t s = parameter_of t.keys.parameters (record { label = (stream_row t s).label; equipment = slice_index t.keys.written.stream_equipment s })
+
+-- and that of a label
+abbrev pub label_parameter : TableRows → ℕ → Option ParameterPart
+label_parameter t x = parameter_of t.keys.parameters (record { label = (label_row t x).label; equipment = slice_index t.keys.written.label_equipment x })
 
 -- each row has a name and its written keys: their lists are as long as those of the rows
 pub record AreKeyed (t : TableRows) : Type 0 where
@@ -12,8 +26,18 @@ pub record AreKeyed (t : TableRows) : Type 0 where
   pub bus_speeds : length t.keys.written.bus_speeds ≡ length t.buses
   pub output_speeds : length t.keys.written.output_speeds ≡ length t.outputs
   pub stream_equipment : length t.keys.written.stream_equipment ≡ length t.streams
+  pub stream_jitters : length t.keys.written.stream_jitters ≡ length t.streams
   pub label_equipment : length t.keys.written.label_equipment ≡ length t.labels
   pub label_offsets : length t.keys.written.label_offsets ≡ length t.labels
+  -- the names of a kind differ
+  pub buses_once : AreOnce t.keys.buses
+  pub streams_once : AreOnce t.keys.streams
+  pub routers_once : AreOnce t.keys.routers
+  pub outputs_once : AreOnce t.keys.outputs
+  pub labels_once : AreOnce t.keys.labels
+  -- a label has the format of its parameter, and each of its sources has it too
+  pub formats : (x : ℕ) → x < length t.labels → option_map (λ p. p.format) (label_parameter t x) ≡ Some (label_row t x).format
+  pub sources_alike : (x k : ℕ) → x < length t.labels → k < length (label_row t x).sources → option_map (λ p. p.format) (stream_parameter t (slice_index (label_row t x).sources k)) ≡ Some (label_row t x).format
 
 -- valid rows with their names
 pub record AreSound (t : TableRows) : Type 0 where

@@ -1,14 +1,7 @@
-pub mod Names
-pub mod Document
-pub mod Ticks
-pub mod Rules
-pub mod Declarations
 pub mod TableKeys
 pub mod TableRows
 pub mod Keyed
 pub mod Bounds
 pub mod RowsOf
-pub mod Visits
 pub mod Placed
 pub mod Declares
-pub mod FaultText

@@ -1,6 +1,6 @@
 -- Entries in the order of their outputs.
 use Rattle.std.specs.Prelude.{ℕ, ◌≤◌, List, [], ◌∷◌}
-use Rattle.dc_tables.specs.declared.keys.PlacedEntry.{PlacedEntry}
+use Rattle.dc_rules.specs.declared.keys.PlacedEntry.{PlacedEntry}
 
 -- each is of the same output as the one before it or of a later one, and the first of output m or later
 abbrev pub AreFrom : ℕ → List PlacedEntry → Type 0

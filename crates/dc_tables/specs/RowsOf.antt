@@ -9,17 +9,19 @@ use Rattle.dc_tables.specs.declared.rows.Router.{Router}
 use Rattle.dc_tables.specs.declared.rows.Output.{Output}
 use Rattle.dc_tables.specs.declared.rows.Entry.{Entry}
 use Rattle.dc_tables.specs.declared.rows.OutputLabel.{OutputLabel}
-use Rattle.dc_tables.specs.declared.keys.PlacedEntry.{PlacedEntry}
-use Rattle.dc_tables.specs.declared.parts.ParameterPart.{ParameterPart}
-use Rattle.dc_tables.specs.declared.parts.BusPart.{BusPart}
-use Rattle.dc_tables.specs.declared.parts.StreamPart.{StreamPart}
-use Rattle.dc_tables.specs.declared.parts.RouterPart.{RouterPart}
-use Rattle.dc_tables.specs.declared.parts.OutputPart.{OutputPart}
-use Rattle.dc_tables.specs.declared.parts.LabelPart.{LabelPart}
-use Rattle.dc_tables.specs.Document.{Document, stream_owners}
-use Rattle.dc_dict.specs.Ticks.{in_minimum, in_maximum, out_minimum, out_maximum}
-use Rattle.dc_tables.specs.Ticks.{output_gap, input_spacing}
-use Rattle.dc_tables.specs.Rules.{parameter_of, stream_key, label_key, number_of, visits_bus, entries_from, bus_names, stream_names, router_names, output_names, label_names}
+use Rattle.dc_rules.specs.declared.keys.PlacedEntry.{PlacedEntry}
+use Rattle.dc_dict.specs.declared.parameter.Parameter.{Parameter as ParameterPart}
+use Rattle.dc_parts.specs.declared.parts.BusPart.{BusPart}
+use Rattle.dc_parts.specs.declared.parts.StreamPart.{StreamPart}
+use Rattle.dc_parts.specs.declared.parts.RouterPart.{RouterPart}
+use Rattle.dc_parts.specs.declared.parts.OutputPart.{OutputPart}
+use Rattle.dc_parts.specs.declared.parts.LabelPart.{LabelPart}
+use Rattle.dc_parts.specs.Document.{Document, stream_owners}
+use Rattle.dc_dict.specs.Ticks.{in_minimum, in_maximum, out_minimum, out_maximum, jitter_ticks}
+use Rattle.dc_parts.specs.Ticks.{output_gap, input_spacing}
+use Rattle.dc_rules.specs.Rules.{parameter_of, visits_bus, entries_from, bus_names, stream_names, router_names, output_names, label_names}
+use Rattle.dc_parts.specs.Keys.{stream_key, label_key}
+use Rattle.dc_parts.specs.Names.{number_of}
 use Rattle.dc_tables.specs.TableKeys.{TableKeys, WrittenKeys}
 use Rattle.dc_tables.specs.TableRows.{TableRows, output_row}
 
@@ -27,6 +29,7 @@ use Rattle.dc_tables.specs.TableRows.{TableRows, output_row}
 abbrev pub bus_row_with : (first streams router : ℕ) → BusPart → Bus
 bus_row_with first streams router part = record {
   queue = part.queue;
+  police = part.police;
   spacing = input_spacing part.speed;
   first = first;
   streams = streams;
@@ -42,7 +45,7 @@ abbrev pub bus_rows_from : List ℕ → List RouterPart → ℕ → List BusPart
 bus_rows_from owners routers b [] = []
 bus_rows_from owners routers b (x ∷ xs) = bus_row_of owners routers b x ∷ bus_rows_from owners routers (suc b) xs
 
--- a stream: its parameter's interval in ticks
+-- a stream: its parameter's interval and its jitter in ticks
 abbrev pub stream_row_of : (tick : ℕ) → List ParameterPart → StreamPart → Stream
 stream_row_of tick parameters s = record {
   bus = s.bus;
@@ -50,6 +53,7 @@ stream_row_of tick parameters s = record {
   sdi = s.sdi;
   minimum = option_map_or (λ p. in_minimum p.min_us tick) (parameter_of parameters (stream_key s)) 0;
   maximum = option_map_or (λ p. in_maximum p.max_us tick) (parameter_of parameters (stream_key s)) 0;
+  jitter = jitter_ticks s.jitter_us tick;
 }
 
 -- the number of a name
@@ -104,6 +108,7 @@ written_of d = record {
   bus_speeds = map (λ b. b.speed) d.buses;
   output_speeds = map (λ o. o.speed) d.outputs;
   stream_equipment = map (λ s. s.equipment) d.streams;
+  stream_jitters = map (λ s. s.jitter_us) d.streams;
   label_equipment = map (λ x. x.equipment) d.labels;
   label_offsets = map (λ x. x.offsets.items) d.labels;
 }

@@ -1,14 +1,15 @@
 -- What tables say beside what a run asks of them.
 use Rattle.std.specs.Prelude.{ℕ, List, []}
-use Rattle.dc_tables.specs.declared.rows.Speed.{Speed}
-use Rattle.dc_tables.specs.declared.parts.ParameterPart.{ParameterPart}
+use Rattle.dc_parts.specs.declared.parts.Speed.{Speed}
+use Rattle.dc_dict.specs.declared.parameter.Parameter.{Parameter as ParameterPart}
 
--- keys that are kept as they are written, each list in the order of its rows: speeds, equipment codes, and the offsets
--- of each label
+-- keys that are kept as they are written, each list in the order of its rows: speeds, equipment codes, the jitter of each
+-- stream in microseconds, and the offsets of each label
 pub record WrittenKeys : Type 0 where
   pub bus_speeds : List Speed
   pub output_speeds : List Speed
   pub stream_equipment : List ℕ
+  pub stream_jitters : List ℕ
   pub label_equipment : List ℕ
   pub label_offsets : List (List ℕ)
 
@@ -31,5 +32,5 @@ no_keys = record {
   outputs = [];
   labels = [];
   parameters = [];
-  written = record { bus_speeds = []; output_speeds = []; stream_equipment = []; label_equipment = []; label_offsets = [] };
+  written = record { bus_speeds = []; output_speeds = []; stream_equipment = []; stream_jitters = []; label_equipment = []; label_offsets = [] };
 }

@@ -1,10 +1,11 @@
 -- The tables as rows. Streams and labels are numbered through the whole document; a row names its owner by number.
 -- Ticks are rounded once, when the tables are built.
-use Rattle.std.specs.Prelude.{◌≡◌, ℕ, ◌+◌, ◌-◌, ◌*◌, ◌/◌, ◌%◌, ◌<◌, ◌≤◌, min, List, [], length, take, drop, map, slice_index, slice_index_or, None}
+use Rattle.std.specs.Prelude.{◌≡◌, ℕ, Bool, false, cond, ◌+◌, ◌-◌, ◌*◌, ◌/◌, ◌%◌, ◌<◌, ◌≤◌, min, List, [], length, take, drop, map, slice_index, slice_index_or, None}
 use Rattle.std.specs.List.{sum_by}
 use Rattle.dc_bound.specs.Window.{wire_cap}
-use Rattle.dc_bound.specs.Cycle.{fewest_visits, most_among}
-use Rattle.dc_bound.specs.Due.{due_at}
+use Rattle.dc_bound.specs.Early.{jitter_cap}
+use Rattle.dc_bound.specs.Rounds.{fewest_visits, most_among}
+use Rattle.dc_bound.specs.Frame.{due_at}
 use Rattle.dc_tables.specs.declared.rows.Bus.{Bus}
 use Rattle.dc_tables.specs.declared.rows.Stream.{Stream}
 use Rattle.dc_tables.specs.declared.rows.Router.{Router}
@@ -12,7 +13,8 @@ use Rattle.dc_tables.specs.declared.rows.Output.{Output}
 use Rattle.dc_tables.specs.declared.rows.Entry.{Entry}
 use Rattle.dc_tables.specs.declared.rows.OutputLabel.{OutputLabel}
 use Rattle.dc_word.specs.declared.format.Format.TheVariants.{Bnr}
-use Rattle.dc_tables.specs.declared.parts.ParameterPart.{ParameterPart}
+use Rattle.dc_dict.specs.declared.parameter.Parameter.{Parameter as ParameterPart}
+use Rattle.dc_rules.specs.Rules.{sdis_meet}
 use Rattle.dc_tables.specs.TableKeys.{TableKeys}
 
 pub record TableRows : Type 0 where
@@ -27,10 +29,10 @@ pub record TableRows : Type 0 where
 -- ---- the row of a number
 
 abbrev pub bus_row : TableRows → ℕ → Bus
-bus_row t b = slice_index_or t.buses b (record { queue = 0; spacing = 0; first = 0; streams = 0; router = 0 })
+bus_row t b = slice_index_or t.buses b (record { queue = 0; police = false; spacing = 0; first = 0; streams = 0; router = 0 })
 
 abbrev pub stream_row : TableRows → ℕ → Stream
-stream_row t s = slice_index_or t.streams s (record { bus = 0; label = 0; sdi = None; minimum = 0; maximum = 0 })
+stream_row t s = slice_index_or t.streams s (record { bus = 0; label = 0; sdi = None; minimum = 0; maximum = 0; jitter = 0 })
 
 abbrev pub router_row : TableRows → ℕ → Router
 router_row t r = slice_index_or t.routers r (record { steps = 0; within = 0; most = 0; visits = [] })
@@ -69,7 +71,7 @@ pub record AreValid (t : TableRows) : Type 0 where
   pub few_outputs : length t.outputs ≤ 32
   pub few_streams : length t.streams ≤ 1024
   pub few_labels : length t.labels ≤ 1024
-  -- buses: a bus has its streams in one piece, and one router visits it
+  -- buses: a bus has its streams in one piece, and its router visits it, no other
   pub queues_some : (b : ℕ) → b < length t.buses → 1 ≤ (bus_row t b).queue
   pub queues_small : (b : ℕ) → b < length t.buses → (bus_row t b).queue ≤ 4096
   pub spacings : (b : ℕ) → b < length t.buses → 1 ≤ (bus_row t b).spacing
@@ -78,11 +80,15 @@ pub record AreValid (t : TableRows) : Type 0 where
   pub bus_of_streams : (b s : ℕ) → b < length t.buses → (bus_row t b).first ≤ s → s < (bus_row t b).first + (bus_row t b).streams → (stream_row t s).bus ≡ b
   pub routers_of_buses : (b : ℕ) → b < length t.buses → (bus_row t b).router < length t.routers
   pub visited_by_one : (b r n : ℕ) → b < length t.buses → r < length t.routers → visited t r n ≡ b → r ≡ (bus_row t b).router
+  pub buses_visited : (b : ℕ) → b < length t.buses → (n : ℕ) × (visited t (bus_row t b).router n ≡ b)
   -- streams
   pub streams_on_buses : (s : ℕ) → s < length t.streams → (stream_row t s).bus < length t.buses
   pub minimums : (s : ℕ) → s < length t.streams → 1 ≤ (stream_row t s).minimum
   pub maximums : (s : ℕ) → s < length t.streams → (stream_row t s).minimum ≤ (stream_row t s).maximum
   pub maximums_small : (s : ℕ) → s < length t.streams → (stream_row t s).maximum ≤ 600000
+  pub jitters_small : (s : ℕ) → s < length t.streams → (stream_row t s).jitter ≤ 600000
+  -- no two of one bus declare the same words
+  pub streams_apart : (s u : ℕ) → u < s → s < length t.streams → (stream_row t s).bus ≡ (stream_row t u).bus → (stream_row t s).label ≡ (stream_row t u).label → sdis_meet (stream_row t s).sdi (stream_row t u).sdi ≡ false
   -- routers
   pub visits_there : (r : ℕ) → r < length t.routers → 0 < length (router_row t r).visits
   pub few_visits : (r : ℕ) → r < length t.routers → length (router_row t r).visits ≤ 256
@@ -107,12 +113,14 @@ pub record AreValid (t : TableRows) : Type 0 where
   pub entries_ascend : (o i j : ℕ) → o < length t.outputs → i < j → j < length (output_row t o).entries → (entry_row t o i).offset < (entry_row t o j).offset
   pub entries_in_frame : (o i : ℕ) → o < length t.outputs → i < length (output_row t o).entries → (entry_row t o i).offset < (output_row t o).frame
   pub entries_labelled : (o i : ℕ) → o < length t.outputs → i < length (output_row t o).entries → ((entry_row t o i).label < length t.labels) × ((label_row t (entry_row t o i).label).output ≡ o)
-  -- labels
+  -- labels: those of an output differ in label or SDI, and the sources of one differ
+  pub labels_apart : (x y : ℕ) → x < length t.labels → y < length t.labels → (label_row t x).output ≡ (label_row t y).output → (label_row t x).label ≡ (label_row t y).label → (label_row t x).sdi ≡ (label_row t y).sdi → x ≡ y
   pub labels_on_outputs : (x : ℕ) → x < length t.labels → (label_row t x).output < length t.outputs
   pub labels_in_frames : (x : ℕ) → x < length t.labels → (i : ℕ) × (i < length (output_row t (label_row t x).output).entries) × ((entry_row t (label_row t x).output i).label ≡ x)
   pub labels_fit : (x : ℕ) → x < length t.labels → ((label_row t x).label < 256) × ((label_row t x).sdi < 4)
   pub sources_some : (x : ℕ) → x < length t.labels → 1 ≤ length (label_row t x).sources
   pub few_sources : (x : ℕ) → x < length t.labels → length (label_row t x).sources ≤ 8
+  pub sources_once : (x i j : ℕ) → x < length t.labels → i < length (label_row t x).sources → j < length (label_row t x).sources → slice_index (label_row t x).sources i ≡ slice_index (label_row t x).sources j → i ≡ j
   pub sources_there : (x k : ℕ) → x < length t.labels → k < length (label_row t x).sources → slice_index (label_row t x).sources k < length t.streams
   pub stales : (x : ℕ) → x < length t.labels → (1 ≤ (label_row t x).stale) × ((label_row t x).stale ≤ 1000000)
   pub limits : (x : ℕ) → x < length t.labels → (1 ≤ (label_row t x).oldest) × ((label_row t x).oldest ≤ 2000000)
@@ -121,13 +129,21 @@ pub record AreValid (t : TableRows) : Type 0 where
 
 -- ---- bounds of a bus and of an output
 
+-- whether the bus refuses early words
+abbrev pub is_policed : TableRows → ℕ → Bool
+is_policed t b = (bus_row t b).police
+
 -- the most arrivals of a stream in d ticks
 abbrev pub stream_cap : ℕ → Stream → ℕ
-stream_cap d row = (d + (row.minimum - 1)) / row.minimum
+stream_cap d row = jitter_cap row.minimum row.jitter d
 
--- the most arrivals of a bus in d ticks: the lesser of its streams' and its wire's
+-- the most arrivals of all streams of a bus in d ticks
+abbrev pub streams_cap : TableRows → ℕ → ℕ → ℕ
+streams_cap t b d = sum_by (stream_cap d) (bus_streams t b)
+
+-- the most arrivals of a bus in d ticks: its streams', where it is policed; else the lesser of its streams' and its wire's
 unfoldable pub bus_cap : TableRows → ℕ → ℕ → ℕ
-bus_cap t b d = min (sum_by (stream_cap d) (bus_streams t b)) (wire_cap t.tick_us (bus_row t b).spacing d)
+bus_cap t b d = cond (is_policed t b) (streams_cap t b d) (min (streams_cap t b d) (wire_cap t.tick_us (bus_row t b).spacing d))
 
 -- the fewest visits of a bus in d whole ticks
 unfoldable pub bus_floor : TableRows → ℕ → ℕ → ℕ

@@ -1,21 +1,15 @@
 //! The rows of tables that break no rule.
 ghost use Rattle.std.specs.Prelude.{All, ◌≡◌, ◌+◌, ◌≤◌, ◌<◌, take, drop, ◌==◌, map, length, IfOk};
 ghost use Rattle.dc_tables.specs.RowsOf.{bus_row_with, bus_rows_from, stream_row_of, number_in, router_row_of, label_row_of, own_entries, IsFrameOf, IsOutputRow, AreOutputs};
-ghost use Rattle.dc_tables.specs.Visits.{first_of};
 ghost use Rattle.dc_tables.specs.Placed.{AreFrom};
 ghost use Rattle.std.specs.List.{prefix_len};
-ghost use Rattle.std.specs.Str.{bytes_eq};
-ghost use Rattle.indexmap.specs.IndexMap.{get};
 
-use crate::index::{NameIndex, Parameters};
-use crate::keys::PlacedEntry;
-use crate::name::Name;
-use crate::parts::{BusPart, LabelPart, OutputPart, RouterPart, StreamPart};
 use crate::rows::{Bus, Entries, Entry, Numbers, Output, OutputLabel, Router, Stream};
-use crate::shape::count_members;
-use crate::ticks::{input_spacing, output_gap};
-use crate::visits::{Visits, index_visits};
-use dc_dict::{in_maximum, in_minimum, out_maximum, out_minimum};
+use dc_dict::{in_maximum, in_minimum, jitter_ticks, out_maximum, out_minimum};
+use dc_parts::{
+    BusPart, LabelPart, Name, OutputPart, RouterPart, StreamPart, input_spacing, output_gap,
+};
+use dc_rules::{NameIndex, Parameters, PlacedEntry, count_members, visiting_routers};
 use dc_word::Format;
 use std::alloc::{AllocError, Global};
 
@@ -34,16 +28,17 @@ fn numbers_of(alloc: Global, names: &NameIndex, wanted: &[Name]) -> Result<Numbe
     Ok(Numbers { items })
 }
 
-/// The row of a bus, given its visitors and its streams: the first, and how many.
-fn bus_row(visits: &Visits, first: usize, streams: usize, part: &BusPart) -> Bus
-    ensures { result ≡ bus_row_with first streams (first_of (get bytes_eq visits.now.known part.now.name)) part.now }
+/// The row of a bus, given its streams, the first and how many, and its router.
+fn bus_row(first: usize, streams: usize, router: usize, part: &BusPart) -> Bus
+    ensures { result ≡ bus_row_with first streams router part.now }
 {
     Bus {
         queue: part.queue,
+        police: part.police,
         spacing: input_spacing(part.speed),
         first,
         streams,
-        router: visits.router_of(&part.name),
+        router,
     }
 }
 
@@ -56,12 +51,13 @@ pub(crate) fn bus_rows(
     ensures { IfOk result (λ v. v.items ≡ bus_rows_from owners.now routers.now 0 parts.now) }
 {
     let counts = count_members(alloc, owners, parts.len())?;
-    let visits = index_visits(alloc, routers)?;
+    let visitors = visiting_routers(alloc, routers, parts)?;
     let mut rows = Vec::new(alloc);
     let mut first = 0;
     for (bus, part) in parts.iter().enumerate() {
         let streams = counts[bus];
-        rows.push(bus_row(&visits, first, streams, part))?;
+        let router = visitors[bus];
+        rows.push(bus_row(first, streams, router, part))?;
         first += streams;
     }
     Ok(rows)
@@ -81,6 +77,7 @@ fn stream_row(tick_us: u32, parameters: &Parameters, part: &StreamPart) -> Strea
         sdi: part.sdi,
         minimum,
         maximum,
+        jitter: jitter_ticks(part.jitter_us, tick_us),
     }
 }
 

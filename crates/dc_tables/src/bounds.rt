@@ -1,9 +1,11 @@
 //! What tables keep beside their rows: the bounds of the streams, and the offsets of the outputs' entries.
-ghost use Rattle.std.specs.Prelude.{All, ◌≡◌, ◌+◌, ◌≤◌, map, take, drop, length, IfOk};
+ghost use Rattle.std.specs.Prelude.{All, ◌≡◌, ◌+◌, ◌≤◌, ℕ, Some, None, true, false, map, take, drop, length, IfOk};
+ghost use Rattle.dc_bound.specs.Window.{wire_cap};
+ghost use Rattle.dc_bound.specs.declared.arrival.Wire.{Wire as SpecWire};
 ghost use Rattle.dc_tables.specs.Bounds.{AreBounds, frame_offsets};
 
-use crate::rows::{Entry, Output, Stream};
-use dc_bound::Sporadic;
+use crate::rows::{Bus, Entry, Output, Stream};
+use dc_bound::{Jittered, Wire};
 use std::alloc::{AllocError, Global};
 use std::marker::Model;
 
@@ -48,15 +50,29 @@ impl FrameOffsets {
 
 /// The bound of each stream.
 #[tactic(auto, using(crate::proofs::BoundsMade::bounds_more))]
-pub(crate) fn stream_bounds(alloc: Global, streams: &[Stream]) -> Result<Vec<Sporadic>, AllocError>
-    requires { All (λ s. 1 ≤ s.minimum) streams.now }
+pub(crate) fn stream_bounds(alloc: Global, streams: &[Stream]) -> Result<Vec<Jittered>, AllocError>
+    requires { All (λ s. (1 ≤ s.minimum) × (s.jitter ≤ 1000000000)) streams.now }
     ensures { IfOk result (λ v. AreBounds v.items streams.now) }
 {
     let mut bounds = Vec::new(alloc);
     for stream in streams {
-        bounds.push(Sporadic::new(stream.minimum))?;
+        bounds.push(Jittered::new(stream.minimum, stream.jitter))?;
     }
     Ok(bounds)
+}
+
+/// The wire of a bus that is not policed.
+pub(crate) fn wire_of(tick_us: u32, bus: &Bus) -> Option<Wire>
+    requires some_tick { 1 ≤ tick_us }
+    requires short_tick { tick_us ≤ 10000 }
+    requires some_spacing { 1 ≤ bus.now.spacing }
+    ensures policed { bus.now.police ≡ true → result ≡ None }
+    ensures free { bus.now.police ≡ false → (w : SpecWire) × (result ≡ Some w) × ((d : ℕ) → wire_cap w.tick w.spacing d ≡ wire_cap tick_us bus.now.spacing d) }
+{
+    if bus.police {
+        return None;
+    }
+    Some(Wire::new(tick_us, bus.spacing))
 }
 
 /// The offsets of each output's entries.

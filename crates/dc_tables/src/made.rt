@@ -1,22 +1,43 @@
 //! The rows of a document's lists.
 ghost use Rattle.std.specs.Prelude.{All, ◌≡◌, ◌≤◌, ◌<◌, map, length, IfOk};
-ghost use Rattle.dc_tables.specs.RowsOf.{bus_rows_from, stream_row_of, router_row_of, label_row_of, AreOutputs};
-ghost use Rattle.dc_tables.specs.Rules.{entries_from, bus_names, stream_names};
-ghost use Rattle.dc_tables.specs.Document.{stream_owners};
+ghost use Rattle.dc_tables.specs.RowsOf.{bus_rows_from, stream_row_of, router_row_of, label_row_of, AreOutputs, AreRows, keys_of, written_of};
+ghost use Rattle.dc_tables.specs.Bounds.{AreBounds, frame_offsets, table_rows};
+ghost use Rattle.dc_rules.specs.Rules.{entries_from, bus_names, stream_names};
+ghost use Rattle.dc_parts.specs.Document.{stream_owners};
+ghost use Rattle.dc_rules.specs.Passed.{ArePassed};
 
 use crate::assemble::{bus_rows, label_rows, output_rows, router_rows, stream_rows};
-use crate::index::{NameIndex, Parameters};
-use crate::judge::stream_owners;
-use crate::keys::PlacedEntry;
-use crate::parts::Parts;
+use crate::bounds::{FrameOffsets, output_offsets, stream_bounds};
 use crate::rows::{Bus, Output, OutputLabel, Router, Stream};
+use crate::written::Written;
+use dc_bound::Jittered;
+use dc_parts::Parts;
+use dc_rules::{NameIndex, Parameters, Passed, PlacedEntry, stream_owners};
 use std::alloc::{AllocError, Global};
+
+/// The rows of tables.
+#[derive(Drop)]
+pub(crate) struct Rows {
+    pub buses: Vec<Bus>,
+    pub streams: Vec<Stream>,
+    pub routers: Vec<Router>,
+    pub outputs: Vec<Output>,
+    pub labels: Vec<OutputLabel>,
+}
+
+/// What tables keep beside their rows.
+#[derive(Drop)]
+pub(crate) struct Kept {
+    pub bounds: Vec<Jittered>,
+    pub offsets: Vec<FrameOffsets>,
+    pub written: Written,
+}
 
 pub(crate) fn make_buses(alloc: Global, parts: &Parts) -> Result<Vec<Bus>, AllocError>
     ensures { IfOk result (λ v. v.items ≡ bus_rows_from (stream_owners parts.now) parts.now.routers 0 parts.now.buses) }
 {
     let owners = stream_owners(alloc, parts)?;
-    bus_rows(alloc, &owners, &parts.routers, &parts.buses)
+    bus_rows(alloc, &owners, parts.routers(), parts.buses())
 }
 
 pub(crate) fn make_streams(
@@ -28,7 +49,7 @@ pub(crate) fn make_streams(
     requires parameters { parameters.now ≡ parts.now.parameters }
     ensures { IfOk result (λ v. v.items ≡ map (stream_row_of parts.now.tick_us parts.now.parameters) parts.now.streams) }
 {
-    stream_rows(alloc, parts.tick_us, parameters, &parts.streams)
+    stream_rows(alloc, parts.tick_us(), parameters, parts.streams())
 }
 
 pub(crate) fn make_routers(
@@ -39,7 +60,7 @@ pub(crate) fn make_routers(
     requires { buses.now ≡ bus_names parts.now }
     ensures { IfOk result (λ v. v.items ≡ map (router_row_of (bus_names parts.now)) parts.now.routers) }
 {
-    router_rows(alloc, buses, &parts.routers)
+    router_rows(alloc, buses, parts.routers())
 }
 
 #[tactic(auto, using(crate::proofs::Split::entries_in_order))]
@@ -53,7 +74,7 @@ pub(crate) fn make_outputs(
     ensures { IfOk result (λ v. AreOutputs parts.now.tick_us (entries_from 0 parts.now.labels) parts.now.outputs (length parts.now.outputs) v.items) }
 {
     parts.in_order();
-    output_rows(alloc, parts.tick_us, entries, &parts.outputs)
+    output_rows(alloc, parts.tick_us(), entries, parts.outputs())
 }
 
 pub(crate) fn make_labels(
@@ -68,5 +89,43 @@ pub(crate) fn make_labels(
     ensures rows { IfOk result (λ v. v.items ≡ map (label_row_of parts.now.tick_us parts.now.parameters (stream_names parts.now)) parts.now.labels) }
     ensures fit { IfOk result (λ v. All (λ r. (r.label < 256) × (r.sdi < 4)) v.items) }
 {
-    label_rows(alloc, parts.tick_us, parameters, streams, &parts.labels)
+    label_rows(alloc, parts.tick_us(), parameters, streams, parts.labels())
+}
+
+/// All rows of a document.
+pub(crate) fn make_rows(alloc: Global, parts: &Parts, passed: &Passed) -> Result<Rows, AllocError>
+    requires tick { 1 ≤ parts.now.tick_us }
+    requires passed { ArePassed parts.now passed.now }
+    ensures rows { IfOk result (λ r. AreRows parts.now (table_rows parts.now.tick_us (keys_of parts.now) r)) }
+    ensures fit { IfOk result (λ r. All (λ x. (x.label < 256) × (x.sdi < 4)) r.labels.items) }
+{
+    let buses = make_buses(alloc, parts)?;
+    let streams = make_streams(alloc, parts, &passed.parameters)?;
+    let routers = make_routers(alloc, parts, &passed.names.buses)?;
+    let outputs = make_outputs(alloc, parts, &passed.entries)?;
+    let labels = make_labels(alloc, parts, &passed.parameters, &passed.names.streams)?;
+    Ok(Rows {
+        buses,
+        streams,
+        routers,
+        outputs,
+        labels,
+    })
+}
+
+/// What is kept beside these rows.
+pub(crate) fn make_kept(alloc: Global, parts: &Parts, rows: &Rows) -> Result<Kept, AllocError>
+    requires { All (λ s. (1 ≤ s.minimum) × (s.jitter ≤ 1000000000)) rows.now.streams.items }
+    ensures bounds { IfOk result (λ k. AreBounds k.bounds.items rows.now.streams.items) }
+    ensures offsets { IfOk result (λ k. k.offsets.items ≡ frame_offsets rows.now.outputs.items) }
+    ensures written { IfOk result (λ k. k.written ≡ written_of parts.now) }
+{
+    let bounds = stream_bounds(alloc, &rows.streams)?;
+    let offsets = output_offsets(alloc, &rows.outputs)?;
+    let written = Written::of(alloc, parts)?;
+    Ok(Kept {
+        bounds,
+        offsets,
+        written,
+    })
 }

@@ -3,26 +3,21 @@ ghost use Rattle.std.specs.Prelude.{◌≡◌, ◌↔◌, [], length, IsTrue};
 use dc_word::{Format, Label, Sdi};
 use std::marker::Model;
 
-/// The speed of a bus or an output.
-#[derive(Clone, Copy, Debug, PartialEq, Eq, Hash)]
-pub enum Speed {
-    High,
-    Low,
-}
-
-/// A receive bus. `spacing` is the least time between two words on the wire, in microseconds; its streams are those
-/// from number `first` on, `streams` of them; `router` is the one that visits it.
+/// A receive bus: the capacity of its queue in words, 1 to 4,096; whether it refuses early words (`police`); `spacing`,
+/// the least time between two words on the wire, in microseconds; its streams, those from number `first` on, `streams` of
+/// them; and the router that visits it.
 #[derive(Clone, Copy, Debug, PartialEq)]
 pub struct Bus {
     pub queue: u32,
+    pub police: bool,
     pub spacing: u32,
     pub first: usize,
     pub streams: usize,
     pub router: usize,
 }
 
-/// A stream of words: the bus that brings it, what it declares (no SDI: any), and its least and greatest interval in
-/// ticks.
+/// A stream of words: the bus that brings it, what it declares (no SDI: any), its least and greatest interval, and how
+/// late of their rhythm its words may come (`jitter`, at most 600,000), in ticks.
 #[derive(Clone, Copy, Debug, PartialEq)]
 pub struct Stream {
     pub bus: usize,
@@ -30,6 +25,7 @@ pub struct Stream {
     pub sdi: Option<Sdi>,
     pub minimum: u32,
     pub maximum: u32,
+    pub jitter: u32,
 }
 
 /// A router: at least `steps` steps in each `within` whole ticks, at most `most` in a tick, and the buses that it visits

@@ -2,17 +2,14 @@ ghost use Rattle.std.specs.Prelude.{◌≡◌, ◌+◌, ◌%◌, ◌<◌, length
 ghost use Rattle.dc_tables.specs.TableRows.{visited, bus_row, router_row, bus_streams};
 ghost use Rattle.dc_tables.specs.Declares.{declares, stream_of, fits};
 
-use crate::bounds::{FrameOffsets, output_offsets, part, stream_bounds};
-use crate::fault::BuildError;
-use crate::index::{NameIndex, Parameters};
-use crate::judge::{Names, check_first, check_later};
-use crate::keys::PlacedEntry;
-use crate::made::{make_buses, make_labels, make_outputs, make_routers, make_streams};
-use crate::name::Name;
-use crate::parts::{ParameterPart, Parts};
-use crate::rows::{Bus, Output, OutputLabel, Router, Speed, Stream};
+use crate::bounds::{FrameOffsets, part, wire_of};
+use crate::made::{make_kept, make_rows};
+use crate::rows::{Bus, Output, OutputLabel, Router, Stream};
 use crate::written::Written;
-use dc_bound::{ArrivalBound, Both, Cyclic, Paced, ServiceBound, Sporadic, SumOf, Visits, Wire};
+use dc_bound::{ArrivalBound, Capped, Cyclic, Jittered, Paced, ServiceBound, SumOf, Visits};
+use dc_dict::{Equipment, Parameter};
+use dc_parts::{BuildError, Name, Parts, Speed};
+use dc_rules::{NameIndex, Parameters, Passed};
 use dc_word::{Sdi, Word};
 use std::alloc::{AllocError, Global};
 use std::marker::Model;
@@ -26,7 +23,7 @@ pub struct Tables {
     routers: Vec<Router>,
     outputs: Vec<Output>,
     labels: Vec<OutputLabel>,
-    minimums: Vec<Sporadic>,
+    bounds: Vec<Jittered>,
     offsets: Vec<FrameOffsets>,
     bus_names: NameIndex,
     stream_names: NameIndex,
@@ -47,7 +44,7 @@ impl Model for Tables {
 
     ghost view = { λ t. record { tick_us = t.tick_us; buses = t.buses.items; streams = t.streams.items; routers = t.routers.items; outputs = t.outputs.items; labels = t.labels.items; keys = record { buses = t.bus_names; streams = t.stream_names; routers = t.router_names; outputs = t.output_names; labels = t.label_names; parameters = t.parameters; written = t.written } } };
 
-    ghost invariant = { λ t. AreBounds t.minimums.items t.streams.items × (t.offsets.items ≡ frame_offsets t.outputs.items) × AreSound (record { tick_us = t.tick_us; buses = t.buses.items; streams = t.streams.items; routers = t.routers.items; outputs = t.outputs.items; labels = t.labels.items; keys = record { buses = t.bus_names; streams = t.stream_names; routers = t.router_names; outputs = t.output_names; labels = t.label_names; parameters = t.parameters; written = t.written } }) };
+    ghost invariant = { λ t. AreBounds t.bounds.items t.streams.items × (t.offsets.items ≡ frame_offsets t.outputs.items) × AreSound (record { tick_us = t.tick_us; buses = t.buses.items; streams = t.streams.items; routers = t.routers.items; outputs = t.outputs.items; labels = t.labels.items; keys = record { buses = t.bus_names; streams = t.stream_names; routers = t.router_names; outputs = t.output_names; labels = t.label_names; parameters = t.parameters; written = t.written } }) };
 }
 
 impl Tables {
@@ -55,89 +52,63 @@ impl Tables {
     ghost use Rattle.std.specs.Prelude.{ℕ, ◌≤◌, Ok, IfOk, vec_len, [], slice_index_or};
     ghost use Rattle.dc_tables.specs.Keyed.{AreKeyed};
     ghost use Rattle.dc_tables.specs.RowsOf.{AreRows};
-    ghost use Rattle.dc_tables.specs.Rules.{Tells, verdict_of, first_rules, later_rules, entries_from, bus_names, stream_names, router_names, output_names, label_names, number_of};
+    ghost use Rattle.dc_rules.specs.Rules.{Tells, verdict_of};
+    ghost use Rattle.dc_parts.specs.Names.{number_of};
+    ghost use Rattle.dc_rules.specs.Obeys.{Obeys};
+    ghost use Rattle.dc_rules.specs.Passed.{ArePassed};
 
     /// The tables of these parts, where no rule is broken, else the first broken rule; or memory is out.
     pub fn build(alloc: Global, parts: Parts) -> Result<Tables, BuildError>
         ensures verdict { Tells (verdict_of parts) result }
         ensures rows { IfOk result (λ t. AreRows parts t) }
     {
-        let (entries, parameters) = check_first(alloc, &parts)?;
-        let names = check_later(alloc, &parts, &parameters, &entries)?;
-        Tables::assembled(alloc, &parts, parameters, names, &entries)
+        let passed = Passed::of(alloc, &parts)?;
+        Tables::assembled(alloc, &parts, passed)
     }
 
     /// The tables of parts that break no rule.
-    fn assemble(
-        alloc: Global,
-        parts: &Parts,
-        parameters: Parameters,
-        names: Names,
-        entries: &[PlacedEntry],
-    ) -> Result<Tables, AllocError>
-        requires first { first_rules parts.now ≡ Ok tt }
-        requires later { later_rules parts.now ≡ Ok tt }
-        requires tick { 1 ≤ parts.now.tick_us }
-        requires parameters { parameters ≡ parts.now.parameters }
-        requires entries { entries.now ≡ entries_from 0 parts.now.labels }
-        requires buses { names.buses ≡ bus_names parts.now }
-        requires streams { names.streams ≡ stream_names parts.now }
-        requires routers { names.routers ≡ router_names parts.now }
-        requires outputs { names.outputs ≡ output_names parts.now }
-        requires labels { names.labels ≡ label_names parts.now }
+    fn assemble(alloc: Global, parts: &Parts, passed: Passed) -> Result<Tables, AllocError>
+        requires obeys { Obeys parts.now }
+        requires passed { ArePassed parts.now passed }
         ensures { IfOk result (λ t. AreRows parts.now t) }
     {
         parts.in_order();
-        let buses = make_buses(alloc, parts)?;
-        let streams = make_streams(alloc, parts, &parameters)?;
-        let routers = make_routers(alloc, parts, &names.buses)?;
-        let outputs = make_outputs(alloc, parts, entries)?;
-        let labels = make_labels(alloc, parts, &parameters, &names.streams)?;
-        let minimums = stream_bounds(alloc, &streams)?;
-        let offsets = output_offsets(alloc, &outputs)?;
-        let written = Written::of(alloc, parts)?;
+        let rows = make_rows(alloc, parts, &passed)?;
+        let kept = make_kept(alloc, parts, &rows)?;
         let tick_us = parts.tick_us();
+        let Passed {
+            parameters,
+            names,
+            ..
+        } = passed;
         Ok(Tables {
             tick_us,
-            buses,
-            streams,
-            routers,
-            outputs,
-            labels,
-            minimums,
-            offsets,
+            buses: rows.buses,
+            streams: rows.streams,
+            routers: rows.routers,
+            outputs: rows.outputs,
+            labels: rows.labels,
+            bounds: kept.bounds,
+            offsets: kept.offsets,
             bus_names: names.buses,
             stream_names: names.streams,
             router_names: names.routers,
             output_names: names.outputs,
             label_names: names.labels,
             parameters,
-            written,
+            written: kept.written,
         })
     }
 
     /// The same, where want of memory is an error of `build`.
-    fn assembled(
-        alloc: Global,
-        parts: &Parts,
-        parameters: Parameters,
-        names: Names,
-        entries: &[PlacedEntry],
-    ) -> Result<Tables, BuildError>
-        requires first { first_rules parts.now ≡ Ok tt }
-        requires later { later_rules parts.now ≡ Ok tt }
-        requires tick { 1 ≤ parts.now.tick_us }
-        requires parameters { parameters ≡ parts.now.parameters }
-        requires entries { entries.now ≡ entries_from 0 parts.now.labels }
-        requires buses { names.buses ≡ bus_names parts.now }
-        requires streams { names.streams ≡ stream_names parts.now }
-        requires routers { names.routers ≡ router_names parts.now }
-        requires outputs { names.outputs ≡ output_names parts.now }
-        requires labels { names.labels ≡ label_names parts.now }
+    fn assembled(alloc: Global, parts: &Parts, passed: Passed) -> Result<Tables, BuildError>
+        requires verdict { verdict_of parts.now ≡ Ok tt }
+        requires obeys { Obeys parts.now }
+        requires passed { ArePassed parts.now passed }
         ensures verdict { Tells (verdict_of parts.now) result }
         ensures rows { IfOk result (λ t. AreRows parts.now t) }
     {
-        match Tables::assemble(alloc, parts, parameters, names, entries) {
+        match Tables::assemble(alloc, parts, passed) {
             Ok(tables) => Ok(tables),
             Err(error) => Err(BuildError::Memory(error)),
         }
@@ -225,7 +196,7 @@ impl Tables {
     }
 
     /// A parameter, as it is written.
-    pub fn parameter(&self, parameter: usize) -> &ParameterPart
+    pub fn parameter(&self, parameter: usize) -> &Parameter
         requires { parameter < length self.now.keys.parameters }
         ensures { result.now ≡ parameter_row self.now parameter }
     {
@@ -249,15 +220,23 @@ impl Tables {
     }
 
     /// The equipment code of a stream's parameter.
-    pub fn stream_equipment(&self, stream: usize) -> u16
+    pub fn stream_equipment(&self, stream: usize) -> Equipment
         requires { stream < length self.now.streams }
         ensures { result ≡ slice_index_or self.now.keys.written.stream_equipment stream 0 }
     {
         self.written.stream_equipment(stream)
     }
 
+    /// The jitter of a stream in microseconds, as it is written, 0 to 60,000,000.
+    pub fn stream_jitter(&self, stream: usize) -> u32
+        requires { stream < length self.now.streams }
+        ensures { result ≡ slice_index_or self.now.keys.written.stream_jitters stream 0 }
+    {
+        self.written.stream_jitter(stream)
+    }
+
     /// The equipment code of a label's parameter.
-    pub fn label_equipment(&self, label: usize) -> u16
+    pub fn label_equipment(&self, label: usize) -> Equipment
         requires { label < length self.now.labels }
         ensures { result ≡ slice_index_or self.now.keys.written.label_equipment label 0 }
     {
@@ -380,16 +359,15 @@ impl Tables {
         self.streams[stream].bus
     }
 
-    /// What a bus may bring: the lesser of its streams' and its wire's.
-    pub fn bus_bound(&self, bus: usize) -> Both<SumOf<'_, Sporadic>, Wire>
+    /// What a bus may bring: the lesser of its streams' and its wire's, or its streams' alone where it is policed.
+    pub fn bus_bound(&self, bus: usize) -> Capped<SumOf<'_, Jittered>>
         requires { bus < length self.now.buses }
-        ensures { (d : ℕ) → ⟦<Both<SumOf<'static, Sporadic>, Wire> as ArrivalBound>⟧.cap result d ≡ bus_cap self.now bus d }
+        ensures { (d : ℕ) → ⟦<Capped<SumOf<'static, Jittered>> as ArrivalBound>⟧.cap result d ≡ bus_cap self.now bus d }
     {
         let row = &self.buses[bus];
-        let minimums = part(&self.minimums, row.first, row.streams);
-        let streams = SumOf::new(row.first, minimums);
-        let wire = Wire::new(self.tick_us, row.spacing);
-        Both::new(streams, wire)
+        let bounds = part(&self.bounds, row.first, row.streams);
+        let streams = SumOf::new(row.first, bounds);
+        Capped::new(streams, wire_of(self.tick_us, row))
     }
 
     /// How a bus is served: the visits of it by its router.

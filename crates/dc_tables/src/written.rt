@@ -3,8 +3,8 @@ ghost use Rattle.std.specs.Prelude.{◌≡◌, ◌<◌, [], map, length, slice_i
 ghost use Rattle.dc_tables.specs.RowsOf.{written_of};
 
 use crate::bounds::FrameOffsets;
-use crate::parts::{BusPart, LabelPart, OutputPart, Parts, StreamPart};
-use crate::rows::Speed;
+use dc_dict::Equipment;
+use dc_parts::{BusPart, LabelPart, OutputPart, Parts, Speed, StreamPart};
 use std::alloc::{AllocError, Global};
 use std::marker::Model;
 
@@ -13,8 +13,9 @@ use std::marker::Model;
 pub struct Written {
     bus_speeds: Vec<Speed>,
     output_speeds: Vec<Speed>,
-    stream_equipment: Vec<u16>,
-    label_equipment: Vec<u16>,
+    stream_equipment: Vec<Equipment>,
+    stream_jitters: Vec<u32>,
+    label_equipment: Vec<Equipment>,
     label_offsets: Vec<FrameOffsets>,
 }
 
@@ -23,7 +24,7 @@ impl Model for Written {
 
     ghost Value = { WrittenKeys };
 
-    ghost view = { λ w. record { bus_speeds = w.bus_speeds.items; output_speeds = w.output_speeds.items; stream_equipment = w.stream_equipment.items; label_equipment = w.label_equipment.items; label_offsets = w.label_offsets.items } };
+    ghost view = { λ w. record { bus_speeds = w.bus_speeds.items; output_speeds = w.output_speeds.items; stream_equipment = w.stream_equipment.items; stream_jitters = w.stream_jitters.items; label_equipment = w.label_equipment.items; label_offsets = w.label_offsets.items } };
 }
 
 impl Written {
@@ -31,15 +32,17 @@ impl Written {
     pub(crate) fn of(alloc: Global, parts: &Parts) -> Result<Written, AllocError>
         ensures { IfOk result (λ w. w ≡ written_of parts.now) }
     {
-        let bus_speeds = bus_speeds(alloc, &parts.buses)?;
-        let output_speeds = output_speeds(alloc, &parts.outputs)?;
-        let stream_equipment = stream_equipment(alloc, &parts.streams)?;
-        let label_equipment = label_equipment(alloc, &parts.labels)?;
-        let label_offsets = label_offsets(alloc, &parts.labels)?;
+        let bus_speeds = bus_speeds(alloc, parts.buses())?;
+        let output_speeds = output_speeds(alloc, parts.outputs())?;
+        let stream_equipment = stream_equipment(alloc, parts.streams())?;
+        let stream_jitters = stream_jitters(alloc, parts.streams())?;
+        let label_equipment = label_equipment(alloc, parts.labels())?;
+        let label_offsets = label_offsets(alloc, parts.labels())?;
         Ok(Written {
             bus_speeds,
             output_speeds,
             stream_equipment,
+            stream_jitters,
             label_equipment,
             label_offsets,
         })
@@ -59,14 +62,21 @@ impl Written {
         self.output_speeds[output]
     }
 
-    pub(crate) fn stream_equipment(&self, stream: usize) -> u16
+    pub(crate) fn stream_equipment(&self, stream: usize) -> Equipment
         requires { stream < length self.now.stream_equipment }
         ensures { result ≡ slice_index_or self.now.stream_equipment stream 0 }
     {
         self.stream_equipment[stream]
     }
 
-    pub(crate) fn label_equipment(&self, label: usize) -> u16
+    pub(crate) fn stream_jitter(&self, stream: usize) -> u32
+        requires { stream < length self.now.stream_jitters }
+        ensures { result ≡ slice_index_or self.now.stream_jitters stream 0 }
+    {
+        self.stream_jitters[stream]
+    }
+
+    pub(crate) fn label_equipment(&self, label: usize) -> Equipment
         requires { label < length self.now.label_equipment }
         ensures { result ≡ slice_index_or self.now.label_equipment label 0 }
     {
@@ -93,13 +103,19 @@ fn output_speeds(alloc: Global, outputs: &[OutputPart]) -> Result<Vec<Speed>, Al
     outputs.iter().map(|o| o.speed).collect(alloc)
 }
 
-fn stream_equipment(alloc: Global, streams: &[StreamPart]) -> Result<Vec<u16>, AllocError>
+fn stream_equipment(alloc: Global, streams: &[StreamPart]) -> Result<Vec<Equipment>, AllocError>
     ensures { IfOk result (λ v. v.items ≡ map (λ s. s.equipment) streams.now) }
 {
     streams.iter().map(|s| s.equipment).collect(alloc)
 }
 
-fn label_equipment(alloc: Global, labels: &[LabelPart]) -> Result<Vec<u16>, AllocError>
+fn stream_jitters(alloc: Global, streams: &[StreamPart]) -> Result<Vec<u32>, AllocError>
+    ensures { IfOk result (λ v. v.items ≡ map (λ s. s.jitter_us) streams.now) }
+{
+    streams.iter().map(|s| s.jitter_us).collect(alloc)
+}
+
+fn label_equipment(alloc: Global, labels: &[LabelPart]) -> Result<Vec<Equipment>, AllocError>
     ensures { IfOk result (λ v. v.items ≡ map (λ x. x.equipment) labels.now) }
 {
     labels.iter().map(|x| x.equipment).collect(alloc)

@@ -7,7 +7,7 @@ use Rattle.toml.specs.Data.{Members}
 use Rattle.toml.specs.Parse.{parse_document}
 use Rattle.toml.specs.View.{items_view}
 use Rattle.toml.specs.declared.value.Value.{Value}
-use Rattle.dc_tables.specs.declared.fault.Code.TheVariants.{T01}
+use Rattle.dc_parts.specs.declared.fault.TableRule.TheVariants.{NotToml}
 use Rattle.dc_toml.specs.Faults.{Reading, refused, found}
 use Rattle.dc_toml.specs.Keys.{items_len}
 use Rattle.dc_toml.specs.Reading.{top, document_of}
@@ -30,11 +30,11 @@ pub document_good : (text : List ℕ) (ms : Members) → length text ≤ 1048576
 unfolding document_of
 document_good text ms short utf8 e = rw (at_most (length text) 1048576 short, is_utf8-from_IsUtf8 text utf8, e) refl
 
-refused_either : (a b : Bool) (text : List ℕ) → (b ≡ true → parse_document text ≡ None) → cond (a && b) (found top T01 (parse_document text)) (refused top T01) ≡ refused top T01
+refused_either : (a b : Bool) (text : List ℕ) → (b ≡ true → parse_document text ≡ None) → cond (a && b) (found top NotToml (parse_document text)) (refused top NotToml) ≡ refused top NotToml
 refused_either true true text h = rw (h refl) refl
 refused_either true false text h = refl
 refused_either false b text h = refl
 
-pub document_bad : (text : List ℕ) → (IsUtf8 text → parse_document text ≡ None) → document_of text ≡ refused top T01
+pub document_bad : (text : List ℕ) → (IsUtf8 text → parse_document text ≡ None) → document_of text ≡ refused top NotToml
 unfolding document_of
 document_bad text h = refused_either (nat_le (length text) 1048576) (is_utf8 text) text (λ e. h (IsUtf8-from_is_utf8 text e))

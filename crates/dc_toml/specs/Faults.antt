@@ -1,10 +1,10 @@
 -- A reading: what a text says, or its first fault; and when a function answers what its reading says.
 use Rattle.std.specs.Prelude.{◌≡◌, ℕ, Bool, true, false, Option, Some, None, Result, Ok, Err}
-use Rattle.dc_tables.specs.declared.fault.Code.{Code}
-use Rattle.dc_tables.specs.declared.fault.Section.{Section}
-use Rattle.dc_tables.specs.declared.fault.TableFault.{TableFault}
-use Rattle.dc_tables.specs.declared.fault.BuildError.{BuildError}
-use Rattle.dc_tables.specs.declared.fault.BuildError.TheVariants.{Refused, Memory}
+use Rattle.dc_parts.specs.declared.fault.TableRule.{TableRule}
+use Rattle.dc_parts.specs.declared.fault.Section.{Section}
+use Rattle.dc_parts.specs.declared.fault.TableFault.{TableFault}
+use Rattle.dc_parts.specs.declared.fault.BuildError.{BuildError}
+use Rattle.dc_parts.specs.declared.fault.BuildError.TheVariants.{Refused, Memory}
 use Rattle.dc_toml.specs.declared.place.Place.{Place}
 
 -- what was read, or the first fault
@@ -15,11 +15,11 @@ Reading A = Result A TableFault
 abbrev pub place : Section → ℕ → Place
 place section index = record { section = section; index = index }
 
-abbrev pub fault_at : Place → Code → TableFault
-fault_at p code = record { code = code; section = p.section; index = p.index }
+abbrev pub fault_at : Place → TableRule → TableFault
+fault_at p rule = record { rule = rule; section = p.section; index = p.index }
 
-abbrev pub refused : {A : Type 0} → Place → Code → Reading A
-refused p code = Err (fault_at p code)
+abbrev pub refused : {A : Type 0} → Place → TableRule → Reading A
+refused p rule = Err (fault_at p rule)
 
 -- goes on where nothing was refused
 infixl 10 ◌>>=◌
@@ -28,14 +28,14 @@ abbrev pub ◌>>=◌ : {A B : Type 0} → Reading A → (A → Reading B) → Re
 (Err fault) >>= rest = Err fault
 
 -- goes on where the test holds
-abbrev pub wanted : Place → Code → Bool → Reading (Unit {0})
-wanted p code true = Ok tt
-wanted p code false = refused p code
+abbrev pub wanted : Place → TableRule → Bool → Reading (Unit {0})
+wanted p rule true = Ok tt
+wanted p rule false = refused p rule
 
 -- what is there, or a fault
-abbrev pub found : {A : Type 0} → Place → Code → Option A → Reading A
-found p code (Some x) = Ok x
-found p code None = refused p code
+abbrev pub found : {A : Type 0} → Place → TableRule → Option A → Reading A
+found p rule (Some x) = Ok x
+found p rule None = refused p rule
 
 -- ---- what functions answer
 

@@ -3,12 +3,14 @@ use Rattle.std.specs.Prelude.{ℕ, ◌-◌, ℤ, pos, negsuc, List, [], ◌∷�
 use Rattle.std.specs.Str.{is_utf8}
 use Rattle.toml.specs.Data.{Data, Items, no_items, item, Members, get_member, as_integer}
 use Rattle.toml.specs.Parse.{parse_document}
-use Rattle.dc_tables.specs.declared.fault.Code.TheVariants.{T01, T02}
-use Rattle.dc_tables.specs.declared.fault.Section.TheVariants.{Top, Parameter, Bus, Stream, Router, Output, Label}
+use Rattle.dc_parts.specs.declared.fault.TableRule.TheVariants.{NotToml, VersionUnknown}
+use Rattle.dc_parts.specs.declared.parts.Version.{Version}
+use Rattle.dc_parts.specs.declared.parts.Version.TheVariants.{One, Two}
+use Rattle.dc_parts.specs.declared.fault.Section.TheVariants.{Top, Parameter, Bus, Stream, Router, Output, Label}
 use Rattle.dc_toml.specs.declared.place.Place.{Place}
 use Rattle.dc_toml.specs.Faults.{Reading, place, refused, ◌>>=◌, wanted, found}
 use Rattle.dc_toml.specs.Written.{Written, nothing_written, and_parameter, and_bus, and_stream, and_router, and_output, and_label}
-use Rattle.dc_toml.specs.Keys.{table_of, known, present, number_at, name_at, speed_at, format_at, label_at, equipment_at, sdi_at, stream_sdi_at, names_at, offsets_at, tables_at, optional_at}
+use Rattle.dc_toml.specs.Keys.{table_of, known, present, keyed, bool_at, number_at, name_at, speed_at, format_at, label_at, equipment_at, sdi_at, stream_sdi_at, names_at, offsets_at, tables_at, optional_at}
 
 -- the tables of a list in order, each behind what was read before it
 abbrev pub each_table : (Written → Data → Reading Written) → Written → Items → Reading Written
@@ -43,8 +45,7 @@ parameter_keys = codes "label" ∷ codes "equipment" ∷ codes "format" ∷ code
 unfoldable pub read_parameter : Written → Data → Reading Written
 read_parameter d v = do
   ms ← table_of (next_parameter d) v
-  k ← known (next_parameter d) parameter_keys ms
-  p ← present (next_parameter d) parameter_keys ms
+  k ← keyed (next_parameter d) parameter_keys ms
   label ← label_at (next_parameter d) (codes "label") ms
   equipment ← equipment_at (next_parameter d) (codes "equipment") ms
   format ← format_at (next_parameter d) (codes "format") ms
@@ -54,34 +55,46 @@ read_parameter d v = do
 
 -- ---- buses, each followed by its streams
 
-abbrev pub stream_keys : List (List ℕ)
-stream_keys = codes "name" ∷ codes "label" ∷ codes "equipment" ∷ codes "sdi" ∷ []
+abbrev pub stream_keys : Version → List (List ℕ)
+stream_keys One = codes "name" ∷ codes "label" ∷ codes "equipment" ∷ codes "sdi" ∷ []
+stream_keys Two = codes "name" ∷ codes "label" ∷ codes "equipment" ∷ codes "sdi" ∷ codes "jitter_us" ∷ []
+
+-- the jitter of a stream in microseconds; in version 1 there is none
+abbrev pub jitter_at : Version → Place → Members → Reading ℕ
+jitter_at One p ms = Ok 0
+jitter_at Two p ms = number_at p (codes "jitter_us") 0 60000000 ms
 
 -- a stream of the last bus
 unfoldable pub read_stream : Written → Data → Reading Written
 read_stream d v = do
   ms ← table_of (next_stream d) v
-  k ← known (next_stream d) stream_keys ms
-  p ← present (next_stream d) stream_keys ms
+  k ← keyed (next_stream d) (stream_keys d.version) ms
   name ← name_at (next_stream d) (codes "name") ms
   label ← label_at (next_stream d) (codes "label") ms
   equipment ← equipment_at (next_stream d) (codes "equipment") ms
   sdi ← stream_sdi_at (next_stream d) (codes "sdi") ms
-  Ok (and_stream d (record { bus = length d.buses - 1; name = name; label = label; equipment = equipment; sdi = sdi }))
+  jitter_us ← jitter_at d.version (next_stream d) ms
+  Ok (and_stream d (record { bus = length d.buses - 1; name = name; label = label; equipment = equipment; sdi = sdi; jitter_us = jitter_us }))
 
-abbrev pub bus_keys : List (List ℕ)
-bus_keys = codes "name" ∷ codes "speed" ∷ codes "queue" ∷ codes "stream" ∷ []
+abbrev pub bus_keys : Version → List (List ℕ)
+bus_keys One = codes "name" ∷ codes "speed" ∷ codes "queue" ∷ codes "stream" ∷ []
+bus_keys Two = codes "name" ∷ codes "speed" ∷ codes "queue" ∷ codes "police" ∷ codes "stream" ∷ []
+
+-- whether a bus refuses early words; in version 1 none does
+abbrev pub police_at : Version → Place → Members → Reading Bool
+police_at One p ms = Ok false
+police_at Two p ms = bool_at p (codes "police") ms
 
 unfoldable pub read_bus : Written → Data → Reading Written
 read_bus d v = do
   ms ← table_of (next_bus d) v
-  k ← known (next_bus d) bus_keys ms
-  p ← present (next_bus d) bus_keys ms
+  k ← keyed (next_bus d) (bus_keys d.version) ms
   name ← name_at (next_bus d) (codes "name") ms
   speed ← speed_at (next_bus d) (codes "speed") ms
   queue ← number_at (next_bus d) (codes "queue") 1 4096 ms
+  police ← police_at d.version (next_bus d) ms
   streams ← tables_at (next_bus d) (codes "stream") 1 256 ms
-  each_table read_stream (and_bus d (record { name = name; speed = speed; queue = queue })) streams
+  each_table read_stream (and_bus d (record { name = name; speed = speed; queue = queue; police = police })) streams
 
 -- ---- routers
 
@@ -91,8 +104,7 @@ router_keys = codes "name" ∷ codes "steps" ∷ codes "within" ∷ codes "most"
 unfoldable pub read_router : Written → Data → Reading Written
 read_router d v = do
   ms ← table_of (next_router d) v
-  k ← known (next_router d) router_keys ms
-  p ← present (next_router d) router_keys ms
+  k ← keyed (next_router d) router_keys ms
   name ← name_at (next_router d) (codes "name") ms
   steps ← number_at (next_router d) (codes "steps") 1 1000 ms
   within ← number_at (next_router d) (codes "within") 1 1000 ms
@@ -109,8 +121,7 @@ label_keys = codes "name" ∷ codes "label" ∷ codes "equipment" ∷ codes "sdi
 unfoldable pub read_label : Written → Data → Reading Written
 read_label d v = do
   ms ← table_of (next_label d) v
-  k ← known (next_label d) label_keys ms
-  p ← present (next_label d) label_keys ms
+  k ← keyed (next_label d) label_keys ms
   name ← name_at (next_label d) (codes "name") ms
   label ← label_at (next_label d) (codes "label") ms
   equipment ← equipment_at (next_label d) (codes "equipment") ms
@@ -127,8 +138,7 @@ output_keys = codes "name" ∷ codes "speed" ∷ codes "steps" ∷ codes "within
 unfoldable pub read_output : Written → Data → Reading Written
 read_output d v = do
   ms ← table_of (next_output d) v
-  k ← known (next_output d) output_keys ms
-  p ← present (next_output d) output_keys ms
+  k ← keyed (next_output d) output_keys ms
   name ← name_at (next_output d) (codes "name") ms
   speed ← speed_at (next_output d) (codes "speed") ms
   steps ← number_at (next_output d) (codes "steps") 1 1000 ms
@@ -142,14 +152,15 @@ read_output d v = do
 abbrev pub top : Place
 top = place Top 0
 
--- the number 1 at `version`, else T02
-abbrev pub is_one : Option ℤ → Bool
-is_one None = false
-is_one (Some (negsuc n)) = false
-is_one (Some (pos n)) = n == 1
+-- the version of this number
+abbrev pub version_in : Option ℤ → Option Version
+version_in None = None
+version_in (Some (negsuc n)) = None
+version_in (Some (pos n)) = if n == 1 then Some One else if n == 2 then Some Two else None
 
-abbrev pub version_of : Place → Members → Reading (Unit {0})
-version_of p ms = wanted p T02 (is_one (option_and_then as_integer (get_member (codes "version") ms)))
+-- the number 1 or 2 at `version`, else T02
+abbrev pub version_of : Place → Members → Reading Version
+version_of p ms = found p VersionUnknown (version_in (option_and_then as_integer (get_member (codes "version") ms)))
 
 abbrev pub wanted_keys : List (List ℕ)
 wanted_keys = codes "version" ∷ codes "tick_us" ∷ []
@@ -158,9 +169,8 @@ abbrev pub top_keys : List (List ℕ)
 top_keys = codes "version" ∷ codes "tick_us" ∷ codes "parameter" ∷ codes "bus" ∷ codes "router" ∷ codes "output" ∷ []
 
 -- the length of a tick, where the top's keys are right
-unfoldable pub head_of : Place → Members → Reading ℕ
-head_of t ms = do
-  version ← version_of t ms
+unfoldable pub tick_of : Place → Members → Reading ℕ
+tick_of t ms = do
   k ← known t top_keys ms
   p ← present t wanted_keys ms
   number_at t (codes "tick_us") 100 10000 ms
@@ -192,13 +202,14 @@ members_of d lists = do
 -- the tables that a document says
 unfoldable pub tables_in : Members → Reading Written
 tables_in ms = do
-  tick_us ← head_of top ms
+  version ← version_of top ms
+  tick_us ← tick_of top ms
   lists ← lists_of top ms
-  members_of (nothing_written tick_us) lists
+  members_of (nothing_written version tick_us) lists
 
 -- the TOML document that a text is: within 1,048,576 bytes, in UTF-8, by the reading of `toml`, else T01
 unfoldable pub document_of : List ℕ → Reading Members
-document_of text = if nat_le (length text) 1048576 && is_utf8 text then found top T01 (parse_document text) else refused top T01
+document_of text = if nat_le (length text) 1048576 && is_utf8 text then found top NotToml (parse_document text) else refused top NotToml
 
 -- the tables of a text
 abbrev pub tables_of : List ℕ → Reading Written

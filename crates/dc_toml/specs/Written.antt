@@ -1,12 +1,13 @@
 -- What the text of tables says, as data: a document whose lists are lists.
 use Rattle.std.specs.Prelude.{ℕ, List, [], ◌∷◌, ◌++◌, map}
-use Rattle.dc_tables.specs.declared.parts.ParameterPart.{ParameterPart}
-use Rattle.dc_tables.specs.declared.parts.BusPart.{BusPart}
-use Rattle.dc_tables.specs.declared.parts.StreamPart.{StreamPart}
-use Rattle.dc_tables.specs.declared.parts.RouterPart.{RouterPart}
-use Rattle.dc_tables.specs.declared.parts.OutputPart.{OutputPart}
-use Rattle.dc_tables.specs.declared.parts.LabelPart.{LabelPart}
-use Rattle.dc_tables.specs.Document.{Document}
+use Rattle.dc_parts.specs.declared.parts.Version.{Version}
+use Rattle.dc_dict.specs.declared.parameter.Parameter.{Parameter as ParameterPart}
+use Rattle.dc_parts.specs.declared.parts.BusPart.{BusPart}
+use Rattle.dc_parts.specs.declared.parts.StreamPart.{StreamPart}
+use Rattle.dc_parts.specs.declared.parts.RouterPart.{RouterPart}
+use Rattle.dc_parts.specs.declared.parts.OutputPart.{OutputPart}
+use Rattle.dc_parts.specs.declared.parts.LabelPart.{LabelPart}
+use Rattle.dc_parts.specs.Document.{Document}
 
 -- a router and the names of the buses that it visits
 pub record RouterText : Type 0 where
@@ -30,6 +31,7 @@ pub record LabelText : Type 0 where
 
 -- tables as their text says them
 pub record Written : Type 0 where
+  pub version : Version
   pub tick_us : ℕ
   pub parameters : List ParameterPart
   pub buses : List BusPart
@@ -47,12 +49,12 @@ abbrev pub label_text : LabelPart → LabelText
 label_text x = record { output = x.output; name = x.name; label = x.label; equipment = x.equipment; sdi = x.sdi; sources = x.sources.items; stale = x.stale; age = x.age; offsets = x.offsets.items }
 
 abbrev pub written : Document → Written
-written d = record { tick_us = d.tick_us; parameters = d.parameters; buses = d.buses; streams = d.streams; routers = map router_text d.routers; outputs = d.outputs; labels = map label_text d.labels }
+written d = record { version = d.version; tick_us = d.tick_us; parameters = d.parameters; buses = d.buses; streams = d.streams; routers = map router_text d.routers; outputs = d.outputs; labels = map label_text d.labels }
 
 -- ---- one more
 
-abbrev pub nothing_written : ℕ → Written
-nothing_written tick_us = record { tick_us = tick_us; parameters = []; buses = []; streams = []; routers = []; outputs = []; labels = [] }
+abbrev pub nothing_written : Version → ℕ → Written
+nothing_written version tick_us = record { version = version; tick_us = tick_us; parameters = []; buses = []; streams = []; routers = []; outputs = []; labels = [] }
 
 abbrev pub and_parameter : Written → ParameterPart → Written
 and_parameter d x = record d { parameters = d.parameters ++ x ∷ [] }

@@ -1,15 +1,16 @@
 //! The keys of a table, and what stands at each.
 ghost use Rattle.std.specs.Prelude.{◌≡◌, ◌≤◌, map, option_map, option_and_then};
 ghost use Rattle.std.specs.List.{list_any};
-ghost use Rattle.toml.specs.Data.{get_member, same_key, as_str, as_integer};
+ghost use Rattle.toml.specs.Data.{get_member, same_key, as_str, as_integer, as_bool};
 ghost use Rattle.toml.specs.View.{view, table_view};
 ghost use Rattle.dc_toml.specs.Faults.{seen};
-ghost use Rattle.dc_toml.specs.Keys.{only_keys, all_keys, table_of, known as known_keys, present as present_keys, number_in, number_at, text_at, name_at, speed_at, format_at, label_at, equipment_at, sdi_at, stream_sdi_at};
-ghost use Rattle.dc_toml.specs.Reading.{version_of};
+ghost use Rattle.dc_toml.specs.Keys.{only_keys, all_keys, table_of, known as known_keys, present as present_keys, keyed as keyed_by, bool_at, number_in, number_at, text_at, name_at, speed_at, format_at, label_at, equipment_at, sdi_at, stream_sdi_at};
+ghost use Rattle.dc_toml.specs.Reading.{version_of, bus_keys, stream_keys, police_at, jitter_at};
 
 use crate::place::Place;
 use crate::spellings;
-use dc_tables::{Code, Name, Speed, TableFault};
+use dc_dict::Equipment;
+use dc_parts::{Name, Speed, TableFault, TableRule, Version};
 use dc_word::{Format, Label, Sdi};
 use toml::{Table, Value};
 
@@ -19,7 +20,7 @@ pub fn table(value: &Value, place: Place) -> Result<&Table, TableFault>
 {
     match value.as_table() {
         Some(table) => Ok(table),
-        None => Err(place.fault(Code::T05)),
+        None => Err(place.fault(TableRule::WrongKind)),
     }
 }
 
@@ -71,7 +72,7 @@ pub fn known(table: &Table, keys: &[&str], place: Place) -> Result<(), TableFaul
     ensures { result ≡ known_keys place (map (λ k. k.now) keys.now) (table_view table.now) }
 {
     if !only_known(table, keys) {
-        return Err(place.fault(Code::T04));
+        return Err(place.fault(TableRule::KeyUnknown));
     }
     Ok(())
 }
@@ -81,9 +82,45 @@ pub fn present(table: &Table, keys: &[&str], place: Place) -> Result<(), TableFa
     ensures { result ≡ present_keys place (map (λ k. k.now) keys.now) (table_view table.now) }
 {
     if !all_present(table, keys) {
-        return Err(place.fault(Code::T03));
+        return Err(place.fault(TableRule::KeyAbsent));
     }
     Ok(())
+}
+
+/// Refuses an unknown key, and then that one of these is absent.
+pub fn keyed(table: &Table, keys: &[&str], place: Place) -> Result<(), TableFault>
+    ensures { result ≡ keyed_by place (map (λ k. k.now) keys.now) (table_view table.now) }
+{
+    known(table, keys, place)?;
+    present(table, keys, place)
+}
+
+/// Refuses keys that are not those of a bus.
+pub fn bus_keyed(table: &Table, version: Version, place: Place) -> Result<(), TableFault>
+    ensures { result ≡ keyed_by place (bus_keys version) (table_view table.now) }
+{
+    match version {
+        Version::One => keyed(table, &["name", "speed", "queue", "stream"], place),
+        Version::Two => keyed(
+            table,
+            &["name", "speed", "queue", "police", "stream"],
+            place,
+        ),
+    }
+}
+
+/// Refuses keys that are not those of a stream.
+pub fn stream_keyed(table: &Table, version: Version, place: Place) -> Result<(), TableFault>
+    ensures { result ≡ keyed_by place (stream_keys version) (table_view table.now) }
+{
+    match version {
+        Version::One => keyed(table, &["name", "label", "equipment", "sdi"], place),
+        Version::Two => keyed(
+            table,
+            &["name", "label", "equipment", "sdi", "jitter_us"],
+            place,
+        ),
+    }
 }
 
 // The whole number at a key.
@@ -93,14 +130,52 @@ fn integer(table: &Table, key: &str) -> Option<i64>
     find(table, key)?.as_integer()
 }
 
-/// Refuses a `version` that is not the number 1.
-pub fn version(table: &Table, place: Place) -> Result<(), TableFault>
+/// The version of the text: the number 1 or 2 at `version`.
+pub fn version(table: &Table, place: Place) -> Result<Version, TableFault>
     ensures { result ≡ version_of place (table_view table.now) }
 {
-    if integer(table, "version") != Some(1) {
-        return Err(place.fault(Code::T02));
+    match integer(table, "version") {
+        Some(1) => Ok(Version::One),
+        Some(2) => Ok(Version::Two),
+        _ => Err(place.fault(TableRule::VersionUnknown)),
     }
-    Ok(())
+}
+
+// The truth value at a key, if it is one.
+fn bool_there(table: &Table, key: &str) -> Option<bool>
+    ensures { result ≡ option_and_then as_bool (get_member key.now (table_view table.now)) }
+{
+    find(table, key)?.as_bool()
+}
+
+/// The truth value at a key.
+pub fn truth(table: &Table, key: &str, place: Place) -> Result<bool, TableFault>
+    ensures { result ≡ bool_at place key.now (table_view table.now) }
+{
+    match bool_there(table, key) {
+        Some(value) => Ok(value),
+        None => Err(place.fault(TableRule::WrongKind)),
+    }
+}
+
+/// Whether a bus refuses early words. In version 1 none does.
+pub fn police(table: &Table, version: Version, place: Place) -> Result<bool, TableFault>
+    ensures { result ≡ police_at version place (table_view table.now) }
+{
+    match version {
+        Version::One => Ok(false),
+        Version::Two => truth(table, "police", place),
+    }
+}
+
+/// The jitter of a stream in microseconds. In version 1 there is none.
+pub fn jitter(table: &Table, version: Version, place: Place) -> Result<u32, TableFault>
+    ensures { result ≡ jitter_at version place (table_view table.now) }
+{
+    match version {
+        Version::One => Ok(0),
+        Version::Two => number(table, "jitter_us", 0, 60_000_000, place),
+    }
 }
 
 /// A number within its range.
@@ -108,10 +183,10 @@ pub fn within(number: Option<i64>, low: u32, high: u32, place: Place) -> Result<
     ensures { result ≡ number_in place low high number }
 {
     let Some(n) = number else {
-        return Err(place.fault(Code::T05));
+        return Err(place.fault(TableRule::WrongKind));
     };
     if n < i64::from(low) || n > i64::from(high) {
-        return Err(place.fault(Code::T06));
+        return Err(place.fault(TableRule::NumberOutOfRange));
     }
     Ok(n as u32)
 }
@@ -143,7 +218,7 @@ pub fn text<'a>(table: &'a Table, key: &str, place: Place) -> Result<&'a str, Ta
 {
     match text_there(table, key) {
         Some(text) => Ok(text),
-        None => Err(place.fault(Code::T05)),
+        None => Err(place.fault(TableRule::WrongKind)),
     }
 }
 
@@ -154,7 +229,7 @@ pub fn name(table: &Table, key: &str, place: Place) -> Result<Name, TableFault>
     let text = text(table, key, place)?;
     match Name::new(text.as_bytes()) {
         Some(name) => Ok(name),
-        None => Err(place.fault(Code::T07)),
+        None => Err(place.fault(TableRule::WrongSpelling)),
     }
 }
 
@@ -165,7 +240,7 @@ pub fn speed(table: &Table, key: &str, place: Place) -> Result<Speed, TableFault
     let text = text(table, key, place)?;
     match spellings::speed(text) {
         Some(speed) => Ok(speed),
-        None => Err(place.fault(Code::T07)),
+        None => Err(place.fault(TableRule::WrongSpelling)),
     }
 }
 
@@ -176,7 +251,7 @@ pub fn format(table: &Table, key: &str, place: Place) -> Result<Format, TableFau
     let text = text(table, key, place)?;
     match spellings::format(text) {
         Some(format) => Ok(format),
-        None => Err(place.fault(Code::T07)),
+        None => Err(place.fault(TableRule::WrongSpelling)),
     }
 }
 
@@ -187,18 +262,18 @@ pub fn label(table: &Table, key: &str, place: Place) -> Result<Label, TableFault
     let text = text(table, key, place)?;
     match spellings::label(text) {
         Some(label) => Ok(label),
-        None => Err(place.fault(Code::T07)),
+        None => Err(place.fault(TableRule::WrongSpelling)),
     }
 }
 
 /// The equipment code at a key.
-pub fn equipment(table: &Table, key: &str, place: Place) -> Result<u16, TableFault>
+pub fn equipment(table: &Table, key: &str, place: Place) -> Result<Equipment, TableFault>
     ensures { result ≡ equipment_at place key.now (table_view table.now) }
 {
     let text = text(table, key, place)?;
     match spellings::equipment(text) {
-        Some(code) => Ok(code),
-        None => Err(place.fault(Code::T07)),
+        Some(rule) => Ok(rule),
+        None => Err(place.fault(TableRule::WrongSpelling)),
     }
 }
 
@@ -209,7 +284,7 @@ pub fn sdi(table: &Table, key: &str, place: Place) -> Result<Sdi, TableFault>
     let number = number(table, key, 0, 3, place)?;
     match Sdi::new(number as u8) {
         Some(sdi) => Ok(sdi),
-        None => Err(place.fault(Code::T06)),
+        None => Err(place.fault(TableRule::NumberOutOfRange)),
     }
 }
 
@@ -220,7 +295,7 @@ pub fn stream_sdi(table: &Table, key: &str, place: Place) -> Result<Option<Sdi>,
     match text_there(table, key) {
         Some(text) => {
             if !spellings::is_same(text, "any") {
-                return Err(place.fault(Code::T07));
+                return Err(place.fault(TableRule::WrongSpelling));
             }
             Ok(None)
         }

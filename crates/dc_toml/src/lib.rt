@@ -10,7 +10,5 @@ mod place;
 mod read;
 mod sections;
 mod spellings;
-#[cfg(test)]
-mod tests;
 
 pub use read::{TEXT_LIMIT, read_parts, read_tables};

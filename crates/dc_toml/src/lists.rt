@@ -2,13 +2,13 @@
 ghost use Rattle.std.specs.Prelude.{◌≡◌, option_map, option_and_then};
 ghost use Rattle.toml.specs.Data.{get_member, as_array};
 ghost use Rattle.toml.specs.View.{view, items_view, table_view};
-ghost use Rattle.dc_tables.specs.declared.fault.Code.TheVariants.{T05};
+ghost use Rattle.dc_parts.specs.declared.fault.TableRule.TheVariants.{WrongKind};
 ghost use Rattle.dc_toml.specs.Faults.{seen, Gives, wanted};
 ghost use Rattle.dc_toml.specs.Keys.{array_at, all_items, is_text, is_number, each_item, name_item as name_in_item, number_item, counted, items_len, names_at, offsets_at, tables_at, optional_at};
 
 use crate::keys::{find, within};
 use crate::place::Place;
-use dc_tables::{BuildError, Code, Name, TableFault};
+use dc_parts::{BuildError, Name, TableFault, TableRule};
 use std::alloc::{AllocError, Global};
 use toml::{Table, Value};
 
@@ -27,7 +27,7 @@ fn array<'a>(table: &'a Table, key: &str, place: Place) -> Result<&'a [Value], T
 {
     match array_there(table, key) {
         Some(values) => Ok(values),
-        None => Err(place.fault(Code::T05)),
+        None => Err(place.fault(TableRule::WrongKind)),
     }
 }
 
@@ -45,7 +45,7 @@ fn check_count(values: &[Value], low: usize, high: usize, place: Place) -> Resul
 {
     let count = length(values);
     if count < low || count > high {
-        return Err(place.fault(Code::T08));
+        return Err(place.fault(TableRule::CountOutOfRange));
     }
     Ok(())
 }
@@ -76,10 +76,10 @@ fn are_numbers(values: &[Value]) -> bool
 
 // Refuses a list with an item of another kind.
 fn kinds(good: bool, place: Place) -> Result<(), TableFault>
-    ensures { result ≡ wanted place T05 good }
+    ensures { result ≡ wanted place WrongKind good }
 {
     if !good {
-        return Err(place.fault(Code::T05));
+        return Err(place.fault(TableRule::WrongKind));
     }
     Ok(())
 }
@@ -89,11 +89,11 @@ fn name_item(value: &Value, place: Place) -> Result<Name, TableFault>
     ensures { result ≡ name_in_item place (view value.now) }
 {
     let Some(text) = value.as_str() else {
-        return Err(place.fault(Code::T07));
+        return Err(place.fault(TableRule::WrongSpelling));
     };
     match Name::new(text.as_bytes()) {
         Some(name) => Ok(name),
-        None => Err(place.fault(Code::T07)),
+        None => Err(place.fault(TableRule::WrongSpelling)),
     }
 }
 

@@ -3,7 +3,7 @@ ghost use Rattle.std.specs.Prelude.{◌≡◌};
 ghost use Rattle.dc_toml.specs.Faults.{fault_at};
 ghost use Rattle.dc_toml.specs.Faults.{place as section_place};
 
-use dc_tables::{Code, Section, TableFault};
+use dc_parts::{Section, TableFault, TableRule};
 
 /// A table of the text: its section, and its index there.
 #[derive(Clone, Copy, Debug, PartialEq)]
@@ -21,11 +21,11 @@ impl Place {
     }
 
     /// The fault with this code here.
-    pub fn fault(self, code: Code) -> TableFault
-        ensures { result ≡ fault_at self code }
+    pub fn fault(self, rule: TableRule) -> TableFault
+        ensures { result ≡ fault_at self rule }
     {
         TableFault {
-            code,
+            rule,
             section: self.section,
             index: self.index,
         }

@@ -4,16 +4,17 @@ ghost use Rattle.toml.specs.View.{table_view, items_view};
 ghost use Rattle.dc_toml.specs.Faults.{seen, Gives, Leaves};
 ghost use Rattle.dc_toml.specs.Told.{TellsTables};
 ghost use Rattle.dc_toml.specs.Written.{written};
-ghost use Rattle.dc_toml.specs.Reading.{document_of, head_of, lists_of, members_of, tables_in, tables_of};
+ghost use Rattle.dc_toml.specs.Reading.{document_of, tick_of, lists_of, members_of, tables_in, tables_of};
 
 use crate::keys::{known, number, present, version};
 use crate::lists::optional_tables;
 use crate::place::Place;
 use crate::sections::read_tables_of;
-use dc_tables::{
-    BuildError, BusPart, Code, OutputPart, ParameterPart, Parts, RouterPart, Section, TableFault,
-    Tables,
+use dc_dict::Parameter;
+use dc_parts::{
+    BuildError, BusPart, OutputPart, Parts, RouterPart, Section, TableFault, TableRule,
 };
+use dc_tables::Tables;
 use std::alloc::{AllocError, Global};
 use toml::{Table, Value};
 
@@ -21,11 +22,10 @@ use toml::{Table, Value};
 pub const TEXT_LIMIT: usize = 1_048_576;
 
 // The length of a tick, where the top's keys are right.
-#[tactic(auto, unfolding(crate::specs::Reading::head_of))]
-fn head(document: &Table, top: Place) -> Result<u32, TableFault>
-    ensures { result ≡ head_of top (table_view document.now) }
+#[tactic(auto, unfolding(crate::specs::Reading::tick_of))]
+fn tick(document: &Table, top: Place) -> Result<u32, TableFault>
+    ensures { result ≡ tick_of top (table_view document.now) }
 {
-    version(document, top)?;
     known(
         document,
         &["version", "tick_us", "parameter", "bus", "router", "output"],
@@ -73,7 +73,7 @@ fn members(
 ) -> Result<(), BuildError>
     ensures { Leaves (written parts.new) result (members_of (written parts.old) (record { parameters = items_view parameters.now; buses = items_view buses.now; routers = items_view routers.now; outputs = items_view outputs.now })) }
 {
-    read_tables_of::<ParameterPart>(alloc, parts, parameters)?;
+    read_tables_of::<Parameter>(alloc, parts, parameters)?;
     read_tables_of::<BusPart>(alloc, parts, buses)?;
     read_tables_of::<RouterPart>(alloc, parts, routers)?;
     read_tables_of::<OutputPart>(alloc, parts, outputs)
@@ -85,9 +85,10 @@ fn parts(alloc: Global, document: &Table) -> Result<Parts, BuildError>
     ensures { Gives written result (tables_in (table_view document.now)) }
 {
     let top = Place::new(Section::Top, 0);
-    let tick_us = head(document, top)?;
+    let version = version(document, top)?;
+    let tick_us = tick(document, top)?;
     let lists = lists(document, top)?;
-    let mut parts = Parts::new(alloc, tick_us);
+    let mut parts = Parts::new(alloc, version, tick_us);
     members(
         alloc,
         &mut parts,
@@ -104,7 +105,7 @@ fn parts(alloc: Global, document: &Table) -> Result<Parts, BuildError>
 fn document(alloc: Global, text: &[u8]) -> Result<Table, BuildError>
     ensures { Gives table_view result (document_of text.now) }
 {
-    let refused = Place::new(Section::Top, 0).fault(Code::T01);
+    let refused = Place::new(Section::Top, 0).fault(TableRule::NotToml);
     if text.len() > TEXT_LIMIT {
         return Err(BuildError::Refused(refused));
     }

@@ -2,19 +2,20 @@
 ghost use Rattle.std.specs.Prelude.{◌≡◌, ◌+◌, ◌≤◌, length, Result, OnOk};
 ghost use Rattle.toml.specs.Data.{Data};
 ghost use Rattle.toml.specs.View.{view, items_view};
-ghost use Rattle.dc_tables.specs.declared.fault.TableFault.{TableFault as SpecFault};
+ghost use Rattle.dc_parts.specs.declared.fault.TableFault.{TableFault as SpecFault};
 ghost use Rattle.dc_toml.specs.Faults.{Leaves};
 ghost use Rattle.dc_toml.specs.Written.{Written, written, router_text, label_text, and_bus, and_router, and_label, and_output};
 ghost use Rattle.dc_toml.specs.Reading.{next_router, next_label, each_table, read_parameter, read_bus, read_stream as stream_reading, read_router, read_output, read_label as label_reading};
 
 use crate::keys::{
-    equipment, format, known, label, name, number, present, sdi, speed, stream_sdi, table,
+    bus_keyed, equipment, format, jitter, keyed, label, name, number, police, sdi, speed,
+    stream_keyed, stream_sdi, table,
 };
 use crate::lists::{names, offsets, tables};
 use crate::place::Place;
-use dc_tables::{
-    BuildError, BusPart, LabelPart, OutputPart, ParameterPart, Parts, RouterPart, Section,
-    StreamPart,
+use dc_dict::Parameter;
+use dc_parts::{
+    BuildError, BusPart, LabelPart, OutputPart, Parts, RouterPart, Section, StreamPart,
 };
 use std::alloc::{AllocError, Global};
 use toml::Value;
@@ -75,7 +76,7 @@ fn add_label(parts: &mut Parts, label: LabelPart) -> Result<(), AllocError>
     parts.push_label(label)
 }
 
-impl TopTable for ParameterPart {
+impl TopTable for Parameter {
     ghost reading = { read_parameter };
 
     #[tactic(auto, unfolding(crate::specs::Reading::read_parameter))]
@@ -83,14 +84,13 @@ impl TopTable for ParameterPart {
         let place = Place::new(Section::Parameter, parts.parameter_count());
         let table = table(value, place)?;
         let keys = &["label", "equipment", "format", "min_us", "max_us"];
-        known(table, keys, place)?;
-        present(table, keys, place)?;
+        keyed(table, keys, place)?;
         let label = label(table, "label", place)?;
         let equipment = equipment(table, "equipment", place)?;
         let format = format(table, "format", place)?;
         let min_us = number(table, "min_us", 1, 60_000_000, place)?;
         let max_us = number(table, "max_us", 1, 60_000_000, place)?;
-        parts.push_parameter(ParameterPart {
+        parts.push_parameter(Parameter {
             label,
             equipment,
             format,
@@ -110,20 +110,21 @@ fn read_stream(parts: &mut Parts, value: &Value) -> Result<(), BuildError>
 {
     let place = Place::new(Section::Stream, parts.stream_count());
     let bus = parts.bus_count() - 1;
+    let version = parts.version();
     let table = table(value, place)?;
-    let keys = &["name", "label", "equipment", "sdi"];
-    known(table, keys, place)?;
-    present(table, keys, place)?;
+    stream_keyed(table, version, place)?;
     let name = name(table, "name", place)?;
     let label = label(table, "label", place)?;
     let equipment = equipment(table, "equipment", place)?;
     let sdi = stream_sdi(table, "sdi", place)?;
+    let jitter_us = jitter(table, version, place)?;
     parts.push_stream(StreamPart {
         bus,
         name,
         label,
         equipment,
         sdi,
+        jitter_us,
     })?;
     Ok(())
 }
@@ -148,15 +149,20 @@ impl TopTable for BusPart {
     #[tactic(auto, unfolding(crate::specs::Reading::read_bus))]
     fn read(alloc: Global, parts: &mut Parts, value: &Value) -> Result<(), BuildError> {
         let place = Place::new(Section::Bus, parts.bus_count());
+        let version = parts.version();
         let table = table(value, place)?;
-        let keys = &["name", "speed", "queue", "stream"];
-        known(table, keys, place)?;
-        present(table, keys, place)?;
+        bus_keyed(table, version, place)?;
         let name = name(table, "name", place)?;
         let speed = speed(table, "speed", place)?;
         let queue = number(table, "queue", 1, 4096, place)?;
+        let police = police(table, version, place)?;
         let streams = tables(table, "stream", 1, 256, place)?;
-        parts.push_bus(BusPart { name, speed, queue })?;
+        parts.push_bus(BusPart {
+            name,
+            speed,
+            queue,
+            police,
+        })?;
         read_streams(parts, streams)
     }
 }
@@ -169,8 +175,7 @@ impl TopTable for RouterPart {
         let place = router_place(parts);
         let table = table(value, place)?;
         let keys = &["name", "steps", "within", "most", "visits"];
-        known(table, keys, place)?;
-        present(table, keys, place)?;
+        keyed(table, keys, place)?;
         let name = name(table, "name", place)?;
         let steps = number(table, "steps", 1, 1000, place)?;
         let within = number(table, "within", 1, 1000, place)?;
@@ -210,8 +215,7 @@ fn read_label(alloc: Global, parts: &mut Parts, value: &Value) -> Result<(), Bui
         "age",
         "offsets",
     ];
-    known(table, keys, place)?;
-    present(table, keys, place)?;
+    keyed(table, keys, place)?;
     let name = name(table, "name", place)?;
     let label = label(table, "label", place)?;
     let equipment = equipment(table, "equipment", place)?;
@@ -259,8 +263,7 @@ impl TopTable for OutputPart {
         let place = Place::new(Section::Output, parts.output_count());
         let table = table(value, place)?;
         let keys = &["name", "speed", "steps", "within", "frame", "label"];
-        known(table, keys, place)?;
-        present(table, keys, place)?;
+        keyed(table, keys, place)?;
         let name = name(table, "name", place)?;
         let speed = speed(table, "speed", place)?;
         let steps = number(table, "steps", 1, 1000, place)?;

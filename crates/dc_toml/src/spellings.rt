@@ -3,7 +3,8 @@ ghost use Rattle.std.specs.Prelude.{◌≡◌, ℕ, ◌<◌, IfSome};
 ghost use Rattle.toml.specs.Data.{same_key};
 ghost use Rattle.dc_toml.specs.Keys.{digit_value as value_of_digit, digit as digit_in, three_digits as three_digits_of, label_in, label_of, equipment_of, speed_of, format_of};
 
-use dc_tables::Speed;
+use dc_dict::Equipment;
+use dc_parts::Speed;
 use dc_word::{Format, Label};
 
 /// Whether two texts are the same.
@@ -109,11 +110,11 @@ pub fn label(text: &str) -> Option<Label>
 }
 
 /// The equipment code that three hexadecimal digits write, in either case.
-pub fn equipment(text: &str) -> Option<u16>
+pub fn equipment(text: &str) -> Option<Equipment>
     ensures { result ≡ equipment_of text.now }
 {
     let Some((high, middle, low)) = three_digits(16, text.as_bytes()) else {
         return None;
     };
-    Some((256 * high + 16 * middle + low) as u16)
+    Equipment::new((256 * high + 16 * middle + low) as u16)
 }

@@ -5,7 +5,8 @@ use Rattle.std.specs.List.Sorted.{IsPartitionedBy, IsPartitionPoint}
 use Rattle.std.proofs.lemmas.Bool.{cases_lt}
 use Rattle.std.proofs.lemmas.List.Sums.{sum_by-cons}
 use Rattle.std.proofs.lemmas.List.Sorted.{IsPartitionedBy-leb, IsNonDecreasingBy-from_default}
-use Rattle.dc_bound.specs.Dues.{due_by, due_by_frames, due_by-frames, due_by_frames-is, due_in, due_in_ascends, ascending_ge, IsFrame}
+use Rattle.dc_bound.specs.Frame.{due_by, due_by_frames, due_in, IsFrame}
+use Rattle.dc_bound.specs.lemmas.Dues.{due_by-frames, due_by_frames-is, due_in_ascends, ascending_ge}
 use Rattle.dc_tables.specs.TableRows.{TableRows, AreValid, output_row}
 use Rattle.dc_tables.specs.declared.rows.Entry.{Entry}
 use Rattle.dc_transmit.specs.Schedule.{off, no_entry, IsSchedule}

@@ -1,3 +1,2 @@
-pub mod GapLaws
 mod Scan
 mod Counting

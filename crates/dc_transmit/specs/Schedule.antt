@@ -1,6 +1,6 @@
 -- The transmit schedule of an output: a frame that comes again and again, and the entries of the frame in order of offset.
 use Rattle.std.specs.Prelude.{ℕ, ◌%◌, ◌≤◌, Bool, ◌==◌, List, length, slice_index_or}
-use Rattle.dc_bound.specs.Dues.{due_in, due_by, IsFrame}
+use Rattle.dc_bound.specs.Frame.{due_in, due_by, IsFrame}
 use Rattle.dc_tables.specs.TableRows.{TableRows, output_row}
 use Rattle.dc_tables.specs.declared.rows.Entry.{Entry}
 use Rattle.dc_transmit.specs.Gaps.{gaps, least_gap, greatest_gap}

@@ -1,4 +1,4 @@
-use Rattle.dc_busy.specs.Law.{queue_backlog, queue_delay, queue_in_time}
+use Rattle.dc_busy.specs.lemmas.Law.{queue_backlog, queue_delay, queue_in_time}
 use Rattle.dc_busy.proofs.queue_law.Goals as goal
 
 pub returns-clause-backlog : goal.returns-clause-backlog

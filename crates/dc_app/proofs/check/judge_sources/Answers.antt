@@ -1,4 +1,5 @@
-use Rattle.std.proofs.Common.{◌≡◌}
+use Rattle.std.proofs.Common.{◌≡◌, refl}
+use Rattle.dc_app.proofs.Loading.{behind_kept, behind_read}
 use Rattle.dc_app.proofs.Checking.{both_judged, both_raised, refused_judged}
 use Rattle.dc_app.proofs.check.judge_sources.Goals as goal
 
@@ -12,3 +13,12 @@ pub returns-in-Err-Refused-clause-answer : goal.returns-in-Err-Refused-clause-an
 returns-in-Err-Refused-clause-answer g c = λ rows text e f.
     let loads = rw c.in-Err-Refused.field-0-is at c.in-Err-Refused.ensures.tables in
     refused_judged _ rows text _ _ _ e loads c.in-Err-Refused.fault-is c.print_table_fault.ensures
+
+pub returns-in-Ok-clause-order : goal.returns-in-Ok-clause-order
+returns-in-Ok-clause-order g c = behind_read _ c.in-Ok.tables _ c.in-Ok.ensures.tables
+
+pub returns-in-Err-Refused-clause-order : goal.returns-in-Err-Refused-clause-order
+returns-in-Err-Refused-clause-order g c = behind_kept _ _ refl
+
+pub returns-in-Err-Failed-clause-order : goal.returns-in-Err-Failed-clause-order
+returns-in-Err-Failed-clause-order g c = behind_kept _ _ refl

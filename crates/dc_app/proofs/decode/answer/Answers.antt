@@ -1,9 +1,9 @@
 use Rattle.std.proofs.Common.{◌≡◌, ◌+◌, ◌++◌, length, length-append, refl, ap, sym, ◌∙◌, arith, subst, None, Some, Err}
 use Rattle.dc_device.specs.Lines.{NoFeed}
-use Rattle.dc_device.proofs.LineLemmas.{NoFeed-append}
+use Rattle.dc_device.specs.lemmas.LineLemmas.{NoFeed-append}
 use Rattle.dc_app.specs.Decode.{answer_text}
 use Rattle.dc_event.specs.WordText.{word_of}
-use Rattle.dc_app.proofs.Exits.{ask_ends, cut_ends, long_ends, says_ends, says_filled, says_first, says_next, word_ends, write_ends}
+use Rattle.dc_app.proofs.Exits.{ask_asks, ask_ends, cut_ends, line_asks, long_ends, says_ends, says_filled, says_first, says_next, word_ends, write_ends}
 use Rattle.dc_app.proofs.decode.answer.Goals as goal
 
 pub loop-reader-init : goal.loop-reader-init
@@ -13,6 +13,8 @@ loop-reader-init g c = record {
   within = rw (c.new-line.ensures, c.new-reader.ensures.room) (omega arith);
   source = refl;
   sink = refl;
+  asks = rw (c.new-reader.ensures.bytes, c.new-reader.ensures.room) (omega arith);
+  dry = omega arith;
 }
 
 pub returns-in-Err-clause-answer : goal.returns-in-Err-clause-answer
@@ -32,6 +34,8 @@ loop-reader-preserved-in-Ok-true g c =
       within = omega (arith, ap length {y = c.loop-reader.line.items ++ c.loop-reader.reader.bytes} line, length-append c.loop-reader.line.items c.loop-reader.reader.bytes, c.in-Ok-true.ensures.room);
       source = c.in-Ok-true.ensures.cause.0 ∙ before.source;
       sink = c.in-Ok-true.ensures.cause.1 ∙ before.sink;
+      asks = ask_asks _ _ _ _ _ _ _ _ before.asks room c.in-Ok-true.ensures.room asks.1.1 c.in-Ok-true.ensures.pulls;
+      dry = omega (arith, before.dry, rw c.in-Ok-true.field-0-test at c.in-Ok-true.ensures.dry_pulls);
     }
 
 pub returns-in-Ok-false-clause-answer : goal.returns-in-Ok-false-clause-answer
@@ -78,4 +82,8 @@ loop-reader-preserved g c =
           rw c.clear.ensures (omega (arith, ap length line, length-append c.loop-reader.line.items front));
       source = before.source;
       sink = omega (arith, c.in-Ok.ensures.count, before.sink);
+      asks =
+          let (front, held, line, more, room) = reads in
+          line_asks front _ _ _ _ _ _ before.asks room;
+      dry = before.dry;
     }

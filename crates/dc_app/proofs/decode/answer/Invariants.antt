@@ -12,6 +12,8 @@ invariant-loop-reader g l =
       within : l.number + (l.reader.room + length l.line.items) ≤ 9223372036854775808;
       source : g.S.Source.failed l.source ≡ g.S.Source.failed l.fn.source;
       sink : g.K.Sink.failed l.sink ≡ g.K.Sink.failed l.fn.sink;
+      asks : g.S.Source.asked l.source + (l.reader.room + waits l.reader.bytes) ≤ g.S.Source.asked l.fn.source + 9223372036854775808;
+      dry : g.S.Source.dry l.source ≤ g.S.Source.dry l.fn.source;
     }
 
 abbrev pub decreases-loop-reader : goal.decreases-loop-reader

@@ -1,6 +1,8 @@
-use Rattle.std.proofs.Common.{◌∙◌, ap, arith, refl}
-use Rattle.dc_event.specs.Reading.{Reading, failures_at}
-use Rattle.dc_app.proofs.ReplayExits.{at_tick_0, flush_ends, not_stopped, refused_ends, said_first, said_next, said_pulled, say_ends, step_count, step_early, stop_ends}
+use Rattle.std.proofs.Common.{◌∙◌, [], ap, arith, refl, sym, Err}
+use Rattle.dc_event.specs.Reading.{Reading, dry_left, failures_at, pulls_left}
+use Rattle.dc_app.specs.Refusals.{refused, stop_end}
+use Rattle.dc_app.proofs.ReplayExits.{at_tick_0, cut_some, flush_ends, not_stopped, pulls_needed, pulls_told, refused_ends, said_first, said_next, said_pulled, said_some, say_ends, step_count, step_early, stop_ends}
+use Rattle.dc_device.specs.lemmas.Known.{front_more}
 use Rattle.dc_app.proofs.replay.answer.Goals as goal
 
 pub loop-writer-init : goal.loop-writer-init
@@ -13,6 +15,8 @@ loop-writer-init g c =
       within = omega (arith, c.requires.stands.count, ap (λ (r : Reading). r.room) start);
       source = omega (arith, ap (λ (r : Reading). failures_at r.stopped) start);
       sink = refl;
+      asks = omega (arith, ap (λ (r : Reading). pulls_left r.stopped r.room r.held) start);
+      dry = omega (arith, ap (λ (r : Reading). dry_left r.stopped) start);
     }
 
 pub returns-in-Err-clause-answer : goal.returns-in-Err-clause-answer
@@ -30,6 +34,13 @@ loop-writer-preserved-in-Ok g c =
       within = omega (arith, before.within, c.pull.ensures.room, fewer);
       source = omega (arith, before.source, c.pull.ensures.count, ap failures_at ran);
       sink = omega (arith, before.sink, c.in-Ok.ensures.count);
+      asks = omega (
+        arith,
+        before.asks,
+        c.pull.ensures.asks.0,
+        pulls_needed c.loop-writer.lines.stopped c.advance.new.self.stopped c.loop-writer.lines.held c.advance.new.self.held c.loop-writer.lines.room c.advance.new.self.room ran runs none fewer,
+      );
+      dry = omega (arith, before.dry, c.pull.ensures.asks.1, ap dry_left (runs ∙ sym ran));
     }
 
 pub returns-in-Some-Err-clause-answer : goal.returns-in-Some-Err-clause-answer
@@ -64,4 +75,23 @@ loop-writer-preserved g c =
       within = omega (arith, before.within, shorter, step_count _ _ _ _ _ _ before.said.at steps);
       source = omega (arith, before.source, ap failures_at ran, ap failures_at runs);
       sink = omega (arith, before.sink, c.in-Ok-say.ensures.count);
+      asks = omega (
+        arith,
+        before.asks,
+        pulls_told c.loop-writer.lines.stopped c.advance.new.self.stopped c.loop-writer.lines.held c.advance.new.self.held c.loop-writer.lines.room c.advance.new.self.room ran runs shorter,
+      );
+      dry = omega (arith, before.dry, ap dry_left (runs ∙ sym ran));
     }
+
+pub returns-in-Err-clause-some : goal.returns-in-Err-clause-some
+returns-in-Err-clause-some g c =
+    cut_some _ _ _ _ _ _ _ _ _ [] _ c.loop-writer.invariant.said (front_more _ _ _ [] c.in-Err.ensures.bytes) refl
+
+pub returns-in-Some-Err-clause-some : goal.returns-in-Some-Err-clause-some
+returns-in-Some-Err-clause-some g c = said_some _ _ _ _ _ _ _ _ _ (stop_end c.in-Some-Err.stop) c.end_by.result c.loop-writer.invariant.said c.end_by.ensures.bytes
+
+pub returns-in-Err-step-clause-some : goal.returns-in-Err-step-clause-some
+returns-in-Err-step-clause-some g c = said_some _ _ _ _ _ _ _ _ _ (refused c.args.tables.now c.in-Err-step.refusal.event c.in-Err-step.refusal.fault c.in-Err-step.refusal.number) c.end_refused.result c.loop-writer.invariant.said c.end_refused.ensures.bytes
+
+pub returns-in-Err-say-clause-some : goal.returns-in-Err-say-clause-some
+returns-in-Err-say-clause-some g c = cut_some _ _ _ _ _ _ _ _ _ _ c.in-Err-say.failure c.loop-writer.invariant.said c.in-Err-say.ensures.bytes.0 c.in-Err-say.ensures.sink

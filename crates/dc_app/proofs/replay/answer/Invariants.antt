@@ -1,6 +1,6 @@
 use Rattle.std.proofs.Common.{◌≡◌, ◌+◌, ◌*◌, ◌^◌, ◌≤◌}
 use Rattle.dc_core.specs.CoreSteps.{rows_of}
-use Rattle.dc_event.specs.Reading.{ahead, failures_at, waits}
+use Rattle.dc_event.specs.Reading.{ahead, dry_left, failures_at, pulls_left, waits}
 use Rattle.dc_app.proofs.Said.{Said, steps}
 use Rattle.dc_app.proofs.replay.answer.Given as goal
 
@@ -13,6 +13,8 @@ invariant-loop-writer g l =
       within : l.progress.number + l.lines.room ≤ 1073741825;
       source : g.S.Source.failed l.trace ≡ g.S.Source.failed l.fn.trace + failures_at l.lines.stopped;
       sink : g.K.Sink.failed l.sink ≡ g.K.Sink.failed l.fn.sink;
+      asks : g.S.Source.asked l.trace + pulls_left l.lines.stopped l.lines.room l.lines.held ≤ g.S.Source.asked l.fn.trace + 1073741825;
+      dry : g.S.Source.dry l.trace + dry_left l.lines.stopped ≤ g.S.Source.dry l.fn.trace + 1;
     }
 
 abbrev pub decreases-loop-writer : goal.decreases-loop-writer

@@ -1,3 +1,7 @@
+use Rattle.std.proofs.Common.{◌≡◌, rules}
+use Rattle.dc_app.specs.Answer.{nothing}
+use Rattle.dc_app.specs.declared.answer.Failure.TheVariants.{Memory}
+use Rattle.dc_app.proofs.Exits.{none_ends}
 use Rattle.dc_app.proofs.ReplayExits.{none_written}
 use Rattle.dc_app.proofs.StepLemmas.{stands_first}
 use Rattle.dc_app.proofs.replay.answer_on.Goals as goal
@@ -13,3 +17,17 @@ returns-in_default-new-clause-answer g c = none_written _ _ _ _
 
 pub answer-requires-clause-stands : goal.answer-requires-clause-stands
 answer-requires-clause-stands g c = stands_first c.in-Ok-new.core c.in-Ok-new.ensures.stands
+
+pub returns-in_default-clause-some : goal.returns-in_default-clause-some
+returns-in_default-clause-some g c = (nothing, none_ends _ Memory)
+
+pub returns-in_default-try_clone-clause-some : goal.returns-in_default-try_clone-clause-some
+returns-in_default-try_clone-clause-some g c = (nothing, none_ends _ Memory)
+
+pub returns-in_default-new-clause-some : goal.returns-in_default-new-clause-some
+returns-in_default-new-clause-some g c = (nothing, none_ends _ Memory)
+
+pub returns-clause-answer : goal.returns-clause-answer
+returns-clause-answer g c =
+    let e : c.deref.result.now ≡ c.args.tables = search rules in
+    rw e at c.answer.ensures.answer

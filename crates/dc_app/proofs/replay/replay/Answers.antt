@@ -1,4 +1,9 @@
-use Rattle.dc_app.proofs.ReplayReports.{failed_replays, read_replays, refused_replays}
+use Rattle.std.proofs.Common.{refl}
+use Rattle.dc_app.specs.Answer.{nothing}
+use Rattle.dc_app.specs.Refusals.{tables_end}
+use Rattle.dc_app.proofs.Exits.{none_ends}
+use Rattle.dc_app.proofs.Loading.{behind_kept, behind_read}
+use Rattle.dc_app.proofs.ReplayReports.{failed_replays, read_replays, refused_replays, refused_some}
 use Rattle.dc_app.proofs.replay.replay.Goals as goal
 
 pub returns-clause-answer : goal.returns-clause-answer
@@ -12,3 +17,20 @@ returns-in-Err-Refused-clause-answer g c =
 
 pub returns-in-Err-Failed-clause-answer : goal.returns-in-Err-Failed-clause-answer
 returns-in-Err-Failed-clause-answer g c = failed_replays _ _ _ _ _
+
+pub returns-clause-order : goal.returns-clause-order
+returns-clause-order g c = behind_read _ c.in-Ok.tables _ c.in-Ok.ensures.tables
+
+pub returns-in-Err-Refused-clause-order : goal.returns-in-Err-Refused-clause-order
+returns-in-Err-Refused-clause-order g c = behind_kept _ _ refl
+
+pub returns-in-Err-Failed-clause-order : goal.returns-in-Err-Failed-clause-order
+returns-in-Err-Failed-clause-order g c = behind_kept _ _ refl
+
+pub returns-in-Err-Refused-clause-some : goal.returns-in-Err-Refused-clause-some
+returns-in-Err-Refused-clause-some g c =
+    let ends = rw c.in-Err-Refused.field-0-is at c.end_unloaded.ensures.bytes in
+    refused_some _ _ _ (tables_end c.in-Err-Refused.fault) c.end_unloaded.result c.requires.new ends
+
+pub returns-in-Err-Failed-clause-some : goal.returns-in-Err-Failed-clause-some
+returns-in-Err-Failed-clause-some g c = (nothing, none_ends _ _)

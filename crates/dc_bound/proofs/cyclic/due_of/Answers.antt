@@ -1,5 +1,5 @@
 use Rattle.std.proofs.Common.{sym}
-use Rattle.dc_bound.specs.Spans.{due_early, due_late}
+use Rattle.dc_bound.specs.lemmas.Spans.{due_early, due_late}
 use Rattle.dc_bound.proofs.cyclic.due_of.Goals as goal
 
 pub returns-then-n-len : goal.returns-then-n-len

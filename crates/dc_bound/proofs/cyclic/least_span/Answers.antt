@@ -1,6 +1,6 @@
 use Rattle.std.proofs.Common.{◌/◌, ◌%◌, length}
 use Rattle.std.proofs.Math.Nat.{div-add-mod'}
-use Rattle.dc_bound.specs.Spans.{span_rounds}
+use Rattle.dc_bound.specs.lemmas.Spans.{span_rounds}
 use Rattle.dc_bound.proofs.cyclic.least_span.Goals as goal
 
 pub returns : goal.returns

@@ -1,6 +1,7 @@
 use Rattle.std.proofs.Common.{◌≡◌, ◌+◌, ◌-◌, ℕ, min, arith, subst}
-use Rattle.dc_bound.specs.Due.{due}
-use Rattle.dc_bound.specs.Spans.{IsLeastSpan, span_first, span_next, span_small, due-grows}
+use Rattle.dc_bound.specs.Frame.{due}
+use Rattle.dc_bound.specs.lemmas.Spans.{span_first, span_next, span_small, due-grows}
+use Rattle.dc_bound.specs.Frame.{IsLeastSpan}
 use Rattle.dc_bound.proofs.cyclic.least_span_in_part.Goals as goal
 
 pub loop-i-init : goal.loop-i-init

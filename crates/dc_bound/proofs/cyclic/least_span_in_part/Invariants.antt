@@ -1,4 +1,4 @@
-use Rattle.dc_bound.specs.Spans.{IsLeastSpan}
+use Rattle.dc_bound.specs.Frame.{IsLeastSpan}
 use Rattle.dc_bound.proofs.cyclic.least_span_in_part.Given as goal
 
 abbrev pub invariant-loop-i : goal.invariant-loop-i

@@ -1,5 +1,5 @@
 use Rattle.std.proofs.Common.{◌≡◌, ◌*◌, ℕ, length, arith, subst}
-use Rattle.dc_bound.specs.Spans.{IsBest, best_none, best_more, best_same, best_all}
+use Rattle.dc_bound.specs.lemmas.Spans.{IsBest, best_none, best_more, best_same, best_all}
 use Rattle.dc_bound.proofs.cyclic.most_in_part.Goals as goal
 use Rattle.dc_bound.proofs.cyclic.most_in_part.Goals.{then-due_of-ticks, else-due_of-ticks}
 

@@ -1,4 +1,4 @@
-use Rattle.dc_bound.specs.Spans.{IsBest}
+use Rattle.dc_bound.specs.lemmas.Spans.{IsBest}
 use Rattle.dc_bound.proofs.cyclic.most_in_part.Given as goal
 
 abbrev pub invariant-loop-j : goal.invariant-loop-j

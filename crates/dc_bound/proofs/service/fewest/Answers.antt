@@ -1,5 +1,5 @@
 use Rattle.std.proofs.Common.{◌/◌, ◌*◌, length, arith, ap}
-use Rattle.dc_bound.specs.Cycle.{fewest_rounds}
+use Rattle.dc_bound.specs.lemmas.Cycle.{fewest_rounds}
 use Rattle.dc_bound.proofs.service.fewest.Goals as goal
 
 pub returns : goal.returns

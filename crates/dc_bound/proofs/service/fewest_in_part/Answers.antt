@@ -1,5 +1,6 @@
 use Rattle.std.proofs.Common.{◌≡◌, ◌+◌, ◌-◌, length, arith, ◌∙◌}
-use Rattle.dc_bound.specs.Cycle.{among, is_at, slide_step, least_step, among_small, is_at_small}
+use Rattle.dc_bound.specs.Rounds.{among, is_at}
+use Rattle.dc_bound.specs.lemmas.Cycle.{slide_step, least_step, among_small, is_at_small}
 use Rattle.dc_bound.proofs.service.fewest_in_part.Goals as goal
 
 pub loop-n-init : goal.loop-n-init

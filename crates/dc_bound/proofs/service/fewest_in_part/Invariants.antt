@@ -1,6 +1,6 @@
 use Rattle.std.proofs.Common.{◌≡◌, ◌≤◌, length}
 use Rattle.dc_bound.specs.Places.{least}
-use Rattle.dc_bound.specs.Cycle.{among, is_at}
+use Rattle.dc_bound.specs.Rounds.{among, is_at}
 use Rattle.dc_bound.proofs.service.fewest_in_part.Given as goal
 
 abbrev pub invariant-loop-n : goal.invariant-loop-n

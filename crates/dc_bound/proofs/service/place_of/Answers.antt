@@ -1,5 +1,5 @@
 use Rattle.std.proofs.Common.{◌≡◌, ◌+◌, ◌-◌, ◌*◌, ◌%◌, ◌<◌, sym, ap, ◌∙◌, arith}
-use Rattle.dc_bound.specs.Counts.{at_mod}
+use Rattle.dc_bound.specs.lemmas.Counts.{at_mod}
 use Rattle.dc_bound.proofs.service.place_of.Goals as goal
 
 pub returns-then-n-len : goal.returns-then-n-len

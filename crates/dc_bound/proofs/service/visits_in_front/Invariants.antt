@@ -1,5 +1,5 @@
 use Rattle.std.proofs.Common.{◌≡◌, ◌≤◌, length}
-use Rattle.dc_bound.specs.Cycle.{among, is_at}
+use Rattle.dc_bound.specs.Rounds.{among, is_at}
 use Rattle.dc_bound.proofs.service.visits_in_front.Given as goal
 
 abbrev pub invariant-loop-i : goal.invariant-loop-i

@@ -1,6 +1,6 @@
 use Rattle.std.proofs.Common.{◌≡◌, ◌+◌, ◌-◌, length, sym, ap, ◌∙◌, arith}
 use Rattle.dc_cert.specs.Bounds.{certificate_rows}
-use Rattle.dc_check.proofs.Exact.{job-label}
+use Rattle.dc_check.specs.lemmas.Exact.{job-label}
 use Rattle.dc_check.specs.Verdict.{job_verdict}
 use Rattle.dc_check.proofs.job.job_fault.Goals as goal
 

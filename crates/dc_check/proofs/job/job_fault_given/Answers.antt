@@ -1,6 +1,6 @@
 use Rattle.std.proofs.Common.{◌≡◌, ◌+◌, ◌-◌, length, sym, ap, ◌∙◌, arith}
 use Rattle.dc_cert.specs.Bounds.{output_bound, certificate_rows}
-use Rattle.dc_check.proofs.Jobs.{job-in_range, rules-input, rules-output, rules-label}
+use Rattle.dc_check.specs.lemmas.Jobs.{job-in_range, rules-input, rules-output, rules-label}
 use Rattle.dc_check.specs.Verdict.{first_of, output_rules, label_rules}
 use Rattle.dc_check.proofs.job.job_fault_given.Goals as goal
 

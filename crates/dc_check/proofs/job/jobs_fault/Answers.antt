@@ -1,6 +1,6 @@
 use Rattle.std.proofs.Common.{is_some, sym, ap, ◌∙◌, arith}
 use Rattle.dc_cert.specs.Bounds.{certificate_rows}
-use Rattle.dc_check.proofs.Jobs.{jobs-zero, jobs-more, jobs-found}
+use Rattle.dc_check.specs.lemmas.Jobs.{jobs-zero, jobs-more, jobs-found}
 use Rattle.dc_check.specs.Verdict.{job_count, job_verdict}
 use Rattle.dc_check.proofs.job.jobs_fault.Goals as goal
 

@@ -2,7 +2,7 @@ use Rattle.std.proofs.Common.{subst}
 use Rattle.std.specs.Arc.{arc_value}
 use Rattle.dc_cert.specs.Claims.{claims_of}
 use Rattle.dc_cert.specs.declared.certificate.Certificate.{Certificate}
-use Rattle.dc_check.proofs.Exact.{verdict-accepts}
+use Rattle.dc_check.specs.lemmas.Exact.{verdict-accepts}
 use Rattle.dc_check.specs.Accepts.{Accepts}
 use Rattle.dc_check.specs.Certified.{KeepsItsClaims}
 use Rattle.dc_check.specs.Lent.{certificate_of}

@@ -1,6 +1,6 @@
 use Rattle.std.proofs.Common.{◌<◌, length, sym, ap, ◌∙◌, arith}
 use Rattle.dc_cert.specs.Bounds.{input_bound, certificate_rows}
-use Rattle.dc_check.proofs.CertificateReads.{inputs-count, input-read}
+use Rattle.dc_check.specs.lemmas.CertificateReads.{inputs-count, input-read}
 use Rattle.dc_check.proofs.labels.delay_of.Goals as goal
 
 pub returns : goal.returns

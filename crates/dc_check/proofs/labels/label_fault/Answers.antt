@@ -2,8 +2,8 @@ use Rattle.std.proofs.Common.{◌≡◌, ◌+◌, ◌<◌, [], length, refl, sym
 use Rattle.std.specs.Prelude.{nat_le, slice_index}
 use Rattle.std.specs.List.{list_all}
 use Rattle.dc_cert.specs.Bounds.{output_bound, certificate_rows}
-use Rattle.dc_check.proofs.CertificateReads.{outputs-count, ages-count, output-read, age-read}
-use Rattle.dc_check.proofs.Firsts.{rule-same, rules-same}
+use Rattle.dc_check.specs.lemmas.CertificateReads.{outputs-count, ages-count, output-read, age-read}
+use Rattle.dc_check.specs.lemmas.Firsts.{rule-same, rules-same}
 use Rattle.dc_check.specs.Accepts.{gaps_of, label_delay, source_delay}
 use Rattle.dc_check.specs.Verdict.{first_of}
 use Rattle.dc_tables.specs.TableRows.{label_row}

@@ -1,4 +1,4 @@
-use Rattle.dc_check.proofs.Exact.{verdict-accepts}
+use Rattle.dc_check.specs.lemmas.Exact.{verdict-accepts}
 use Rattle.dc_check.proofs.laws.no_fault_is_acceptance.Goals as goal
 
 pub returns : goal.returns

@@ -1,11 +1,11 @@
 use Rattle.std.proofs.Common.{◌<◌, [], length, refl, sym, ap, ◌∙◌, arith}
 use Rattle.std.specs.Prelude.{nat_le}
 use Rattle.dc_cert.specs.Bounds.{input_bound, certificate_rows}
-use Rattle.dc_check.proofs.CertificateReads.{inputs-count, input-read}
-use Rattle.dc_check.proofs.Exact.{ranges-none}
-use Rattle.dc_check.proofs.Firsts.{rule-same, rules-same, closing-same}
+use Rattle.dc_check.specs.lemmas.CertificateReads.{inputs-count, input-read}
+use Rattle.dc_check.specs.lemmas.Exact.{ranges-none}
+use Rattle.dc_check.specs.lemmas.Firsts.{rule-same, rules-same, closing-same}
 use Rattle.dc_check.specs.Verdict.{first_of, at_window, is_closing}
-use Rattle.dc_check.specs.declared.fault.Code.TheVariants.{C04, C06}
+use Rattle.dc_check.specs.declared.fault.Condition.TheVariants.{BacklogTooSmall, DelayTooSmall}
 use Rattle.dc_check.specs.declared.fault.Part.TheVariants.{Inputs}
 use Rattle.dc_tables.specs.TableRows.{bus_cap, bus_floor}
 use Rattle.dc_check.proofs.queues.input_fault.Goals as goal
@@ -30,6 +30,6 @@ returns g c =
     c.first_fault.ensures
     ∙ ap first_of
     (rules-same _ _ _ _ closes
-    (rules-same _ _ _ _ (c.window_fault.ensures ∙ ap (at_window Inputs c.args.bus C04) c.requires.first_backlog)
+    (rules-same _ _ _ _ (c.window_fault.ensures ∙ ap (at_window Inputs c.args.bus BacklogTooSmall) c.requires.first_backlog)
     (rules-same _ _ _ _ fits
-    (rules-same _ _ [] [] (c.window_fault-2.ensures ∙ ap (at_window Inputs c.args.bus C06) c.requires.first_delay) refl))))
+    (rules-same _ _ [] [] (c.window_fault-2.ensures ∙ ap (at_window Inputs c.args.bus DelayTooSmall) c.requires.first_delay) refl))))

@@ -1,9 +1,9 @@
 use Rattle.std.proofs.Common.{◌<◌, length, sym, ap, ◌∙◌, arith}
 use Rattle.std.specs.Option.{option_or}
 use Rattle.dc_cert.specs.Bounds.{input_bound, certificate_rows}
-use Rattle.dc_check.proofs.CertificateReads.{inputs-count, input-read}
-use Rattle.dc_check.proofs.Exact.{ranges-none, job-input}
-use Rattle.dc_check.proofs.Firsts.{at_front, nothing, ranges-read, backlog-read, delay-read}
+use Rattle.dc_check.specs.lemmas.CertificateReads.{inputs-count, input-read}
+use Rattle.dc_check.specs.lemmas.Exact.{ranges-none, job-input}
+use Rattle.dc_check.specs.lemmas.Firsts.{at_front, nothing, ranges-read, backlog-read, delay-read}
 use Rattle.dc_check.specs.Verdict.{first_of, input_rules}
 use Rattle.dc_check.specs.declared.fault.Part.TheVariants.{Inputs}
 use Rattle.dc_tables.specs.TableRows.{bus_cap, bus_floor}

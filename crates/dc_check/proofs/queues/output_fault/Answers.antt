@@ -1,10 +1,10 @@
 use Rattle.std.proofs.Common.{◌<◌, [], length, refl, sym, ap, ◌∙◌, arith}
 use Rattle.dc_cert.specs.Bounds.{output_bound, certificate_rows}
-use Rattle.dc_check.proofs.CertificateReads.{outputs-count, output-read}
-use Rattle.dc_check.proofs.Exact.{ranges-none}
-use Rattle.dc_check.proofs.Firsts.{rule-same, rules-same, closing-same}
+use Rattle.dc_check.specs.lemmas.CertificateReads.{outputs-count, output-read}
+use Rattle.dc_check.specs.lemmas.Exact.{ranges-none}
+use Rattle.dc_check.specs.lemmas.Firsts.{rule-same, rules-same, closing-same}
 use Rattle.dc_check.specs.Verdict.{first_of, at_window, is_closing}
-use Rattle.dc_check.specs.declared.fault.Code.TheVariants.{C06}
+use Rattle.dc_check.specs.declared.fault.Condition.TheVariants.{DelayTooSmall}
 use Rattle.dc_check.specs.declared.fault.Part.TheVariants.{Outputs}
 use Rattle.dc_tables.specs.TableRows.{output_cap, output_floor}
 use Rattle.dc_check.proofs.queues.output_fault.Goals as goal
@@ -26,4 +26,4 @@ returns g c =
     c.first_fault.ensures
     ∙ ap first_of
     (rules-same _ _ _ _ closes
-    (rules-same _ _ [] [] (c.window_fault.ensures ∙ ap (at_window Outputs c.args.output C06) c.requires.first_delay) refl))
+    (rules-same _ _ [] [] (c.window_fault.ensures ∙ ap (at_window Outputs c.args.output DelayTooSmall) c.requires.first_delay) refl))

@@ -1,9 +1,9 @@
 use Rattle.std.proofs.Common.{◌<◌, length, sym, ap, ◌∙◌, arith}
 use Rattle.std.specs.Option.{option_or}
 use Rattle.dc_cert.specs.Bounds.{output_bound, certificate_rows}
-use Rattle.dc_check.proofs.CertificateReads.{outputs-count, output-read}
-use Rattle.dc_check.proofs.Exact.{ranges-none, job-output}
-use Rattle.dc_check.proofs.Firsts.{at_front, nothing, ranges-read, delay-read}
+use Rattle.dc_check.specs.lemmas.CertificateReads.{outputs-count, output-read}
+use Rattle.dc_check.specs.lemmas.Exact.{ranges-none, job-output}
+use Rattle.dc_check.specs.lemmas.Firsts.{at_front, nothing, ranges-read, delay-read}
 use Rattle.dc_check.specs.Verdict.{first_of, output_rules}
 use Rattle.dc_check.specs.declared.fault.Part.TheVariants.{Outputs}
 use Rattle.dc_tables.specs.TableRows.{output_cap, output_floor}

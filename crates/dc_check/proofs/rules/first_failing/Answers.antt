@@ -1,5 +1,5 @@
 use Rattle.std.proofs.Common.{◌∙◌, ap}
-use Rattle.dc_check.proofs.Firsts.{backlog_failure-is, delay_failure-is}
+use Rattle.dc_check.specs.lemmas.Firsts.{backlog_failure-is, delay_failure-is}
 use Rattle.dc_check.specs.Verdict.{backlog_failure}
 use Rattle.dc_check.proofs.rules.first_failing.Goals as goal
 

@@ -1,5 +1,5 @@
 use Rattle.std.proofs.Common.{sym, ◌∙◌}
-use Rattle.dc_check.proofs.Firsts.{first_of-found, first_of-more}
+use Rattle.dc_check.specs.lemmas.Firsts.{first_of-found, first_of-more}
 use Rattle.dc_check.proofs.rules.first_fault.Goals as goal
 
 pub returns-then-is_some : goal.returns-then-is_some

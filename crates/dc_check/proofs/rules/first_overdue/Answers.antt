@@ -1,4 +1,4 @@
-use Rattle.dc_check.proofs.Firsts.{delay_failure-is}
+use Rattle.dc_check.specs.lemmas.Firsts.{delay_failure-is}
 use Rattle.dc_check.proofs.rules.first_overdue.Goals as goal
 
 pub returns : goal.returns

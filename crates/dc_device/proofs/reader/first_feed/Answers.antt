@@ -1,6 +1,6 @@
 use Rattle.std.proofs.Common.{◌≡◌, ◌∙◌, arith, length, min, subst, sym, take}
 use Rattle.dc_device.specs.Lines.{NoFeed}
-use Rattle.dc_device.proofs.LineLemmas.{NoFeed-first, NoFeed-take}
+use Rattle.dc_device.specs.lemmas.LineLemmas.{NoFeed-first, NoFeed-take}
 use Rattle.dc_device.proofs.reader.first_feed.Goals as goal
 
 pub loop-i-preserved : goal.loop-i-preserved

@@ -1,5 +1,5 @@
 use Rattle.std.proofs.Common.{rules}
-use Rattle.dc_device.proofs.Known.{push_more}
+use Rattle.dc_device.specs.lemmas.Known.{push_more}
 use Rattle.dc_device.proofs.writer.push_all.Goals as goal
 
 pub loop-rest-preserved : goal.loop-rest-preserved

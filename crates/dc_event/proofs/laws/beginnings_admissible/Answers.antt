@@ -1,4 +1,4 @@
-use Rattle.dc_event.specs.Beginnings.{IsAdmissible-beginning}
+use Rattle.dc_event.specs.lemmas.Beginnings.{IsAdmissible-beginning}
 use Rattle.dc_event.proofs.laws.beginnings_admissible.Goals as goal
 
 pub returns : goal.returns

@@ -1,4 +1,4 @@
-use Rattle.dc_event.specs.Beginnings.{length-outputs_of}
+use Rattle.dc_event.specs.lemmas.Beginnings.{length-outputs_of}
 use Rattle.dc_event.proofs.laws.each_replied.Goals as goal
 
 pub returns : goal.returns

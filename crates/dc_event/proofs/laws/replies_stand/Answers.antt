@@ -1,4 +1,4 @@
-use Rattle.dc_event.specs.Beginnings.{outputs_of-beginning}
+use Rattle.dc_event.specs.lemmas.Beginnings.{outputs_of-beginning}
 use Rattle.dc_event.proofs.laws.replies_stand.Goals as goal
 
 pub returns : goal.returns

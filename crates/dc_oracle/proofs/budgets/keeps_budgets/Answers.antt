@@ -1,7 +1,7 @@
 use Rattle.std.proofs.Common.{◌≡◌, Bool, take, subst, arith}
 use Rattle.std.proofs.lemmas.List.{length-take, take_all}
 use Rattle.dc_event.specs.Admissible.{KeepsBudgets}
-use Rattle.dc_event.specs.Beginnings.{KeepsBudgets-beginning}
+use Rattle.dc_event.specs.lemmas.Beginnings.{KeepsBudgets-beginning}
 use Rattle.dc_oracle.specs.Budgets.{Seen}
 use Rattle.dc_oracle.proofs.Places.{never-breaks, breaks-at, ticks-le, next-place}
 use Rattle.dc_oracle.proofs.budgets.keeps_budgets.Goals as goal

@@ -1,6 +1,7 @@
 use Rattle.std.proofs.Common.{◌∙◌, take, subst, sym, arith}
 use Rattle.dc_event.specs.Admissible.{IsNumbered}
 use Rattle.dc_event.specs.declared.event.Event.{Event}
+use Rattle.dc_oracle.specs.Police.{Polices}
 use Rattle.dc_oracle.specs.Replies.{Holds}
 use Rattle.dc_oracle.proofs.Entries.{none-told, holds-more, told-more}
 use Rattle.dc_oracle.proofs.replies.outputs.Goals as goal
@@ -8,7 +9,10 @@ use Rattle.dc_oracle.proofs.replies.outputs.Goals as goal
 pub loop-event-init : goal.loop-event-init
 loop-event-init c = record {
   sized = c.in_ok-watch.ensures.sized;
+  paces = c.in_ok-police.ensures.sized;
   early = omega (arith, c.in_ok-watch.ensures.tick);
+  police_early = omega (arith, c.in_ok-police.ensures.tick);
+  polices = λ n. c.in_ok-police.ensures.holds;
   holds = λ n. c.in_ok-watch.ensures.holds;
   replies = λ n. c.new-replies.ensures.items ∙ none-told c.args.tables.now;
 }
@@ -19,9 +23,13 @@ loop-event-preserved c =
     let P : Event → Type 0 = λ e. IsNumbered c.args.tables.now e in
     record {
       sized = c.in_ok-reply.ensures.sized;
+      paces = c.in_ok-reply.ensures.paces;
       early = omega (arith, c.in_ok-reply.ensures.tick, v.early);
-      holds = λ n. (let s = c.in_ok-reply.ensures.reply (take c.loop-event.event-index c.args.run.now) (v.holds n) (subst P (sym c.event-item.is) (n c.loop-event.event-index c.event-item.result c.loop-event-test.true)) in
-          holds-more (Holds c.args.tables.now c.see.new.self) c.args.run.now c.loop-event.event-index c.event-item.result c.loop-event-test.true c.event-item.is s.holds);
-      replies = λ n. (let s = c.in_ok-reply.ensures.reply (take c.loop-event.event-index c.args.run.now) (v.holds n) (subst P (sym c.event-item.is) (n c.loop-event.event-index c.event-item.result c.loop-event-test.true)) in
+      police_early = omega (arith, c.in_ok-reply.ensures.police_tick, v.police_early);
+      polices = λ n. (let s = c.in_ok-reply.ensures.judges (take c.loop-event.event-index c.args.run.now) (v.polices n) (subst P (sym c.event-item.is) (n c.loop-event.event-index c.event-item.result c.loop-event-test.true)) in
+          holds-more (Polices c.args.tables.now c.answer.new.police) c.args.run.now c.loop-event.event-index c.event-item.result c.loop-event-test.true c.event-item.is s);
+      holds = λ n. (let s = c.in_ok-reply.ensures.reply (take c.loop-event.event-index c.args.run.now) (v.holds n) (v.polices n) (subst P (sym c.event-item.is) (n c.loop-event.event-index c.event-item.result c.loop-event-test.true)) in
+          holds-more (Holds c.args.tables.now c.answer.new.watch) c.args.run.now c.loop-event.event-index c.event-item.result c.loop-event-test.true c.event-item.is s.holds);
+      replies = λ n. (let s = c.in_ok-reply.ensures.reply (take c.loop-event.event-index c.args.run.now) (v.holds n) (v.polices n) (subst P (sym c.event-item.is) (n c.loop-event.event-index c.event-item.result c.loop-event-test.true)) in
           c.in_ok-push.ensures.items ∙ told-more c.args.tables.now c.args.run.now c.loop-event.event-index c.event-item.result c.loop-event.replies.items c.in_ok-reply.reply c.loop-event-test.true c.event-item.is (v.replies n) s.answer);
     }

@@ -1,7 +1,7 @@
 use Rattle.std.proofs.Common.{◌≡◌, Bool, take, subst, arith}
 use Rattle.std.proofs.lemmas.List.{length-take, take_all}
 use Rattle.dc_event.specs.Admissible.{KeepsSources}
-use Rattle.dc_event.specs.Beginnings.{KeepsSources-beginning}
+use Rattle.dc_event.specs.lemmas.Beginnings.{KeepsSources-beginning}
 use Rattle.dc_oracle.specs.Sources.{Seen}
 use Rattle.dc_oracle.proofs.Places.{never-breaks, breaks-at, ticks-le, next-place}
 use Rattle.dc_oracle.proofs.sources.keeps_sources.Goals as goal

@@ -1,5 +1,5 @@
 use Rattle.std.proofs.Common.{List, drop, subst, sym, length, ◌+◌, ◌∷◌, [], ◌++◌}
-use Rattle.dc_tables.specs.declared.keys.PlacedEntry.{PlacedEntry}
+use Rattle.dc_rules.specs.declared.keys.PlacedEntry.{PlacedEntry}
 use Rattle.dc_tables.specs.declared.rows.Output.{Output}
 use Rattle.dc_tables.proofs.Split.{AreSplit, split_more, later_entries}
 use Rattle.dc_tables.specs.RowsOf.{IsOutputRow}

@@ -1,7 +1,7 @@
 use Rattle.std.proofs.Common.{true≢false, sym, ap, ◌∙◌, Err}
 use Rattle.toml.specs.Errors.{IsMemory}
 use Rattle.toml.specs.View.{table_view}
-use Rattle.dc_tables.specs.declared.fault.Code.TheVariants.{T01}
+use Rattle.dc_parts.specs.declared.fault.TableRule.TheVariants.{NotToml}
 use Rattle.dc_toml.specs.Faults.{fault_at}
 use Rattle.dc_toml.proofs.Steps.{document_good, document_bad}
 use Rattle.dc_toml.proofs.read.document.Goals as goal
@@ -13,4 +13,4 @@ pub returns-else-is_memory : goal.returns-else-is_memory
 returns-else-is_memory c =
     let kept : ¬ (IsMemory c.in-Err.error) = λ memory. true≢false (sym (c.is_memory.ensures.1 memory) ∙ c.if-is_memory.false) in
     document_bad c.args.text.now (c.in-Err.ensures.refused kept)
-    ∙ ap Err (sym (c.fault-refused.ensures ∙ ap (λ p. fault_at p T01) c.new.ensures))
+    ∙ ap Err (sym (c.fault-refused.ensures ∙ ap (λ p. fault_at p NotToml) c.new.ensures))

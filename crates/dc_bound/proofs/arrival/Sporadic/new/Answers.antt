@@ -1,4 +1,4 @@
-use Rattle.dc_bound.specs.Spacing.{spaced_iff_holds}
+use Rattle.dc_bound.specs.lemmas.Spacing.{spaced_iff_holds}
 use Rattle.dc_bound.proofs.arrival.Sporadic.new.Goals as goal
 
 pub returns-clause-spaced : goal.returns-clause-spaced

@@ -1,5 +1,5 @@
 use Rattle.std.proofs.Common.{◌+◌, ◌-◌, ◌*◌, ◌/◌, ap}
-use Rattle.dc_bound.specs.Jumps.{ceil_jump, jump_found}
+use Rattle.dc_bound.specs.lemmas.Jumps.{ceil_jump, jump_found}
 use Rattle.dc_bound.proofs.arrival.SporadicArrivalBound.at_most_and_jump.Goals as goal
 
 pub returns-clause-jump : goal.returns-clause-jump

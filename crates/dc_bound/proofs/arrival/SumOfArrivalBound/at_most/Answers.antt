@@ -1,6 +1,6 @@
 use Rattle.std.proofs.Common.{ap, arith}
 use Rattle.std.proofs.lemmas.List.Sums.{sum_by_more_le}
-use Rattle.dc_bound.specs.Sums.{sum_bounded}
+use Rattle.dc_bound.specs.lemmas.Sums.{sum_bounded}
 use Rattle.dc_bound.proofs.arrival.SumOfArrivalBound.at_most.Goals as goal
 
 pub overflow_add-total : goal.overflow_add-total

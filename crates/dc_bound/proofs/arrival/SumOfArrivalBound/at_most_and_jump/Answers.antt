@@ -1,7 +1,7 @@
 use Rattle.std.proofs.Common.{refl, ap, arith}
 use Rattle.std.proofs.lemmas.List.Sums.{sum_by_more, sum_by_more_le}
-use Rattle.dc_bound.specs.Jumps.{member_jumps, all_members}
-use Rattle.dc_bound.specs.Sums.{sum_bounded}
+use Rattle.dc_bound.specs.lemmas.Jumps.{member_jumps, all_members}
+use Rattle.dc_bound.specs.lemmas.Sums.{sum_bounded}
 use Rattle.dc_bound.proofs.arrival.SumOfArrivalBound.at_most_and_jump.Goals as goal
 
 pub overflow_add-total : goal.overflow_add-total

@@ -1,6 +1,6 @@
 use Rattle.std.proofs.Common.{◌+◌, ◌-◌, ◌*◌, ◌/◌, ap, arith}
 use Rattle.dc_bound.specs.Window.{wire_cap}
-use Rattle.dc_bound.specs.Jumps.{wire_jump, jump_found}
+use Rattle.dc_bound.specs.lemmas.Jumps.{wire_jump, jump_found}
 use Rattle.dc_bound.proofs.arrival.WireArrivalBound.at_most_and_jump.Goals as goal
 
 pub returns-clause-jump : goal.returns-clause-jump

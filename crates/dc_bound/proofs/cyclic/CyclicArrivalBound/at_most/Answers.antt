@@ -1,6 +1,7 @@
 use Rattle.std.proofs.Common.{◌≡◌, ◌+◌, ◌*◌, ◌/◌, ◌%◌, ap, arith}
 use Rattle.std.proofs.Math.Nat.{div-add-mod'}
-use Rattle.dc_bound.specs.Spans.{cyclic_cap, cap_rounds, cyclic_le}
+use Rattle.dc_bound.specs.Frame.{cyclic_cap}
+use Rattle.dc_bound.specs.lemmas.Spans.{cap_rounds, cyclic_le}
 use Rattle.dc_bound.proofs.cyclic.CyclicArrivalBound.at_most.Goals as goal
 
 pub overflow_add-result : goal.overflow_add-result

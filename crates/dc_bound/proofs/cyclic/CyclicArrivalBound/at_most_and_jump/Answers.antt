@@ -1,5 +1,5 @@
 use Rattle.std.proofs.Common.{◌<◌, ◌↔◌, ℕ, arith, subst}
-use Rattle.dc_bound.specs.Spans.{cyclic_le, HasSpan, span_least, cap_flat}
+use Rattle.dc_bound.specs.lemmas.Spans.{cyclic_le, HasSpan, span_least, cap_flat}
 use Rattle.dc_bound.proofs.cyclic.CyclicArrivalBound.at_most_and_jump.Goals as goal
 
 pub least_span-span-requires-clause-near : goal.least_span-span-requires-clause-near

@@ -1,4 +1,4 @@
-use Rattle.dc_device.proofs.LineLemmas.{held_line_is, held_no_feed, held_no_room}
+use Rattle.dc_device.specs.lemmas.LineLemmas.{held_line_is, held_no_feed, held_no_room}
 use Rattle.dc_device.proofs.reader.LineReader.held_line.Goals as goal
 
 pub returns-in_default : goal.returns-in_default

@@ -1,4 +1,4 @@
-use Rattle.dc_device.proofs.LineLemmas.{held_passed}
+use Rattle.dc_device.specs.lemmas.LineLemmas.{held_passed}
 use Rattle.dc_device.proofs.reader.LineReader.pass.Goals as goal
 
 pub returns-clause-bytes : goal.returns-clause-bytes

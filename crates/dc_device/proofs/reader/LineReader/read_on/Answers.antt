@@ -1,6 +1,6 @@
 use Rattle.std.proofs.Common.{ap, sym, ◌∙◌, ◌∷◌, ◌++◌, [], refl, ◌+◌, length}
 use Rattle.dc_device.specs.Lines.{Held}
-use Rattle.dc_device.proofs.LineLemmas.{read_more, push_more, room_more, NoFeed-push}
+use Rattle.dc_device.specs.lemmas.LineLemmas.{read_more, push_more, room_more, NoFeed-push}
 use Rattle.dc_device.proofs.reader.LineReader.read_on.Goals as goal
 
 pub loop-byte-preserved : goal.loop-byte-preserved

@@ -1,5 +1,5 @@
 use Rattle.std.proofs.lemmas.Result.{err_from_is_err_and}
-use Rattle.dc_device.proofs.Known.{gathers_after, first_failed}
+use Rattle.dc_device.specs.lemmas.Known.{gathers_after, first_failed}
 use Rattle.dc_device.proofs.writer.LineWriter.line.Goals as goal
 
 pub returns-in_err-put-clause-bytes : goal.returns-in_err-put-clause-bytes

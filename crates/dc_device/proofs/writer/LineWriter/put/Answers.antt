@@ -1,5 +1,5 @@
 use Rattle.std.proofs.lemmas.Result.{err_from_is_err_and}
-use Rattle.dc_device.proofs.Known.{given_up, pushed_then_pushed}
+use Rattle.dc_device.specs.lemmas.Known.{given_up, pushed_then_pushed}
 use Rattle.dc_device.proofs.writer.LineWriter.put.Goals as goal
 
 pub returns-in_err-flush-clause-bytes : goal.returns-in_err-flush-clause-bytes

@@ -14,4 +14,4 @@ returns-in-Ok-clause-told c = λ coming.
 pub returns-in-Err-clause-told : goal.returns-in-Err-clause-told
 returns-in-Err-clause-told c = λ coming.
     next_refused_told _ c.self.inside.stopped c.self.inside.tables.now c.self.inside.line.items c.read_next.new.line.items c.self.inside.reader c.read_next.new.reader c.self.inside.number
-    c.in-Err.code _ coming _ c.fault-refused.result c.self.view_is c.fault-refused.ensures c.in_default.is c.self.invariant c.in_ok-event.ensures c.in-Err.is
+    c.in-Err.rule _ coming _ c.fault-refused.result c.self.view_is c.fault-refused.ensures c.in_default.is c.self.invariant c.in_ok-event.ensures c.in-Err.is

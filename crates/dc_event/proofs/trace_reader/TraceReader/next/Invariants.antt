@@ -1,5 +1,5 @@
 use Rattle.std.proofs.Common.{◌≡◌, ◌+◌, ◌*◌}
-use Rattle.dc_event.specs.Reading.{Stays, ahead, new_failures, waits}
+use Rattle.dc_event.specs.Reading.{AsksFor, Stays, ahead, new_failures, waits}
 use Rattle.dc_event.proofs.TraceNext.{Again, steps}
 use Rattle.dc_event.proofs.trace_reader.TraceReader.next.Given as goal
 
@@ -8,7 +8,9 @@ invariant-loop-told g l =
     record {
       kept : Stays (ahead l.fn.self.lines l.fn.self.coming) (ahead l.self-inside.lines (g.S.Source.remaining l.self-inside.source));
       count : g.S.Source.failed l.self-inside.source ≡ l.fn.self.failed + new_failures l.fn.self.lines.stopped l.self-inside.lines.stopped;
-      again : Again l.fn.self.lines.stopped l.fn.self.lines l.self-inside.lines l.fn.self.coming (g.S.Source.remaining l.self-inside.source);
+      again : Again l.fn.self.lines.stopped l.fn.self.lines l.self-inside.lines l.fn.self.coming (g.S.Source.remaining l.self-inside.source)
+          l.fn.self.asked (g.S.Source.asked l.self-inside.source) l.fn.self.dry (g.S.Source.dry l.self-inside.source);
+      asks : AsksFor l.fn.self.lines l.self-inside.lines l.fn.self.asked (g.S.Source.asked l.self-inside.source) l.fn.self.dry (g.S.Source.dry l.self-inside.source);
       tables : l.self-inside.lines.tables ≡ l.fn.self.lines.tables;
     }
 

@@ -1,6 +1,8 @@
-use Rattle.std.proofs.Common.{◌≡◌, ◌<◌, ◌∙◌, ℕ, true, length, sym, refl, subst, arith}
+use Rattle.std.proofs.Common.{Some, ◌&&◌, false, ap, ◌≡◌, ◌<◌, ◌∙◌, ℕ, true, length, sym, refl, subst, arith}
 use Rattle.std.proofs.lemmas.List.{get_or_read}
 use Rattle.dc_word.specs.Word.{is_odd}
+use Rattle.dc_tables.specs.Declares.{stream_of}
+use Rattle.dc_event.specs.Offers.{refuses}
 use Rattle.dc_event.specs.Buses.{moves, room}
 use Rattle.dc_oracle.specs.BusData.{BusData}
 use Rattle.dc_oracle.specs.BusLog.{IsLog, Received, no_log}
@@ -9,19 +11,22 @@ use Rattle.dc_oracle.proofs.Replying.{replies-even, replies-undeclared, replies-
 use Rattle.dc_oracle.proofs.replies.ReplyWatch.arrive.Goals as goal
 
 pub returns-then-not-is_odd-clause-reply : goal.returns-then-not-is_odd-clause-reply
-returns-then-not-is_odd-clause-reply c = λ run h l. replies-even _ _ run c.args.bus c.args.word (sym c.is_odd.ensures.test ∙ c.if-not-is_odd.true) h
+returns-then-not-is_odd-clause-reply c = λ run h l free. replies-even _ _ run c.args.bus c.args.word (sym c.is_odd.ensures.test ∙ c.if-not-is_odd.true) h
 
 pub returns-in_default-clause-reply : goal.returns-in_default-clause-reply
-returns-in_default-clause-reply c = λ run h l. replies-undeclared _ _ run c.args.bus c.args.word (sym c.is_odd.ensures.test ∙ c.if-not-is_odd.false) (sym c.in_default.ensures.stream) h
+returns-in_default-clause-reply c = λ run h l free. replies-undeclared _ _ run c.args.bus c.args.word (sym c.is_odd.ensures.test ∙ c.if-not-is_odd.false) (sym c.in_default.ensures.stream) h
 
 pub returns-clause-reply : goal.returns-clause-reply
-returns-clause-reply c = λ run h l.
+returns-clause-reply c = λ run h l unrefused.
     let odd : is_odd c.args.word ≡ true = sym c.is_odd.ensures.test ∙ c.if-not-is_odd.false in
+    let some : stream_of c.args.tables.now c.args.bus c.args.word ≡ Some c.in-Some.stream = sym c.in-Some.ensures.stream in
+    let free : refuses c.args.tables.now c.args.bus run (Some c.in-Some.stream) ≡ false =
+    ap (refuses c.args.tables.now c.args.bus run) (sym some) ∙ ap (λ v. v && refuses c.args.tables.now c.args.bus run (stream_of c.args.tables.now c.args.bus c.args.word)) (sym odd) ∙ unrefused in
     let there : c.args.bus < length c.args.self.now.buses.items = omega (arith, c.if-bus-len.false, c.len.ensures) in
     let read = get_or_read c.args.self.now.buses.items c.args.bus c.index_mut.result.now there c.index_mut.ensures.value no_log in
     let P : BusData → Type 0 = λ d. IsLog (room c.args.tables.now c.args.bus) d (moves c.args.tables.now c.args.bus run) in
     let Q : ℕ → Type 0 = λ n. IsLog n c.index_mut.result.now (moves c.args.tables.now c.args.bus run) in
     map_ok c.receive.result (Received c.queue-room.result c.receive.new.self (moves c.args.tables.now c.args.bus run) (c.in-Some.stream, c.args.word)) _
     (λ reply got. (let G : ℕ → Type 0 = λ n. Received n c.receive.new.self (moves c.args.tables.now c.args.bus run) (c.in-Some.stream, c.args.word) reply in
-    replies-arrive c.args.tables.now c.args.self.now _ run c.args.bus c.args.word c.in-Some.stream c.receive.new.self reply there odd (sym c.in-Some.ensures.stream) (subst G c.queue-room.ensures got) refl refl refl refl refl h))
+    replies-arrive c.args.tables.now c.args.self.now _ run c.args.bus c.args.word c.in-Some.stream c.receive.new.self reply there odd some free (subst G c.queue-room.ensures got) refl refl refl refl refl h))
     (c.receive.ensures (moves c.args.tables.now c.args.bus run) (subst Q (sym c.queue-room.ensures) (subst P (sym read) (h.logs c.args.bus l))))

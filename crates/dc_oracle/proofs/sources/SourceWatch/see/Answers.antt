@@ -9,8 +9,8 @@ pub returns-in-Route-clause-seen : goal.returns-in-Route-clause-seen
 returns-in-Route-clause-seen c = λ run h.
     let P : Event → Type 0 = λ e. Watches c.args.tables.now c.args.self.now (run ++ e ∷ []) in
     elim c.in-Route.is [
-      | inl (r, e) ↦ subst P (sym e) (watches-quiet c.args.tables.now c.valid.ensures run (Route r) (λ b l. refl) c.args.self.now refl h)
-      | inr (o, e) ↦ subst P (sym e) (watches-quiet c.args.tables.now c.valid.ensures run (Send o) (λ b l. refl) c.args.self.now refl h)
+      | inl (r, e) ↦ subst P (sym e) (watches-quiet c.args.tables.now c.valid.ensures run (Route r) (λ b l free. refl) c.args.self.now refl h)
+      | inr (o, e) ↦ subst P (sym e) (watches-quiet c.args.tables.now c.valid.ensures run (Send o) (λ b l free. refl) c.args.self.now refl h)
     ]
 
 pub returns-in-Tick-clause-seen : goal.returns-in-Tick-clause-seen

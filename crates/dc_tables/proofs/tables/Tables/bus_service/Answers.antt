@@ -1,5 +1,5 @@
 use Rattle.std.proofs.Common.{◌≡◌, ℕ, ◌<◌, ◌*◌, ◌/◌, length, arith, ap, ◌∙◌, List}
-use Rattle.dc_bound.specs.Cycle.{fewest_visits}
+use Rattle.dc_bound.specs.Rounds.{fewest_visits}
 use Rattle.dc_tables.specs.contracts.tables.Tables.{the_view}
 use Rattle.dc_tables.specs.TableRows.{TableRows, bus_row, router_row, bus_floor}
 use Rattle.dc_tables.specs.declared.rows.Bus.{Bus}

@@ -1,0 +1,298 @@
+//! Words decoded: printed text in pieces of each size, devices that fail in mid-stream, and a person at a terminal.
+ghost use Rattle.std.specs.Prelude.{None};
+
+use dc_app::run_decode;
+use dc_device::{Broken, MemSink, MemSource, ReadSource, Sink, Source, WriteSink};
+use dc_word::Format;
+use std::alloc::Global;
+use std::cell::Cell;
+use std::rt::HostRuntime;
+use std::test::Fail;
+
+// What `decode` writes for a text in pieces, where a pull and a push fail, and its status.
+fn decoded(
+    alloc: Global,
+    format: Format,
+    text: &[u8],
+    piece: usize,
+    pull: u64,
+    push: u64,
+    room: usize,
+) -> Result<(MemSink, u8), Fail> {
+    let mut source = MemSource::new(text, piece.max(1), pull);
+    let mut sink = MemSink::new(alloc, room, push)?;
+    let status = run_decode(format, &mut source, &mut sink);
+    Ok((sink, status))
+}
+
+#[test]
+fn known_words_in_pieces_of_any_size(rt: HostRuntime) -> Result<(), Fail> {
+    let rows = [
+        (
+            Format::Bnr,
+            "600000C1\n",
+            "600000C1 label=203 sdi=0 data=0 status=normal parity=odd\n",
+            0,
+        ),
+        (
+            Format::Bnr,
+            "FFFFFCC1\n",
+            "FFFFFCC1 label=203 sdi=0 data=-1 status=normal parity=odd\n",
+            0,
+        ),
+        (
+            Format::Bnr,
+            "200000C1\n",
+            "200000C1 label=203 sdi=0 data=0 status=no_computed_data parity=even\n",
+            0,
+        ),
+        (
+            Format::Bnr,
+            "A00000C1\n",
+            "A00000C1 label=203 sdi=0 data=0 status=no_computed_data parity=odd\n",
+            0,
+        ),
+        (
+            Format::Bnr,
+            "f00000c1\n",
+            "F00000C1 label=203 sdi=0 data=-262144 status=normal parity=odd\n",
+            0,
+        ),
+        (
+            Format::Bnr,
+            "80000000\n",
+            "80000000 label=000 sdi=0 data=0 status=failure_warning parity=odd\n",
+            0,
+        ),
+        (
+            Format::Disc,
+            "600000C1\n",
+            "600000C1 label=203 sdi=0 data=00000 status=failure_warning parity=odd\n",
+            0,
+        ),
+        (
+            Format::Bcd,
+            "048D1481\n",
+            "048D1481 label=201 sdi=0 data=12345 status=plus parity=odd\n",
+            0,
+        ),
+        (
+            Format::Bcd,
+            "648D1481\n",
+            "648D1481 label=201 sdi=0 data=12345 status=minus parity=odd\n",
+            0,
+        ),
+        (
+            Format::Bcd,
+            "048D2881\n",
+            "048D2881 label=201 sdi=0 data=bad5 status=plus parity=odd\n",
+            0,
+        ),
+        (Format::Bnr, "", "", 0),
+        (Format::Bnr, "600000C\n", "unreadable E5 at line 1\n", 2),
+        (Format::Bnr, "\n", "unreadable E5 at line 1\n", 2),
+        (Format::Bnr, "600000C1", "unreadable E6 at line 1\n", 2),
+        (Format::Bnr, "600000G1\n", "unreadable E5 at line 1\n", 2),
+        (
+            Format::Bnr,
+            "AAAAAAAAAAAAAAAAAAAAAAAAAAAAAAAAAAAAAAAAAAAAAAAAAAAAAAAAAAAAAAAAA",
+            "unreadable E1 at line 1\n",
+            2,
+        ),
+        (
+            Format::Bnr,
+            "AAAAAAAAAAAAAAAAAAAAAAAAAAAAAAAAAAAAAAAAAAAAAAAAAAAAAAAAAAAAAAAA",
+            "unreadable E6 at line 1\n",
+            2,
+        ),
+        (
+            Format::Bnr,
+            "600000C1\n80000000\n1\n600000C1\n",
+            "600000C1 label=203 sdi=0 data=0 status=normal parity=odd\n80000000 label=000 sdi=0 data=0 status=failure_warning parity=odd\nunreadable E5 at line 3\n",
+            2,
+        ),
+    ];
+    for (format, text, want, want_status) in rows {
+        for piece in [1, 7, 64] {
+            let (sink, status) = decoded(rt.alloc(), format, text.as_bytes(), piece, 0, 0, 1000)?;
+            assert_eq!(rt;
+                sink.bytes(),
+                want.as_bytes(),
+                "{text} in pieces of {piece}"
+            );
+            assert_eq!(rt; status, want_status, "{text} in pieces of {piece}");
+        }
+    }
+    Ok(())
+}
+
+const TWO: &[u8] = b"600000C1\n80000000\n";
+
+const FIRST: &[u8] = b"600000C1 label=203 sdi=0 data=0 status=normal parity=odd\n";
+
+#[test]
+fn a_source_that_breaks_in_mid_stream(rt: HostRuntime) -> Result<(), Fail> {
+    let (sink, status) = decoded(rt.alloc(), Format::Bnr, TWO, 9, 2, 0, 1000)?;
+    let mut want = FIRST.to_vec(rt.alloc())?;
+    want.extend_from_slice(b"failed device\n")?;
+    assert_eq!(rt; sink.bytes(), want.as_slice());
+    assert_eq!(rt; status, 3);
+    Ok(())
+}
+
+#[test]
+fn nothing_is_written_after_a_push_that_failed(rt: HostRuntime) -> Result<(), Fail> {
+    // Each line is a push of its own where the pieces are lines.
+    let (sink, status) = decoded(rt.alloc(), Format::Bnr, TWO, 9, 0, 2, 1000)?;
+    assert_eq!(rt; sink.bytes(), FIRST);
+    assert_eq!(rt; status, 3);
+    let (full, status) = decoded(rt.alloc(), Format::Bnr, TWO, 64, 0, 0, 4)?;
+    assert_eq!(rt; full.bytes(), b"6000".as_slice());
+    assert_eq!(rt; status, 3);
+    Ok(())
+}
+
+#[test]
+fn readers_and_writers_of_std_serve(rt: HostRuntime) -> Result<(), Fail> {
+    let mut out = [0; 57];
+    let mut source = ReadSource::new(b"600000C1\n".as_slice());
+    let mut sink = WriteSink::new(out.as_mut_slice());
+    assert_eq!(rt; run_decode(Format::Bnr, &mut source, &mut sink), 0);
+    assert_eq!(rt; out.as_slice(), FIRST);
+    Ok(())
+}
+
+// A person who types each line only when the answer to the line before is seen: else the pull fails.
+#[derive(Drop)]
+struct Person<'a> {
+    seen: &'a Cell<u64>,
+    typed: u64,
+    failures: u64,
+    pulls: u64,
+    dry_pulls: u64,
+}
+
+impl<'a> Source for Person<'a> {
+    ghost remaining = { λ _. None };
+
+    ghost failed = { λ s. s.failures };
+
+    ghost asked = { λ s. s.pulls };
+
+    ghost dry = { λ s. s.dry_pulls };
+
+    fn pull(&mut self, buf: &mut [u8]) -> Result<usize, Broken> {
+        self.pulls = self.pulls.saturating_add(1);
+        if self.seen.get() < self.typed || buf.len() < 9 {
+            self.failures += 1;
+            self.dry_pulls = self.dry_pulls.saturating_add(1);
+            return Err(Broken);
+        }
+        if self.typed >= 3 {
+            self.dry_pulls = self.dry_pulls.saturating_add(1);
+            return Ok(0);
+        }
+        self.typed += 1;
+        buf[..9].copy_from_slice(b"600000C1\n");
+        Ok(9)
+    }
+
+    fn failures(&self) -> u64 {
+        self.failures
+    }
+
+    fn pulls(&self) -> u64 {
+        self.pulls
+    }
+
+    fn dry_pulls(&self) -> u64 {
+        self.dry_pulls
+    }
+}
+
+// How many line feeds there are.
+fn feeds(bytes: &[u8]) -> u64 {
+    bytes.iter().filter(|byte| **byte == b'\n').count() as u64
+}
+
+// A terminal that counts the lines that it shows: those that were flushed.
+#[derive(Drop)]
+struct Terminal<'a> {
+    seen: &'a Cell<u64>,
+    waiting: u64,
+    failures: u64,
+    has_failed: bool,
+    hides: bool,
+}
+
+impl<'a> Sink for Terminal<'a> {
+    ghost contents = { λ _. None };
+
+    ghost failed = { λ s. s.failures };
+
+    ghost last_failed = { λ s. s.has_failed };
+
+    ghost hidden = { λ s. s.hides };
+
+    fn push(&mut self, bytes: &[u8]) -> Result<usize, Broken> {
+        self.waiting = self.waiting.wrapping_add(feeds(bytes));
+        self.has_failed = false;
+        self.hides = true;
+        Ok(bytes.len())
+    }
+
+    fn flush(&mut self) -> Result<(), Broken> {
+        self.has_failed = false;
+        self.hides = false;
+        self.seen.set(self.seen.get().wrapping_add(self.waiting));
+        self.waiting = 0;
+        Ok(())
+    }
+
+    fn failures(&self) -> u64 {
+        self.failures
+    }
+
+    fn hides(&self) -> bool {
+        self.hides
+    }
+}
+
+#[test]
+fn each_line_is_seen_before_the_next_is_typed(rt: HostRuntime) {
+    let seen = Cell::new(0);
+    let mut person = Person {
+        seen: &seen,
+        typed: 0,
+        failures: 0,
+        pulls: 0,
+        dry_pulls: 0,
+    };
+    let mut terminal = Terminal {
+        seen: &seen,
+        waiting: 0,
+        failures: 0,
+        has_failed: false,
+        hides: false,
+    };
+    assert_eq!(rt; run_decode(Format::Bnr, &mut person, &mut terminal), 0);
+    assert_eq!(rt; seen.get(), 3);
+    assert_eq!(rt; person.pulls(), 4);
+    assert_eq!(rt; person.dry_pulls(), 1);
+}
+
+#[test]
+fn nothing_is_written_after_a_flush_that_failed(rt: HostRuntime) -> Result<(), Fail> {
+    // Each line is flushed by itself where the pieces are lines, and at the end nothing is left to flush.
+    for (number, lines, want) in [(1, 1, 3), (2, 2, 3), (3, 2, 0)] {
+        let mut source = MemSource::new(b"600000C1\n600000C1\n", 9, 0);
+        let mut sink = MemSink::new(rt.alloc(), 1000, 0)?;
+        sink.fail_flush(number);
+        let status = run_decode(Format::Bnr, &mut source, &mut sink);
+        assert_eq!(rt; status, want, "flush {number}");
+        assert_eq!(rt; sink.bytes().len(), FIRST.len() * lines, "flush {number}");
+        assert_eq!(rt; sink.hides(), want == 3, "flush {number}");
+        assert_eq!(rt; source.dry_pulls(), u64::from(want == 0), "flush {number}");
+    }
+    Ok(())
+}

@@ -1,0 +1,23 @@
+//! Trials of the engines behind the commands: whole texts of tables, certificates and traces in, lines and status out.
+#![tactic(auto)]
+
+#[cfg(test)]
+mod asking;
+#[cfg(test)]
+mod certificates;
+#[cfg(test)]
+mod conditions;
+#[cfg(test)]
+mod decodes;
+#[cfg(test)]
+mod example;
+#[cfg(test)]
+mod large;
+#[cfg(test)]
+mod replays;
+#[cfg(test)]
+mod rows;
+#[cfg(test)]
+mod small;
+#[cfg(test)]
+mod verdicts;

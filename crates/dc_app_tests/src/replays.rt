@@ -1,0 +1,220 @@
+//! Replays on two buses, and replays where each pull, each push and each byte of room runs out in turn.
+
+use crate::asking::{Failing, replay_says};
+use crate::small::push_tables;
+use std::alloc::{AllocError, Global};
+use std::rt::HostRuntime;
+use std::test::Fail;
+
+const NONE: Failing = Failing {
+    tables: 0,
+    trace: 0,
+    push: 0,
+};
+
+/// A word of no use from the first source, and a usable one from the second.
+const BOTH: &str = "A A A00000C1\nA B FFFFFCC1\nR R1\nR R1\nS O\n";
+
+/// What is told of it without all replies.
+const SENT: &str = "0 O FFFFFCC1\n";
+
+/// Each reply.
+const EACH: &str =
+    "0 A queued 1\n0 B queued 1\n0 R1 took A A00000C1\n0 R1 took B FFFFFCC1\n0 O FFFFFCC1\n";
+
+#[test]
+fn a_usable_second_source_is_sent(rt: HostRuntime) -> Result<(), Fail> {
+    let mut tables = String::new(rt.alloc());
+    push_tables(
+        &mut tables,
+        "buses=2 visits=\"A\",\"B\" sources=\"A-203\",\"B-203\"",
+    )?;
+    for piece in [1, 7, 64, 4096] {
+        for (all, want) in [(false, SENT), (true, EACH)] {
+            replay_says(
+                &rt,
+                rt.alloc(),
+                all,
+                [tables.as_bytes(), BOTH.as_bytes()],
+                piece,
+                1000,
+                NONE,
+                want.as_bytes(),
+                0,
+            )?;
+        }
+    }
+    Ok(())
+}
+
+/// A trace of 42 bytes.
+const TRACE: &str = "R R1\nA A 600000C1\nA A E0000021\nS O\nT\nR R1\n";
+
+/// Its six replies, 82 bytes.
+const REPLIES: &str =
+    "0 R1 empty A\n0 A queued 1\n0 A queued 2\n0 O A00000C1\n1 tick\n1 R1 took A 600000C1\n";
+
+/// The replies that are due once so many bytes of the trace are there, and then a last line.
+fn due(alloc: Global, bytes: usize, last: &str) -> Result<String, AllocError> {
+    let mut text = String::new(alloc);
+    let mut replies = REPLIES.lines();
+    for byte in TRACE.as_bytes().iter().take(bytes) {
+        if *byte == b'\n' {
+            if let Some(reply) = replies.next() {
+                text.push_str(reply)?;
+                text.push_str("\n")?;
+            }
+        }
+    }
+    text.push_str(last)?;
+    Ok(text)
+}
+
+/// The first replies, so many.
+fn first(alloc: Global, count: usize) -> Result<String, AllocError> {
+    let mut text = String::new(alloc);
+    for reply in REPLIES.lines().take(count) {
+        text.push_str(reply)?;
+        text.push_str("\n")?;
+    }
+    Ok(text)
+}
+
+#[test]
+fn each_pull_of_the_tables_fails_in_turn(rt: HostRuntime) -> Result<(), Fail> {
+    let mut tables = String::new(rt.alloc());
+    push_tables(&mut tables, "")?;
+    // in pieces of 64, and once more at the end
+    let pulls = (tables.len() as u64).div_ceil(64).saturating_add(1);
+    for pull in 1..=pulls.saturating_add(1) {
+        let failing = Failing {
+            tables: pull,
+            ..NONE
+        };
+        let (want, status) = if pull > pulls {
+            (REPLIES, 0)
+        } else {
+            ("failed device\n", 3)
+        };
+        replay_says(
+            &rt,
+            rt.alloc(),
+            true,
+            [tables.as_bytes(), TRACE.as_bytes()],
+            64,
+            1000,
+            failing,
+            want.as_bytes(),
+            status,
+        )?;
+    }
+    Ok(())
+}
+
+#[test]
+fn each_pull_of_the_trace_fails_in_turn(rt: HostRuntime) -> Result<(), Fail> {
+    let mut tables = String::new(rt.alloc());
+    push_tables(&mut tables, "")?;
+    for bytes in 0u32..=43 {
+        let failing = Failing {
+            trace: u64::from(bytes) + 1,
+            ..NONE
+        };
+        let (last, status) = match bytes {
+            43 => ("", 0),
+            _ => ("failed device\n", 3),
+        };
+        let want = due(rt.alloc(), bytes as usize, last)?;
+        replay_says(
+            &rt,
+            rt.alloc(),
+            true,
+            [tables.as_bytes(), TRACE.as_bytes()],
+            1,
+            1000,
+            failing,
+            want.as_bytes(),
+            status,
+        )?;
+    }
+    Ok(())
+}
+
+#[test]
+fn nothing_follows_a_failed_push(rt: HostRuntime) -> Result<(), Fail> {
+    let mut tables = String::new(rt.alloc());
+    push_tables(&mut tables, "")?;
+    for count in 0u32..=6 {
+        let failing = Failing {
+            push: u64::from(count) + 1,
+            ..NONE
+        };
+        let status = match count {
+            6 => 0,
+            _ => 3,
+        };
+        let want = first(rt.alloc(), count as usize)?;
+        replay_says(
+            &rt,
+            rt.alloc(),
+            true,
+            [tables.as_bytes(), TRACE.as_bytes()],
+            1,
+            1000,
+            failing,
+            want.as_bytes(),
+            status,
+        )?;
+    }
+    Ok(())
+}
+
+#[test]
+fn nothing_follows_a_failed_push_of_the_failure(rt: HostRuntime) -> Result<(), Fail> {
+    let mut tables = String::new(rt.alloc());
+    push_tables(&mut tables, "")?;
+    for (pull, push, count) in [(1, 1, 0), (6, 2, 1), (18, 2, 1), (19, 3, 2), (43, 7, 6)] {
+        let failing = Failing {
+            trace: pull,
+            push,
+            ..NONE
+        };
+        let want = first(rt.alloc(), count)?;
+        replay_says(
+            &rt,
+            rt.alloc(),
+            true,
+            [tables.as_bytes(), TRACE.as_bytes()],
+            1,
+            1000,
+            failing,
+            want.as_bytes(),
+            3,
+        )?;
+    }
+    Ok(())
+}
+
+#[test]
+fn a_full_sink_holds_the_front_of_the_replies(rt: HostRuntime) -> Result<(), Fail> {
+    let mut tables = String::new(rt.alloc());
+    push_tables(&mut tables, "")?;
+    let mut front: Vec<u8> = Vec::new(rt.alloc());
+    for byte in REPLIES.as_bytes() {
+        for piece in [1, 7, 4096] {
+            replay_says(
+                &rt,
+                rt.alloc(),
+                true,
+                [tables.as_bytes(), TRACE.as_bytes()],
+                piece,
+                front.len(),
+                NONE,
+                front.as_slice(),
+                3,
+            )?;
+        }
+        front.push(*byte)?;
+    }
+    Ok(())
+}

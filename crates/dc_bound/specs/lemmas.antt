@@ -1,0 +1,27 @@
+-- Lemmas that laws and crates above cite, one file a topic.
+pub mod Counts
+pub mod Budget
+pub mod Steps
+pub mod Recent
+pub mod Segments
+pub mod InOrder
+pub mod Spacing
+pub mod Least
+pub mod FirstPlaces
+pub mod PlacesPush
+pub mod Queued
+pub mod QueueTimes
+pub mod QueuePush
+pub mod Items
+pub mod Jumps
+pub mod Sums
+pub mod Cycle
+pub mod Visited
+pub mod Due
+pub mod Dues
+pub mod DueCounts
+pub mod Spans
+pub mod Caps
+pub mod Earliness
+pub mod Pacing
+pub mod CappingLaws

@@ -1,0 +1,6 @@
+-- Lemmas that crates above cite.
+pub mod CertificateReads
+pub mod Exact
+pub mod Firsts
+pub mod Jobs
+pub mod Places

@@ -1,0 +1,5 @@
+pub mod Cases
+pub mod Draws
+pub mod Joined
+pub mod Known
+pub mod Pieces

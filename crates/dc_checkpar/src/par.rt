@@ -1,0 +1,89 @@
+//! The verdict by several workers.
+
+ghost use Rattle.std.specs.Prelude.{◌≡◌, ℕ, ◌≤◌, None, Some, Err, IfOk, IfErr, MatchResult};
+ghost use Rattle.std.specs.Arc.{arc_value};
+ghost use Rattle.dc_cert.specs.Claims.{claims_of};
+ghost use Rattle.dc_check.specs.Certified.{KeepsItsClaims};
+ghost use Rattle.dc_check.specs.Lent.{tables_of, certificate_of};
+ghost use Rattle.dc_check.specs.Placed.{IsPlaced};
+ghost use Rattle.dc_check.specs.Verdict.{job_count, verdict_of};
+ghost use Rattle.dc_checkpar.specs.Faults.{IsOfVerdict, halt_fault};
+ghost use Rattle.dc_checkpar.specs.Reports.{MayStick};
+ghost use Rattle.dc_checkpar.specs.declared.fault.ParFault.TheVariants.{GateStuck};
+
+use crate::case::{Case, long_count};
+use crate::fault::ParFault;
+use crate::gate::Gate;
+use crate::pool::first_fault;
+use crate::worker::Halt;
+use dc_cert::Certificate;
+use dc_check::{Certified, certify, misnamed};
+use dc_tables::Tables;
+use std::alloc::Global;
+use std::marker::Sync;
+use std::sync::{Arc, Wait};
+use std::thread::Threads;
+
+/// Judges a certificate for tables, as `dc_check::check` does, by so many workers, 1 to 64, of which one is the calling
+/// thread. A worker enters the gate before each job and leaves it afterwards. A fault of the certificate is the first one,
+/// whichever worker finds it first. All threads have returned when it returns.
+pub fn check_par<G: Gate, R: Threads + Wait + Sync>(
+    rt: &R,
+    alloc: Global,
+    tables: Arc<Tables>,
+    certificate: Certificate,
+    workers: usize,
+    gate: &G,
+) -> Result<Certified, ParFault>
+    requires { (1 ≤ workers) × (workers ≤ 64) }
+    ensures claims { IfOk result (λ _. KeepsItsClaims (arc_value tables) (claims_of certificate)) }
+    ensures lends { IfOk result (λ c. (tables_of c ≡ arc_value tables) × (certificate_of c ≡ certificate)) }
+    ensures exact { MatchResult result (λ _. verdict_of (arc_value tables) (claims_of certificate) ≡ None) (λ fault. IsOfVerdict (arc_value tables) (claims_of certificate) fault) }
+    ensures stuck { IfErr result (λ fault. fault ≡ GateStuck → MayStick (job_count (arc_value tables)) (G.may_stick gate.now)) }
+{
+    match verdict_by(rt, alloc, &tables, &certificate, workers, gate) {
+        Err(fault) => Err(fault),
+        Ok(()) => {
+            let certified = certify(tables, certificate);
+            certified.keeps_its_claims();
+            Ok(certified)
+        }
+    }
+}
+
+// The verdict, by so many workers.
+fn verdict_by<G: Gate, R: Threads + Wait + Sync>(
+    rt: &R,
+    alloc: Global,
+    tables: &Tables,
+    certificate: &Certificate,
+    workers: usize,
+    gate: &G,
+) -> Result<(), ParFault>
+    requires { (1 ≤ workers) × (workers ≤ 64) }
+    ensures exact { MatchResult result (λ _. verdict_of tables.now (claims_of certificate.now) ≡ None) (λ fault. IsOfVerdict tables.now (claims_of certificate.now) fault) }
+    ensures stuck { IfErr result (λ fault. fault ≡ GateStuck → MayStick (job_count tables.now) (G.may_stick gate.now)) }
+{
+    tables.valid();
+    if let Some(fault) = misnamed(tables, certificate) {
+        return Err(ParFault::Refused(fault));
+    }
+    let in_pieces = long_count(certificate) < workers;
+    let case = Case::new(rt, in_pieces, tables, certificate);
+    match first_fault(rt, alloc, &case, gate, workers) {
+        Ok(None) => Ok(()),
+        Ok(Some(fault)) => Err(ParFault::Refused(fault)),
+        Err(halt) => Err(fault_of(halt)),
+    }
+}
+
+// What a halt is to the caller.
+fn fault_of(halt: Halt) -> ParFault
+    ensures { result ≡ halt_fault halt }
+{
+    match halt {
+        Halt::Memory => ParFault::Memory,
+        Halt::Spawn => ParFault::Spawn,
+        Halt::GateStuck => ParFault::GateStuck,
+    }
+}

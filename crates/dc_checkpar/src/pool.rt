@@ -1,0 +1,306 @@
+//! Workers in threads of their own, and the first fault of all jobs.
+
+ghost use Rattle.std.specs.Prelude.{◌≡◌, ℕ, ◌+◌, ◌^◌, ◌<◌, ◌≤◌, ◌≢◌, ◌⊎◌, Option, true, Err, IfOk, IfErr, vec_len, vec_capacity};
+ghost use Rattle.dc_check.specs.Verdict.{first_job_fault};
+ghost use Rattle.dc_check.specs.declared.fault.CheckFault.{CheckFault};
+ghost use Rattle.dc_checkpar.specs.Claims.{leader as leader_of, past};
+ghost use Rattle.dc_checkpar.specs.Reports.{AreJudged, AreKnown, ArePromised, IsReport, MayStick};
+ghost use Rattle.dc_checkpar.specs.declared.worker.Halt.TheVariants.{GateStuck};
+
+use crate::gate::{Gate, Stuck};
+use crate::jobs::Jobs;
+use crate::laws::{Counter, Drawer};
+use crate::worker::{Halt, IsRight, Judged, Report, judge, work};
+use dc_check::CheckFault;
+use std::alloc::{AllocError, Global};
+use std::snapshot::Snapshot;
+use std::sync::Wait;
+use std::sync::atomic::{AtomicBool, Ordering};
+use std::thread;
+use std::thread::{PromisedHandle, Scope, Threads};
+
+type Child<J, G> = PromisedHandle<Report, IsRight<J, G>>;
+
+// Starts a worker. Where no thread can be made, all workers stop.
+fn start<'s, E, J: Jobs + 's, G: Gate + 's>(
+    scope: &Scope<'s, E>,
+    alloc: Global,
+    jobs: &'s J,
+    gate: &'s G,
+    source: &'s Counter,
+    stop: &'s AtomicBool,
+    drawer: Drawer,
+) -> Result<Child<J, G>, Halt>
+    requires drawer { (drawer.0 ≡ source.now.0) × (drawer.1.jobs ≡ source.now.1) × (past source.now.1 drawer.1.drawn ≡ 0) }
+    requires jobs { J.may_ask jobs.now × (source.now.1 ≡ J.jobs jobs.now) }
+    ensures ok { IfOk result (λ h. (h.promise.jobs.value ≡ jobs.now) × (h.promise.gate.value ≡ gate.now)) }
+    ensures err { IfErr result (λ halt. halt ≢ GateStuck) }
+{
+    let promise = IsRight {
+        jobs: Snapshot::of(jobs),
+        gate: Snapshot::of(gate),
+    };
+    let spawned = scope.spawn_with(
+        promise,
+        move || -> Report
+            requires drawer { (drawer.0 ≡ source.now.0) × (drawer.1.jobs ≡ source.now.1) × (past source.now.1 drawer.1.drawn ≡ 0) }
+            requires jobs { J.may_ask jobs.now × (source.now.1 ≡ J.jobs jobs.now) }
+            ensures { IsReport (J.jobs jobs.entry.now) (J.verdict jobs.entry.now) (G.may_stick gate.entry.now) result }
+        { work(alloc, jobs, gate, source, stop, drawer) },
+    );
+    let Ok(child) = spawned else {
+        stop.store(true, Ordering::SeqCst);
+        return Err(Halt::Spawn);
+    };
+    Ok(child)
+}
+
+// Starts so many workers, each with a drawer of its own.
+fn start_all<'s, E, J: Jobs + 's, G: Gate + 's>(
+    scope: &Scope<'s, E>,
+    alloc: Global,
+    jobs: &'s J,
+    gate: &'s G,
+    source: &'s Counter,
+    stop: &'s AtomicBool,
+    leader: &mut Drawer,
+    others: usize,
+    children: &mut Vec<Child<J, G>>,
+) -> Result<(), Halt>
+    requires leader { (leader.old.0 ≡ source.now.0) × (leader.old.1 ≡ leader_of source.now.1) }
+    requires others { others < 64 }
+    requires jobs { J.may_ask jobs.now × (source.now.1 ≡ J.jobs jobs.now) }
+    requires room { (vec_len children.old ≡ 0) × (others ≤ vec_capacity children.old) }
+    ensures leader { (leader.new.0 ≡ source.now.0) × (leader.new.1.jobs ≡ source.now.1) × (past source.now.1 leader.new.1.drawn ≡ 0) }
+    ensures children { ArePromised jobs.now gate.now (λ h. h.promise.jobs.value) (λ h. h.promise.gate.value) children.new.items }
+    ensures err { IfErr result (λ halt. halt ≢ GateStuck) }
+{
+    for _ in 0..others {
+        let drawer = source.split(leader);
+        match start(scope, alloc, jobs, gate, source, stop, drawer) {
+            Ok(child) => children.push_reserved(child),
+            Err(halt) => return Err(halt),
+        }
+    }
+    Ok(())
+}
+
+// Puts what was judged beside its jobs.
+fn note(known: &mut Vec<Option<Option<CheckFault>>>, judged: &Vec<Judged>)
+    ensures known { (verdict : ℕ → Option CheckFault) → AreJudged verdict judged.now.items → AreKnown verdict known.old.items → AreKnown verdict known.new.items }
+{
+    for one in judged {
+        if one.job >= known.len() {
+            continue;
+        }
+        known[one.job] = Some(one.fault);
+    }
+}
+
+// Joins the workers, and puts what they judged beside its jobs.
+fn join_all<J: Jobs, G: Gate, R: Threads>(
+    rt: &R,
+    jobs: &J,
+    gate: &G,
+    children: &mut Vec<Child<J, G>>,
+    known: &mut Vec<Option<Option<CheckFault>>>,
+) -> Result<(), Halt>
+    requires { ArePromised jobs.now gate.now (λ h. h.promise.jobs.value) (λ h. h.promise.gate.value) children.old.items }
+    ensures known { AreKnown (J.verdict jobs.now) known.old.items → AreKnown (J.verdict jobs.now) known.new.items }
+    ensures stuck { result ≡ Err GateStuck → MayStick (J.jobs jobs.now) (G.may_stick gate.now) }
+{
+    let _jobs = jobs;
+    let _gate = gate;
+    let mut end = Ok(());
+    while let Some(child) = children.pop() {
+        let Report {
+            judged,
+            end: theirs,
+        } = child.join(rt);
+        note(known, &judged);
+        end = first_halt(end, theirs);
+    }
+    end
+}
+
+fn first_halt(one: Result<(), Halt>, other: Result<(), Halt>) -> Result<(), Halt>
+    ensures { (result ≡ one) ⊎ (result ≡ other) }
+{
+    if one.is_err() { one } else { other }
+}
+
+// What is known of each job, and whether a worker gave up.
+#[derive(Drop)]
+struct Found {
+    known: Vec<Option<Option<CheckFault>>>,
+    end: Result<(), Halt>,
+}
+
+// Starts the other workers, works with them, and joins them.
+fn work_together<'s, E, J: Jobs + 's, G: Gate + 's, R: Threads>(
+    scope: &Scope<'s, E>,
+    rt: &R,
+    alloc: Global,
+    jobs: &'s J,
+    gate: &'s G,
+    source: &'s Counter,
+    stop: &'s AtomicBool,
+    mut leader: Drawer,
+    others: usize,
+    mut children: Vec<Child<J, G>>,
+    mut known: Vec<Option<Option<CheckFault>>>,
+) -> Found
+    requires leader { (leader.0 ≡ source.now.0) × (leader.1 ≡ leader_of source.now.1) }
+    requires others { others < 64 }
+    requires jobs { J.may_ask jobs.now × (source.now.1 ≡ J.jobs jobs.now) }
+    requires room { (vec_len children ≡ 0) × (others ≤ vec_capacity children) }
+    requires known { AreKnown (J.verdict jobs.now) known.items }
+    ensures known { AreKnown (J.verdict jobs.now) result.known.items }
+    ensures stuck { result.end ≡ Err GateStuck → MayStick (J.jobs jobs.now) (G.may_stick gate.now) }
+{
+    let own = &mut leader;
+    let started = start_all(
+        scope,
+        alloc,
+        jobs,
+        gate,
+        source,
+        stop,
+        own,
+        others,
+        &mut children,
+    );
+    let Report { judged, end } = work(alloc, jobs, gate, source, stop, leader);
+    note(&mut known, &judged);
+    let joined = join_all(rt, jobs, gate, &mut children, &mut known);
+    Found {
+        known,
+        end: first_halt(started, first_halt(end, joined)),
+    }
+}
+
+// All threads have returned when this returns.
+fn in_threads<J: Jobs, G: Gate, R: Threads + Wait + Sync>(
+    rt: &R,
+    alloc: Global,
+    jobs: &J,
+    gate: &G,
+    source: &Counter,
+    leader: Drawer,
+    others: usize,
+    children: Vec<Child<J, G>>,
+    known: Vec<Option<Option<CheckFault>>>,
+) -> Found
+    requires leader { (leader.0 ≡ source.now.0) × (leader.1 ≡ leader_of source.now.1) }
+    requires others { others < 64 }
+    requires jobs { J.may_ask jobs.now × (source.now.1 ≡ J.jobs jobs.now) }
+    requires room { (vec_len children ≡ 0) × (others ≤ vec_capacity children) }
+    requires known { AreKnown (J.verdict jobs.now) known.items }
+    ensures known { AreKnown (J.verdict jobs.now) result.known.items }
+    ensures stuck { result.end ≡ Err GateStuck → MayStick (J.jobs jobs.now) (G.may_stick gate.now) }
+{
+    let stop = AtomicBool::new(false);
+    let stop = &stop;
+    thread::scope(
+        thread::scope_env(),
+        rt,
+        |scope| -> Found
+            requires leader { (leader.0 ≡ source.now.0) × (leader.1 ≡ leader_of source.now.1) }
+            requires others { others < 64 }
+            requires jobs { J.may_ask jobs.now × (source.now.1 ≡ J.jobs jobs.now) }
+            requires room { (vec_len children ≡ 0) × (others ≤ vec_capacity children) }
+            requires known { AreKnown (J.verdict jobs.now) known.items }
+            ensures known { AreKnown (J.verdict jobs.entry.now) result.known.items }
+            ensures stuck { result.end ≡ Err GateStuck → MayStick (J.jobs jobs.entry.now) (G.may_stick gate.entry.now) }
+        {
+            work_together(
+                scope, rt, alloc, jobs, gate, source, stop, leader, others, children, known,
+            )
+        },
+    )
+}
+
+// A list of jobs of which nothing is known.
+fn unknown(alloc: Global, count: usize) -> Result<Vec<Option<Option<CheckFault>>>, AllocError>
+    ensures { (verdict : ℕ → Option CheckFault) → IfOk result (λ v. AreKnown verdict v.items) }
+{
+    let mut known = Vec::with_capacity(alloc, count)?;
+    for _ in 0..count {
+        known.push(None)?;
+    }
+    Ok(known)
+}
+
+// The fault of a job, judged now if no result names it.
+fn fault_at<J: Jobs, G: Gate>(
+    jobs: &J,
+    gate: &G,
+    known: &Vec<Option<Option<CheckFault>>>,
+    job: usize,
+) -> Result<Option<CheckFault>, Stuck>
+    requires known { AreKnown (J.verdict jobs.now) known.now.items }
+    requires ask { J.may_ask jobs.now }
+    requires there { job < J.jobs jobs.now }
+    ensures ok { IfOk result (λ fault. fault ≡ J.verdict jobs.now job) }
+    ensures err { IfErr result (λ _. MayStick (J.jobs jobs.now) (G.may_stick gate.now)) }
+{
+    if let Some(Some(fault)) = known.get(job) {
+        return Ok(*fault);
+    }
+    judge(jobs, gate, job)
+}
+
+// The first fault, from what is known.
+fn decide<J: Jobs, G: Gate>(
+    jobs: &J,
+    gate: &G,
+    known: &Vec<Option<Option<CheckFault>>>,
+) -> Result<Option<CheckFault>, Halt>
+    requires ask { J.may_ask jobs.now }
+    requires known { AreKnown (J.verdict jobs.now) known.now.items }
+    ensures ok { IfOk result (λ fault. fault ≡ first_job_fault (J.verdict jobs.now) (J.jobs jobs.now)) }
+    ensures stuck { result ≡ Err GateStuck → MayStick (J.jobs jobs.now) (G.may_stick gate.now) }
+{
+    for job in 0..jobs.len() {
+        let Ok(fault) = fault_at(jobs, gate, known, job) else {
+            return Err(Halt::GateStuck);
+        };
+        if fault.is_some() {
+            return Ok(fault);
+        }
+    }
+    Ok(None)
+}
+
+/// The first fault of all jobs, by so many workers, 1 to 64, of which one is the calling thread. All have returned when
+/// it returns.
+pub(crate) fn first_fault<J: Jobs, G: Gate, R: Threads + Wait + Sync>(
+    rt: &R,
+    alloc: Global,
+    jobs: &J,
+    gate: &G,
+    workers: usize,
+) -> Result<Option<CheckFault>, Halt>
+    requires workers { (1 ≤ workers) × (workers ≤ 64) }
+    requires jobs { J.may_ask jobs.now × (J.jobs jobs.now < 2 ^ 63) }
+    ensures ok { IfOk result (λ fault. fault ≡ first_job_fault (J.verdict jobs.now) (J.jobs jobs.now)) }
+    ensures stuck { result ≡ Err GateStuck → MayStick (J.jobs jobs.now) (G.may_stick gate.now) }
+{
+    let others = workers - 1;
+    let Ok(children) = Vec::with_capacity(alloc, others) else {
+        return Err(Halt::Memory);
+    };
+    let Ok(known) = unknown(alloc, jobs.len()) else {
+        return Err(Halt::Memory);
+    };
+    let Ok((source, leader)) = Counter::new(alloc, jobs.len() as u64) else {
+        return Err(Halt::Memory);
+    };
+    let Found { known, end } = in_threads(
+        rt, alloc, jobs, gate, &source, leader, others, children, known,
+    );
+    if let Err(halt) = end {
+        return Err(halt);
+    }
+    decide(jobs, gate, &known)
+}

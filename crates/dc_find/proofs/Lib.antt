@@ -1,0 +1,6 @@
+pub mod Parts
+pub mod Numbers
+pub mod Lists
+pub mod Claimed
+pub mod Broken
+pub mod Ascii

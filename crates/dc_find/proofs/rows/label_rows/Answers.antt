@@ -1,0 +1,11 @@
+use Rattle.std.proofs.Common.{◌+◌, List, map, sym, subst}
+use Rattle.dc_cert.specs.Claims.{input_claim, label_claim}
+use Rattle.dc_cert.specs.declared.certificate.LabelRow.{LabelRow}
+use Rattle.dc_find.proofs.Lists.{AreRows, row_pushed}
+use Rattle.dc_find.specs.Rows.{IsLabelRow}
+use Rattle.dc_find.proofs.rows.label_rows.Goals as goal
+
+pub loop-label-preserved : goal.loop-label-preserved
+loop-label-preserved c =
+    subst (λ (l : List LabelRow). AreRows (IsLabelRow c.args.tables.now (map input_claim c.args.inputs.now)) (c.loop-label.label + 1) (map label_claim l)) (sym c.in_ok-push.ensures.items)
+    (row_pushed label_claim (IsLabelRow c.args.tables.now (map input_claim c.args.inputs.now)) c.loop-label.label c.loop-label.rows.items c.in_ok-label_row.field-0 c.loop-label.invariant c.in_ok-label_row.ensures)

@@ -1,0 +1,101 @@
+-- What stands in the way of a certificate.
+use Rattle.std.specs.Prelude.{◌≡◌, ◌⊎◌, ℕ, ◌+◌, ◌≤◌, ◌<◌, length, Option, Some, None}
+use Rattle.std.specs.List.{All}
+use Rattle.dc_cert.specs.Bounds.{CertificateRows, input_bound, output_bound}
+use Rattle.dc_check.specs.Accepts.{WindowCloses, BacklogFits, AcceptsInput, AcceptsOutput, AgeHolds, SourcesStayFresh, gaps_of, label_delay}
+use Rattle.dc_check.specs.declared.fault.Condition.{Condition}
+use Rattle.dc_check.specs.declared.fault.Condition.TheVariants.{SentTooSoon, SentTooLate, AgeOverLimit, SourceGoesStale}
+use Rattle.dc_find.specs.declared.fault.FindCode.{FindCode}
+use Rattle.dc_find.specs.declared.fault.FindCode.TheVariants.{F1, F2, F3}
+use Rattle.dc_find.specs.declared.fault.FindFault.{FindFault}
+use Rattle.dc_find.specs.declared.fault.FindFault.TheVariants.{WindowNeverCloses, QueueTooShort, LabelRule, Memory}
+use Rattle.dc_find.specs.declared.fault.Queue.TheVariants.{Input, Output}
+use Rattle.dc_tables.specs.TableRows.{TableRows, bus_row, label_row, bus_cap, bus_floor, output_cap, output_floor}
+
+-- no window closes
+abbrev pub NeverCloses : (cap floor : ℕ → ℕ) → Type 0
+NeverCloses cap floor = (window : ℕ) → ¬ WindowCloses cap floor window
+
+-- in no window that closes is there a backlog for which the bus's queue has room
+abbrev pub NeverFits : TableRows → ℕ → Type 0
+NeverFits t b = (window backlog : ℕ) → WindowCloses (bus_cap t b) (bus_floor t b) window → ¬ BacklogFits (bus_cap t b) (bus_floor t b) window backlog (bus_row t b).queue
+
+-- the numbers of all inputs and outputs are accepted
+pub record AcceptsQueues (t : TableRows) (c : CertificateRows) : Type 0 where
+  pub inputs : (b : ℕ) → b < length t.buses → AcceptsInput t b (input_bound c b)
+  pub outputs : (o : ℕ) → o < length t.outputs → AcceptsOutput t o (output_bound c o)
+
+-- what a rule asks of a label
+abbrev pub KeepsRule : TableRows → ℕ → CertificateRows → Condition → Type 0
+KeepsRule t x c SentTooSoon = All (λ g. (label_row t x).least + label_delay t c x ≤ g) (gaps_of t x)
+KeepsRule t x c SentTooLate = All (λ g. g + label_delay t c x ≤ (label_row t x).greatest) (gaps_of t x)
+KeepsRule t x c AgeOverLimit = AgeHolds t x c
+KeepsRule t x c SourceGoesStale = SourcesStayFresh t x c
+KeepsRule t x c _ = Unit {0}
+
+-- whatever is accepted of the inputs and outputs, the label's rule is broken
+abbrev pub NeverKeeps : TableRows → ℕ → Condition → Type 0
+NeverKeeps t x condition = (c : CertificateRows) → AcceptsQueues t c → ¬ KeepsRule t x c condition
+
+-- the fault is of a part of the tables, and no claim keeps the rule that it names there
+abbrev pub StandsInTheWay : TableRows → FindFault → Type 0
+StandsInTheWay t (WindowNeverCloses (Input b)) = (b < length t.buses) × NeverCloses (bus_cap t b) (bus_floor t b)
+StandsInTheWay t (WindowNeverCloses (Output o)) = (o < length t.outputs) × NeverCloses (output_cap t o) (output_floor t o)
+StandsInTheWay t (QueueTooShort b) = (b < length t.buses) × NeverFits t b
+StandsInTheWay t (LabelRule x condition) = (x < length t.labels) × NeverKeeps t x condition
+StandsInTheWay t Memory = ⊥
+
+-- its code, where it stands in the way
+abbrev pub code_of : FindFault → Option FindCode
+code_of (WindowNeverCloses queue) = Some F1
+code_of (QueueTooShort b) = Some F2
+code_of (LabelRule x condition) = Some F3
+code_of Memory = None
+
+-- ---- the order of faults
+
+-- the inputs, the outputs and the labels in one row, from 0
+abbrev pub part_of : TableRows → FindFault → ℕ
+part_of t (WindowNeverCloses (Input b)) = b
+part_of t (WindowNeverCloses (Output o)) = length t.buses + o
+part_of t (QueueTooShort b) = b
+part_of t (LabelRule x condition) = length t.buses + length t.outputs + x
+part_of t Memory = 0
+
+-- the rules of one part
+abbrev pub code_rank : Condition → ℕ
+code_rank SentTooSoon = 1
+code_rank SentTooLate = 2
+code_rank AgeOverLimit = 3
+code_rank SourceGoesStale = 4
+code_rank _ = 0
+
+abbrev pub rank_of : FindFault → ℕ
+rank_of (WindowNeverCloses queue) = 0
+rank_of (QueueTooShort b) = 1
+rank_of (LabelRule x condition) = code_rank condition
+rank_of Memory = 0
+
+-- an earlier part, or an earlier rule of the same
+abbrev pub Precedes : TableRows → FindFault → FindFault → Type 0
+Precedes t f g = (part_of t f < part_of t g) ⊎ ((part_of t f ≡ part_of t g) × (rank_of f < rank_of g))
+
+-- it stands in the way, and nothing before it does
+pub record IsFirstInTheWay (t : TableRows) (fault : FindFault) : Type 0 where
+  pub stands : StandsInTheWay t fault
+  pub first : (other : FindFault) → Precedes t other fault → ¬ StandsInTheWay t other
+
+-- ---- one part
+
+-- nothing stands in the way at the part of this number; at any part below it
+abbrev pub NothingAt : TableRows → ℕ → Type 0
+NothingAt t part = (other : FindFault) → part_of t other ≡ part → ¬ StandsInTheWay t other
+
+abbrev pub IsClearBelow : TableRows → ℕ → Type 0
+IsClearBelow t n = (part : ℕ) → part < n → NothingAt t part
+
+-- it stands in the way at this part, and no earlier rule of it does
+pub record IsFirstOfPart (t : TableRows) (part : ℕ) (fault : FindFault) : Type 0 where
+  pub here : part_of t fault ≡ part
+  pub stands : StandsInTheWay t fault
+  pub first : (other : FindFault) → part_of t other ≡ part → rank_of other < rank_of fault → ¬ StandsInTheWay t other

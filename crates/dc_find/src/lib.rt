@@ -1,0 +1,10 @@
+//! The least certificate that is accepted for tables, or what stands in the way of one.
+#![tactic(auto)]
+
+mod fault;
+mod finder;
+mod queues;
+mod rows;
+
+pub use fault::{FindCode, FindFault, Queue};
+pub use finder::find;

@@ -1,0 +1,83 @@
+//! The least numbers of an input and of an output, by the bounds of their queues.
+
+ghost use Rattle.std.specs.Prelude.{◌≡◌, ◌≢◌, ℕ, ◌+◌, ◌<◌, length, IfOk, IfErr, MatchOption};
+ghost use Rattle.dc_find.specs.Rows.{AreLeastTimes, IsLeastInput, IsLeastOutput};
+ghost use Rattle.dc_find.specs.Ways.{NeverCloses, IsFirstOfPart};
+ghost use Rattle.dc_tables.specs.TableRows.{bus_cap, bus_floor, output_cap, output_floor};
+
+use crate::fault::{FindFault, Queue};
+use dc_bound::{ArrivalBound, ServiceBound};
+use dc_busy::{least_delay, least_window, most_backlog};
+use dc_tables::Tables;
+
+/// A window of a queue that closes, and a delay, in ticks.
+#[derive(Clone, Copy)]
+pub(crate) struct Times {
+    pub(crate) window: u32,
+    pub(crate) delay: u32,
+}
+
+/// The numbers of an input.
+#[derive(Clone, Copy)]
+pub(crate) struct InputNumbers {
+    pub(crate) times: Times,
+    pub(crate) backlog: u32,
+}
+
+/// The least window that closes, and the least delay; `None` where no window closes.
+fn least_times<A: ArrivalBound, S: ServiceBound>(arrivals: &A, service: &S) -> Option<Times>
+    ensures { MatchOption result (NeverCloses (A.cap arrivals.now) (S.floor service.now)) (λ t. AreLeastTimes (A.cap arrivals.now) (S.floor service.now) t.window t.delay) }
+{
+    let Some(window) = least_window(arrivals, service) else {
+        return None;
+    };
+    let delay = least_delay(arrivals, service, window).unwrap();
+    Some(Times { window, delay })
+}
+
+/// The least numbers of an input, given the bounds of its bus, or its first fault.
+pub(crate) fn input_numbers<A: ArrivalBound, S: ServiceBound>(
+    tables: &Tables,
+    bus: usize,
+    arrivals: &A,
+    service: &S,
+) -> Result<InputNumbers, FindFault>
+    requires there { bus < length tables.now.buses }
+    requires arrivals { (d : ℕ) → A.cap arrivals.now d ≡ bus_cap tables.now bus d }
+    requires service { (d : ℕ) → S.floor service.now d ≡ bus_floor tables.now bus d }
+    ensures least { IfOk result (λ n. IsLeastInput tables.now bus (record { window = n.times.window; backlog = n.backlog; delay = n.times.delay })) }
+    ensures fault { IfErr result (λ fault. IsFirstOfPart tables.now bus fault) }
+{
+    tables.valid();
+    let Some(times) = least_times(arrivals, service) else {
+        return Err(FindFault::WindowNeverCloses(Queue::Input(bus)));
+    };
+    let backlog = most_backlog(arrivals, service, times.window);
+    if backlog > u64::from(tables.queue(bus)) {
+        return Err(FindFault::QueueTooShort(bus));
+    }
+    Ok(InputNumbers {
+        times,
+        backlog: backlog as u32,
+    })
+}
+
+/// The least numbers of an output, given its bounds, or its fault.
+pub(crate) fn output_numbers<A: ArrivalBound, S: ServiceBound>(
+    tables: &Tables,
+    output: usize,
+    arrivals: &A,
+    service: &S,
+) -> Result<Times, FindFault>
+    requires there { output < length tables.now.outputs }
+    requires arrivals { (d : ℕ) → A.cap arrivals.now d ≡ output_cap tables.now output d }
+    requires service { (d : ℕ) → S.floor service.now d ≡ output_floor tables.now output d }
+    ensures least { IfOk result (λ n. IsLeastOutput tables.now output (record { window = n.window; delay = n.delay })) }
+    ensures fault { IfErr result (λ fault. IsFirstOfPart tables.now (length tables.now.buses + output) fault) }
+{
+    tables.valid();
+    match least_times(arrivals, service) {
+        None => Err(FindFault::WindowNeverCloses(Queue::Output(output))),
+        Some(times) => Ok(times),
+    }
+}

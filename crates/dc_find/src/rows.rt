@@ -1,0 +1,143 @@
+//! The rows of the least certificate, with their names.
+
+ghost use Rattle.std.specs.Prelude.{◌≡◌, ◌≢◌, ℕ, ◌+◌, ◌<◌, length, map, string_bytes, IfOk, IfErr};
+ghost use Rattle.dc_busy.specs.Least.{IsLeast};
+ghost use Rattle.dc_cert.specs.Claims.{input_claim, output_claim, label_claim};
+ghost use Rattle.dc_find.specs.Rows.{IsInputRow, IsOutputRow, IsLabelRow, AreInputRows, AreOutputRows, AreLabelRows, IsOldEnough, inputs_alone};
+ghost use Rattle.dc_find.specs.Ways.{IsFirstOfPart, IsFirstInTheWay, IsClearBelow};
+ghost use Rattle.dc_find.specs.declared.fault.FindFault.TheVariants.{Memory};
+ghost use Rattle.dc_parts.specs.Names.{text_of};
+
+use crate::fault::FindFault;
+use crate::queues::{input_numbers, output_numbers};
+use dc_cert::{InputRow, LabelRow, OutputRow};
+use dc_parts::Name;
+use dc_tables::Tables;
+use std::alloc::{AllocError, Global};
+use std::str::from_utf8;
+
+/// The text of a name.
+fn name_text(alloc: Global, name: &Name) -> Result<String, AllocError>
+    ensures { IfOk result (λ s. string_bytes s ≡ text_of name.now) }
+{
+    let text = from_utf8(name.text()).unwrap();
+    String::from_str(alloc, text)
+}
+
+fn input_row(alloc: Global, tables: &Tables, bus: usize) -> Result<InputRow, FindFault>
+    requires { bus < length tables.now.buses }
+    ensures row { IfOk result (λ row. IsInputRow tables.now bus (input_claim row)) }
+    ensures fault { IfErr result (λ fault. fault ≢ Memory → IsFirstOfPart tables.now bus fault) }
+{
+    let numbers = input_numbers(
+        tables,
+        bus,
+        &tables.bus_bound(bus),
+        &tables.bus_service(bus),
+    )?;
+    Ok(InputRow {
+        bus: name_text(alloc, tables.bus_name(bus))?,
+        window: numbers.times.window,
+        backlog: numbers.backlog,
+        delay: numbers.times.delay,
+    })
+}
+
+fn output_row(alloc: Global, tables: &Tables, output: usize) -> Result<OutputRow, FindFault>
+    requires { output < length tables.now.outputs }
+    ensures row { IfOk result (λ row. IsOutputRow tables.now output (output_claim row)) }
+    ensures fault { IfErr result (λ fault. fault ≢ Memory → IsFirstOfPart tables.now (length tables.now.buses + output) fault) }
+{
+    let times = output_numbers(
+        tables,
+        output,
+        &tables.output_bound(output),
+        &tables.output_service(output),
+    )?;
+    Ok(OutputRow {
+        output: name_text(alloc, tables.output_name(output))?,
+        window: times.window,
+        delay: times.delay,
+    })
+}
+
+/// The age of the oldest word that a label still copies: its stale limit, and the greatest delay of its sources' buses.
+fn least_age(tables: &Tables, inputs: &[InputRow], label: usize) -> u32
+    requires there { label < length tables.now.labels }
+    requires inputs { AreInputRows tables.now (map input_claim inputs.now) }
+    ensures { IsLeast (IsOldEnough tables.now label (inputs_alone (map input_claim inputs.now))) result }
+{
+    tables.valid();
+    let row = tables.label(label);
+    let sources = row.sources.as_slice();
+    let mut delay = 0;
+    for stream in sources {
+        let bus = tables.bus_of(*stream);
+        delay = delay.max(inputs[bus].delay);
+    }
+    row.stale + delay
+}
+
+fn label_row(
+    alloc: Global,
+    tables: &Tables,
+    inputs: &[InputRow],
+    label: usize,
+) -> Result<LabelRow, AllocError>
+    requires there { label < length tables.now.labels }
+    requires inputs { AreInputRows tables.now (map input_claim inputs.now) }
+    ensures { IfOk result (λ row. IsLabelRow tables.now (map input_claim inputs.now) label (label_claim row)) }
+{
+    let age = least_age(tables, inputs, label);
+    Ok(LabelRow {
+        label: name_text(alloc, tables.label_name(label))?,
+        age,
+    })
+}
+
+/// The rows of the inputs, or the first thing that stands in their way.
+pub(crate) fn input_rows(alloc: Global, tables: &Tables) -> Result<Vec<InputRow>, FindFault>
+    ensures rows { IfOk result (λ v. AreInputRows tables.now (map input_claim v.items)) }
+    ensures fault { IfErr result (λ fault. fault ≢ Memory → IsFirstInTheWay tables.now fault) }
+{
+    let mut rows = Vec::new(alloc);
+    for bus in 0..tables.bus_count() {
+        let row = input_row(alloc, tables, bus)?;
+        if rows.push(row).is_err() {
+            return Err(FindFault::Memory);
+        }
+    }
+    Ok(rows)
+}
+
+/// The rows of the outputs, where nothing stands in the way of the inputs, or the first thing that stands in theirs.
+pub(crate) fn output_rows(alloc: Global, tables: &Tables) -> Result<Vec<OutputRow>, FindFault>
+    requires { IsClearBelow tables.now (length tables.now.buses) }
+    ensures rows { IfOk result (λ v. AreOutputRows tables.now (map output_claim v.items)) }
+    ensures fault { IfErr result (λ fault. fault ≢ Memory → IsFirstInTheWay tables.now fault) }
+{
+    let mut rows = Vec::new(alloc);
+    for output in 0..tables.output_count() {
+        let row = output_row(alloc, tables, output)?;
+        if rows.push(row).is_err() {
+            return Err(FindFault::Memory);
+        }
+    }
+    Ok(rows)
+}
+
+/// The rows of the labels, given those of the inputs.
+pub(crate) fn label_rows(
+    alloc: Global,
+    tables: &Tables,
+    inputs: &[InputRow],
+) -> Result<Vec<LabelRow>, AllocError>
+    requires { AreInputRows tables.now (map input_claim inputs.now) }
+    ensures { IfOk result (λ v. AreLabelRows tables.now (map input_claim inputs.now) (map label_claim v.items)) }
+{
+    let mut rows = Vec::new(alloc);
+    for label in 0..tables.label_count() {
+        rows.push(label_row(alloc, tables, inputs, label)?)?;
+    }
+    Ok(rows)
+}

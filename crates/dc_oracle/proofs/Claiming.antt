@@ -1,0 +1,119 @@
+-- The least claim that fails, and the first place at which any does.
+use Rattle.std.proofs.Common.{◌≡◌, ℕ, suc, ◌+◌, ◌<◌, ◌&&◌, Bool, true, false, Option, Some, None, List, [], ◌∷◌, ◌++◌, length, take, drop, get_or, refl, sym, ap, ◌∙◌, subst, arith, inl, inr, length-append, take-append-drop, add-one}
+use Rattle.std.specs.Prelude.{MatchBool, ◌≢◌}
+use Rattle.std.proofs.lemmas.List.{append-nil, length-take, take_all}
+use Rattle.std.proofs.Math.Seq.{take-suc}
+use Rattle.dc_bound.specs.lemmas.QueueTimes.{split_sides}
+use Rattle.dc_tables.specs.TableRows.{TableRows}
+use Rattle.dc_event.specs.Breaks.{ClaimAt, FailsFirst, BreaksClaimsAt}
+use Rattle.dc_event.specs.Claims.{NoOverrun, SendsYoung, UsesLive, IsInTime, IsSpaced, Claims, ClaimsHold}
+use Rattle.dc_event.specs.ClaimNumber.{claim_number}
+use Rattle.dc_event.specs.Replies.{reply}
+use Rattle.dc_event.specs.declared.event.Event.{Event}
+use Rattle.dc_event.specs.declared.event.Claim.{Claim}
+use Rattle.dc_event.specs.declared.event.Claim.TheVariants as C
+use Rattle.dc_event.specs.declared.event.Reply.{Reply}
+use Rattle.dc_event.specs.declared.event.Reply.TheVariants.{Queued, BadParity, Undeclared, TooEarly, Overrun, Latched, Took, Empty, Sent, Idle, Now}
+use Rattle.dc_oracle.specs.Claims.{fits, first_of, Judged}
+
+-- ---- an overrun
+
+fits-told : (r : Reply) → MatchBool (fits r) (r ≢ Overrun) (r ≢ Overrun → ⊥)
+fits-told (Queued n) = λ e. absurd cc
+fits-told BadParity = λ e. absurd cc
+fits-told Undeclared = λ e. absurd cc
+fits-told TooEarly = λ e. absurd cc
+fits-told Overrun = λ h. h refl
+fits-told Latched = λ e. absurd cc
+fits-told (Took b w) = λ e. absurd cc
+fits-told (Empty b) = λ e. absurd cc
+fits-told (Sent l w) = λ e. absurd cc
+fits-told Idle = λ e. absurd cc
+fits-told (Now n) = λ e. absurd cc
+
+pub no_overrun-told : (t : TableRows) (run : List Event) (e : Event) (r : Reply) (answer : Bool) → answer ≡ fits r → r ≡ reply t run e → MatchBool answer (NoOverrun t run e) (NoOverrun t run e → ⊥)
+no_overrun-told t run e r answer is told =
+    let P : Reply → Type 0 = λ r. MatchBool (fits r) (r ≢ Overrun) (r ≢ Overrun → ⊥) in
+    let Q : Bool → Type 0 = λ b. MatchBool b (NoOverrun t run e) (NoOverrun t run e → ⊥) in
+    subst Q (sym (is ∙ ap fits told)) (fits-told (reply t run e))
+
+-- ---- the least claim
+
+module _ (t : TableRows) (ages : List ℕ) (run : List Event) (e : Event) where
+  below_1 : (other : Claim) → claim_number other < 1 → ClaimAt t ages other run e
+  below_1 C.NoOverrun l = absurd (omega arith)
+  below_1 C.DataAge l = absurd (omega arith)
+  below_1 C.LiveSource l = absurd (omega arith)
+  below_1 C.Interval l = absurd (omega arith)
+
+  below_2 : NoOverrun t run e → (other : Claim) → claim_number other < 2 → ClaimAt t ages other run e
+  below_2 n C.NoOverrun l = n
+  below_2 n C.DataAge l = absurd (omega arith)
+  below_2 n C.LiveSource l = absurd (omega arith)
+  below_2 n C.Interval l = absurd (omega arith)
+
+  below_3 : NoOverrun t run e → SendsYoung t ages run e → (other : Claim) → claim_number other < 3 → ClaimAt t ages other run e
+  below_3 n y C.NoOverrun l = n
+  below_3 n y C.DataAge l = y
+  below_3 n y C.LiveSource l = absurd (omega arith)
+  below_3 n y C.Interval l = absurd (omega arith)
+
+  below_4 : NoOverrun t run e → SendsYoung t ages run e → UsesLive t run e → (other : Claim) → claim_number other < 4 → ClaimAt t ages other run e
+  below_4 n y u C.NoOverrun l = n
+  below_4 n y u C.DataAge l = y
+  below_4 n y u C.LiveSource l = u
+  below_4 n y u C.Interval l = absurd (omega arith)
+
+  pub judged : (f y l i s : Bool) → MatchBool f (NoOverrun t run e) (NoOverrun t run e → ⊥) → MatchBool y (SendsYoung t ages run e) (SendsYoung t ages run e → ⊥) → MatchBool l (UsesLive t run e) (UsesLive t run e → ⊥)
+      → MatchBool i (IsInTime t run e) (IsInTime t run e → ⊥) → MatchBool s (IsSpaced t run e) (IsSpaced t run e → ⊥) → Judged t ages run e (first_of f y l i s)
+  judged false y l i s hf hy hl hi hs = (hf, below_1)
+  judged true false l i s hf hy hl hi hs = (hy, below_2 hf)
+  judged true true false i s hf hy hl hi hs = (hl, below_3 hf hy)
+  judged true true true false s hf hy hl hi hs = (λ z. hi z.0, below_4 hf hy hl)
+  judged true true true true false hf hy hl hi hs = (λ z. hs z.1, below_4 hf hy hl)
+  judged true true true true true hf hy hl hi hs = record { no_overrun = hf; young = hy; live = hl; in_time = hi; spaced = hs }
+
+-- ---- the place
+
+module _ (t : TableRows) (ages : List ℕ) where
+  pub hold-nil : ClaimsHold t ages []
+  hold-nil [] rest e h = absurd cc
+  hold-nil (x ∷ past) rest e h = absurd cc
+
+  pub hold-push : (run : List Event) (e : Event) → ClaimsHold t ages run → Claims t ages run e → ClaimsHold t ages (run ++ e ∷ [])
+  hold-push run e all one past rest f h =
+      elim (split_sides run (e ∷ []) past (f ∷ rest) h) [
+        | inl (q, g, k) ↦ before q g k
+        | inr (q, g, k) ↦ behind q g k
+      ]
+    where
+      before : (q : List Event) → run ≡ past ++ q → f ∷ rest ≡ q ++ (e ∷ []) → Claims t ages past f
+      before [] g k =
+          let P : List Event → Type 0 = λ z. Claims t ages z e in
+          let Q : Event → Type 0 = λ z. Claims t ages past z in
+          let same : e ≡ f = cc in
+          subst Q same (subst P (g ∙ append-nil past) one)
+      before (z ∷ q) g k = (let same : z ≡ f = cc in all past q f (g ∙ ap (λ y. past ++ (y ∷ q)) same))
+
+      behind : (q : List Event) → past ≡ run ++ q → e ∷ [] ≡ q ++ (f ∷ rest) → Claims t ages past f
+      behind [] g k =
+          let P : List Event → Type 0 = λ z. Claims t ages z e in
+          let Q : Event → Type 0 = λ z. Claims t ages past z in
+          let same : e ≡ f = cc in
+          subst Q same (subst P (sym (g ∙ append-nil run)) one)
+      behind (z ∷ q) g k = absurd (omega (arith, ap (λ (y : List Event). length y) k, length-append q (f ∷ rest)))
+
+  -- the claims hold up to place i, and one fails at the event that follows
+  pub breaks-here : (run : List Event) (i : ℕ) (e : Event) (claim : Claim) → i < length run → take (suc i) run ≡ take i run ++ e ∷ [] → ClaimsHold t ages (take i run) → Judged t ages (take i run) e (Some claim) → BreaksClaimsAt t ages run (Some (claim, i + 1))
+  breaks-here run i e claim l next hold j = (
+    take i run,
+    e,
+    drop (suc i) run,
+    sym (take-append-drop (suc i) run) ∙ ap (λ z. z ++ drop (suc i) run) next ∙ one_more (take i run) e (drop (suc i) run),
+    (let n : i + 1 ≡ suc (length (take i run)) = omega (arith, length-take i run, l) in n),
+    record { before = hold; fails = j.0; least = j.1 },
+  )
+    where
+      one_more : (past : List Event) (e : Event) (rest : List Event) → (past ++ e ∷ []) ++ rest ≡ past ++ (e ∷ rest)
+      one_more [] e rest = refl
+      one_more (x ∷ past) e rest = ap (λ z. x ∷ z) (one_more past e rest)

@@ -1,0 +1,174 @@
+//! What the claims say of a word that leaves: how old it is, and which sources it uses.
+
+ghost use Rattle.std.specs.Prelude.{◌≡◌, ◌<◌, List, length, IfSome, MatchBool, slice_index};
+ghost use Rattle.dc_cert.specs.Bounds.{certificate_rows};
+ghost use Rattle.dc_tables.specs.TableRows.{label_row};
+ghost use Rattle.dc_event.specs.Alive.{IsAlive, AreUsable};
+ghost use Rattle.dc_event.specs.Choice.{chosen_source};
+ghost use Rattle.dc_event.specs.Claims.{IsYoung, UsesFirst, UsesAny};
+ghost use Rattle.dc_event.specs.Time.{tick_after};
+ghost use Rattle.dc_event.specs.declared.event.Event.{Event};
+ghost use Rattle.dc_oracle.specs.Arrivals.{IsSized as AreArrivals, Follows};
+ghost use Rattle.dc_oracle.specs.Replies.{IsSized as AreReplies, Holds};
+ghost use Rattle.dc_oracle.specs.Claims.{IsAnyGood};
+
+use crate::arrivals::ArrivalWatch;
+use crate::replies::{ReplyWatch, word_for};
+use dc_cert::Certificate;
+use dc_tables::Tables;
+use dc_word::Word;
+
+/// The age that the certificate claims of the label of this number; 0 where it lists none.
+fn age_of(certificate: &Certificate, label: usize) -> u32
+    ensures { result ≡ slice_index (certificate_rows certificate.now).ages label }
+{
+    if label >= certificate.labels.len() {
+        return 0;
+    }
+    certificate.labels[label].age
+}
+
+/// Whether the label's word is its fallback, or copies one that came at most `age` ticks ago.
+fn is_young(
+    replies: &ReplyWatch,
+    arrivals: &ArrivalWatch,
+    tables: &Tables,
+    label: usize,
+    age: u32,
+) -> bool
+    requires replies { AreReplies tables.now replies.now }
+    requires arrivals { AreArrivals tables.now arrivals.now }
+    requires label { label < length tables.now.labels }
+    ensures { (now : List Event) → Holds tables.now replies.now now → Follows tables.now arrivals.now now → MatchBool result (IsYoung tables.now label age now) (IsYoung tables.now label age now → ⊥) }
+{
+    tables.valid();
+    let Some((stream, word)) = replies.choice(tables, label) else {
+        return true;
+    };
+    let sent = word_for(tables, label, Some((stream, word)));
+    let fallback = word_for(tables, label, None);
+    if sent == fallback {
+        return true;
+    }
+    let Some(came) = arrivals.latest_came(stream) else {
+        return false;
+    };
+    replies.tick() <= came.saturating_add(age as u64)
+}
+
+/// Whether the source is alive for the label, and its words are usable.
+fn is_good(arrivals: &ArrivalWatch, tables: &Tables, label: usize, source: usize, tick: u64) -> bool
+    requires arrivals { AreArrivals tables.now arrivals.now }
+    requires label { label < length tables.now.labels }
+    requires source { source < length tables.now.streams }
+    ensures { (now : List Event) → Follows tables.now arrivals.now now → tick ≡ tick_after now → MatchBool result (IsAlive tables.now label source now × AreUsable tables.now label source now) (IsAlive tables.now label source now → AreUsable tables.now label source now → ⊥) }
+{
+    tables.valid();
+    let row = tables.label(label);
+    let life = arrivals.life(source);
+    let maximum = tables.stream(source).maximum;
+    life.is_good(tick, row.stale, maximum, row.format)
+}
+
+/// Whether the label copies its first source, where that is alive and its words are usable.
+fn uses_first(
+    arrivals: &ArrivalWatch,
+    tables: &Tables,
+    label: usize,
+    choice: &Option<(usize, Word)>,
+    tick: u64,
+) -> bool
+    requires arrivals { AreArrivals tables.now arrivals.now }
+    requires label { label < length tables.now.labels }
+    ensures { (now : List Event) → Follows tables.now arrivals.now now → tick ≡ tick_after now → choice.now ≡ chosen_source tables.now label now → MatchBool result (UsesFirst tables.now label now) (UsesFirst tables.now label now → ⊥) }
+{
+    tables.valid();
+    let row = tables.label(label);
+    let sources = row.sources.as_slice();
+    let first = sources[0];
+    if !is_good(arrivals, tables, label, first, tick) {
+        return true;
+    }
+    match *choice {
+        Some((stream, _)) => stream == first,
+        None => false,
+    }
+}
+
+/// Whether some source of the label is alive, and its words are usable.
+fn any_good(arrivals: &ArrivalWatch, tables: &Tables, label: usize, tick: u64) -> bool
+    requires arrivals { AreArrivals tables.now arrivals.now }
+    requires label { label < length tables.now.labels }
+    ensures { (now : List Event) → Follows tables.now arrivals.now now → tick ≡ tick_after now → IsAnyGood tables.now label now result }
+{
+    tables.valid();
+    let row = tables.label(label);
+    for source in row.sources.as_slice() {
+        if is_good(arrivals, tables, label, *source, tick) {
+            return true;
+        }
+    }
+    false
+}
+
+/// Whether the label's word is usable, where some source is alive and its words are usable.
+fn uses_any(
+    arrivals: &ArrivalWatch,
+    tables: &Tables,
+    label: usize,
+    choice: &Option<(usize, Word)>,
+    tick: u64,
+) -> bool
+    requires arrivals { AreArrivals tables.now arrivals.now }
+    requires label { label < length tables.now.labels }
+    ensures { (now : List Event) → Follows tables.now arrivals.now now → tick ≡ tick_after now → choice.now ≡ chosen_source tables.now label now → MatchBool result (UsesAny tables.now label now) (UsesAny tables.now label now → ⊥) }
+{
+    let format = tables.label(label).format;
+    if word_for(tables, label, *choice).usable(format) {
+        return true;
+    }
+    !any_good(arrivals, tables, label, tick)
+}
+
+/// Whether the word of the label that is emitted, if one is, is no older than the certificate lets it.
+pub fn is_sent_young(
+    replies: &ReplyWatch,
+    arrivals: &ArrivalWatch,
+    tables: &Tables,
+    certificate: &Certificate,
+    emitted: Option<usize>,
+) -> bool
+    requires replies { AreReplies tables.now replies.now }
+    requires arrivals { AreArrivals tables.now arrivals.now }
+    requires there { IfSome emitted (λ x. x < length tables.now.labels) }
+    ensures { (now : List Event) → Holds tables.now replies.now now → Follows tables.now arrivals.now now → MatchBool result (IfSome emitted (λ x. IsYoung tables.now x (slice_index (certificate_rows certificate.now).ages x) now)) (IfSome emitted (λ x. IsYoung tables.now x (slice_index (certificate_rows certificate.now).ages x) now) → ⊥) }
+{
+    match emitted {
+        Some(label) => is_young(replies, arrivals, tables, label, age_of(certificate, label)),
+        None => true,
+    }
+}
+
+/// Whether the label that is emitted, if one is, uses its live sources.
+pub fn is_sent_live(
+    replies: &ReplyWatch,
+    arrivals: &ArrivalWatch,
+    tables: &Tables,
+    emitted: Option<usize>,
+) -> bool
+    requires replies { AreReplies tables.now replies.now }
+    requires arrivals { AreArrivals tables.now arrivals.now }
+    requires there { IfSome emitted (λ x. x < length tables.now.labels) }
+    ensures { (now : List Event) → Holds tables.now replies.now now → Follows tables.now arrivals.now now → MatchBool result (IfSome emitted (λ x. UsesFirst tables.now x now × UsesAny tables.now x now)) (IfSome emitted (λ x. UsesFirst tables.now x now × UsesAny tables.now x now) → ⊥) }
+{
+    tables.valid();
+    let Some(label) = emitted else {
+        return true;
+    };
+    let choice = replies.choice(tables, label);
+    let tick = replies.tick();
+    if !uses_first(arrivals, tables, label, &choice, tick) {
+        return false;
+    }
+    uses_any(arrivals, tables, label, &choice, tick)
+}

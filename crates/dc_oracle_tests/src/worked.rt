@@ -1,0 +1,174 @@
+//! The worked runs of the small tables, as traces: the second opinion has the replies and refusals of the concentrator.
+
+use crate::runs::{Recording, agrees, try_event};
+use dc_core::Core;
+use dc_device::MemSource;
+use dc_event::{Event, TraceReader, TraceStop};
+use dc_tables::Tables;
+use dc_toml::read_tables;
+use std::alloc::{AllocError, Global};
+use std::process::Abort;
+use std::rt::HostRuntime;
+use std::sync::Arc;
+use std::test::Fail;
+
+/// Labels 203 and 204.
+const PARAMETERS: &str = "version = 1
+tick_us = 1000
+[[parameter]]
+label = \"203\"
+equipment = \"001\"
+format = \"bnr\"
+min_us = 10000
+max_us = 20000
+[[parameter]]
+label = \"204\"
+equipment = \"001\"
+format = \"bnr\"
+min_us = 10000
+max_us = 20000
+";
+
+/// The streams of bus A, and a second bus with one of its own.
+const BUSES: &str = "[[bus.stream]]
+name = \"A-203\"
+label = \"203\"
+equipment = \"001\"
+sdi = \"any\"
+[[bus.stream]]
+name = \"A-204\"
+label = \"204\"
+equipment = \"001\"
+sdi = \"any\"
+[[bus]]
+name = \"B\"
+speed = \"high\"
+queue = 2
+[[bus.stream]]
+name = \"B-203\"
+label = \"203\"
+equipment = \"001\"
+sdi = \"any\"
+";
+
+/// The router and the output.
+const ACTORS: &str = "[[router]]
+name = \"R1\"
+steps = 1
+within = 1
+most = 2
+visits = [\"A\", \"B\"]
+[[output]]
+name = \"O\"
+speed = \"high\"
+steps = 1
+within = 2
+frame = 15
+[[output.label]]
+name = \"x\"
+label = \"203\"
+equipment = \"001\"
+sdi = 0
+sources = [\"A-203\", \"B-203\"]
+stale = 22
+age = 30
+";
+
+/// The small tables with a second bus, where bus A's queue has this room and the label is due at these ticks.
+fn push_tables(text: &mut String, queue: &str, offsets: &str) -> Result<(), AllocError> {
+    text.push_str(PARAMETERS)?;
+    text.push_str("[[bus]]\nname = \"A\"\nspeed = \"high\"\nqueue = ")?;
+    text.push_str(queue)?;
+    text.push_str("\n")?;
+    text.push_str(BUSES)?;
+    text.push_str(ACTORS)?;
+    text.push_str("offsets = [")?;
+    text.push_str(offsets)?;
+    text.push_str("]\n")
+}
+
+/// Steps of each kind that are refused; words that are refused; words that wait, are routed, copied, and lost. Each run
+/// ends with a bar.
+const RUNS: &str =
+    "R R1\nR R1\nR R1\nT\nR R1\n|S O\nS O\nR R1\nT\nS O\n|T\nR R1\nT\nT\nR R1\nT\nS O\nT\n|A A 200000C1\nA A 60000081\nA A E0000081\nR R1\n|R R1\nA A 600000C1\nA A E0000021\nS O\nT\nR R1\nT\nR R1\n|A A 600000C1\nR R1\nS O\n|A A E00001C1\nR R1\nS O\n|A A C00000C1\nR R1\nS O\n|A A 600000C1\nS O\nR R1\n|A A 600000C1\nA A E0000021\nA A 600000C1\nR R1\nA A 600000C1\nR R1\nS O\n|R R1\nT\nR R1\nS O\nT\nA A 600000C1\nR R1\nS O\n|A A A00000C1\nA B FFFFFCC1\nR R1\nR R1\nS O\n|";
+
+/// What is told next of the lines.
+fn next_of(rt: &impl Abort, reader: &mut TraceReader<MemSource>) -> Result<Event, TraceStop> {
+    assert!(rt; reader.failures() < 1000);
+    reader.next()
+}
+
+/// Tries the events of a trace, and compares. How many there are.
+fn run_trace(
+    rt: &impl Abort,
+    alloc: Global,
+    tables: &Tables,
+    core: &mut Core,
+    trace: &str,
+) -> Result<u32, AllocError> {
+    let mut recording = Recording::new(alloc);
+    let mut reader = TraceReader::new(tables, MemSource::new(trace.as_bytes(), 4096, 0));
+    for tried in 0..1000 {
+        let told = next_of(rt, &mut reader);
+        let Ok(event) = &told else {
+            agrees(rt, alloc, tables, &recording)?;
+            return Ok(tried);
+        };
+        try_event(rt, alloc, tables, core, &mut recording, event)?;
+    }
+    Ok(1000)
+}
+
+/// Runs a trace on a concentrator of the small tables.
+fn run_small(
+    rt: &impl Abort,
+    alloc: Global,
+    queue: &str,
+    offsets: &str,
+    trace: &str,
+) -> Result<u32, Fail> {
+    let mut text = String::new(alloc);
+    push_tables(&mut text, queue, offsets)?;
+    let tables = Arc::new(alloc, read_tables(alloc, text.as_bytes())?)?;
+    let shared = Arc::try_clone(&tables)?;
+    let mut core = Core::new(alloc, shared)?;
+    Ok(run_trace(rt, alloc, &tables, &mut core, trace)?)
+}
+
+/// Tries each worked run. How many events there are in all.
+fn run_all(rt: &impl Abort, alloc: Global, queue: &str, offsets: &str) -> Result<u32, Fail> {
+    let mut tried: u32 = 0;
+    for trace in RUNS.split('|') {
+        tried = tried.wrapping_add(run_small(rt, alloc, queue, offsets, trace)?);
+    }
+    Ok(tried)
+}
+
+#[test]
+fn the_second_opinion_agrees_on_worked_runs(rt: HostRuntime) -> Result<(), Fail> {
+    assert_eq!(rt; run_all(&rt, rt.alloc(), "2", "0")?, 62);
+    assert_eq!(rt; run_all(&rt, rt.alloc(), "1", "0")?, 62);
+    assert_eq!(rt; run_all(&rt, rt.alloc(), "2", "1, 0")?, 62);
+    Ok(())
+}
+
+/// A word comes before the step of this tick, counted from 0. In each tick there are a step, a send and a Tick.
+fn push_ticks(text: &mut String, arrival: u32) -> Result<(), AllocError> {
+    for tick in 0..31 {
+        if tick == arrival {
+            text.push_str("A A 600000C1\n")?;
+        }
+        text.push_str("R R1\nR R1\nS O\nT\n")?;
+    }
+    Ok(())
+}
+
+#[test]
+fn the_second_opinion_agrees_on_words_that_grow_stale(rt: HostRuntime) -> Result<(), Fail> {
+    for arrival in 7..9 {
+        let mut trace = String::new(rt.alloc());
+        push_ticks(&mut trace, arrival)?;
+        assert_eq!(rt; run_small(&rt, rt.alloc(), "2", "0", trace.as_str())?, 125);
+    }
+    Ok(())
+}

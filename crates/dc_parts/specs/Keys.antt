@@ -1,0 +1,19 @@
+-- What names a parameter: a label and an equipment code.
+use Rattle.std.specs.Prelude.{Bool, ◌==◌, ◌&&◌}
+use Rattle.dc_dict.specs.declared.parameter.Parameter.{Parameter as ParameterPart}
+use Rattle.dc_parts.specs.declared.keys.ParameterKey.{ParameterKey}
+use Rattle.dc_parts.specs.declared.parts.StreamPart.{StreamPart}
+use Rattle.dc_parts.specs.declared.parts.LabelPart.{LabelPart}
+
+abbrev pub same_parameter : ParameterKey → ParameterKey → Bool
+same_parameter a b = (a.label == b.label) && (a.equipment == b.equipment)
+
+-- the parameter itself, and the one that a stream and a label name
+abbrev pub parameter_key : ParameterPart → ParameterKey
+parameter_key p = record { label = p.label; equipment = p.equipment }
+
+abbrev pub stream_key : StreamPart → ParameterKey
+stream_key s = record { label = s.label; equipment = s.equipment }
+
+abbrev pub label_key : LabelPart → ParameterKey
+label_key x = record { label = x.label; equipment = x.equipment }

@@ -1,0 +1,5 @@
+pub mod Names
+pub mod Document
+pub mod Keys
+pub mod Ticks
+pub mod FaultText

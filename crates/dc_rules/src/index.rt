@@ -1,0 +1,189 @@
+//! Keys that are looked up by their value.
+ghost use Rattle.std.specs.Prelude.{◌≡◌, ◌≤◌, ◌<◌, ◌++◌, ◌∷◌, None, map, position, IfOk, IfSome, OnOk, [], length, slice_index_or};
+ghost use Rattle.dc_word.specs.declared.format.Format.TheVariants.{Bnr};
+ghost use Rattle.dc_rules.specs.Rules.{doubled, doubled_name, parameter_out, parameter_of, first_inverted, told, Tells};
+ghost use Rattle.dc_parts.specs.Keys.{parameter_key, same_parameter};
+ghost use Rattle.dc_parts.specs.Names.{number_of};
+ghost use Rattle.dc_dict.specs.Rows.{refusal_of};
+
+use crate::breach::refuse;
+use dc_dict::{DictFault, Dictionary, Parameter};
+use dc_parts::{BuildError, Name, Named, ParameterKey, Section, TableRule};
+use indexmap::IndexSet;
+use std::alloc::{AllocError, Global};
+use std::hash::Hash;
+use std::marker::Model;
+
+/// The keys as a set, and the first that is doubled; where none is, the set has them in their order.
+pub(crate) fn distinct<K: Eq + Hash + Copy>(
+    alloc: Global,
+    keys: &[K],
+) -> Result<(IndexSet<K>, Option<usize>), AllocError>
+    ensures found { IfOk result (λ r. r.1 ≡ doubled K.eq keys.now) }
+    ensures all { IfOk result (λ r. r.1 ≡ None → r.0.keys ≡ keys.now) }
+{
+    let mut known = IndexSet::new(alloc);
+    for (i, key) in keys.iter().enumerate() {
+        let (_, added) = known.insert_full(*key)?;
+        if !added {
+            return Ok((known, Some(i)));
+        }
+    }
+    Ok((known, None))
+}
+
+/// Names in order, looked up by their text. A clause sees them as their list.
+#[derive(Drop)]
+pub struct NameIndex {
+    names: IndexSet<Name>,
+}
+
+impl Model for NameIndex {
+    ghost use Rattle.std.specs.Prelude.{ℕ, List};
+
+    ghost Value = { List (List ℕ) };
+
+    ghost view = { λ n. n.names.keys };
+}
+
+impl NameIndex {
+    /// The names of one kind of table, where none is doubled.
+    pub(crate) fn of<T: Named>(
+        alloc: Global,
+        section: Section,
+        rows: &[T],
+    ) -> Result<NameIndex, BuildError>
+        ensures rule { Tells (told TableRule.NameDoubled section (doubled_name (map T.name_of rows.now))) result }
+        ensures list { IfOk result (λ n. n ≡ map T.name_of rows.now) }
+    {
+        let names = names_of(alloc, rows).map_err(BuildError::Memory)?;
+        let (known, found) = distinct(alloc, &names).map_err(BuildError::Memory)?;
+        refuse(TableRule::NameDoubled, section, found)?;
+        Ok(NameIndex { names: known })
+    }
+
+    /// The name of this number.
+    pub fn name(&self, number: usize) -> &Name
+        requires { number < length self.now }
+        ensures { result.now ≡ slice_index_or self.now number [] }
+    {
+        &self.names.as_slice()[number]
+    }
+
+    /// The number of this name.
+    pub fn number_of(&self, name: &Name) -> Option<usize>
+        ensures { result ≡ number_of self.now name.now }
+    {
+        self.names.get_index_of(name)
+    }
+}
+
+/// The names of these tables.
+fn names_of<T: Named>(alloc: Global, rows: &[T]) -> Result<Vec<Name>, AllocError>
+    ensures { IfOk result (λ v. v.items ≡ map T.name_of rows.now) }
+{
+    rows.iter().map(|row| row.name()).collect(alloc)
+}
+
+/// The names of all tables, each kind to be looked up.
+#[derive(Drop)]
+pub struct Names {
+    pub buses: NameIndex,
+    pub streams: NameIndex,
+    pub routers: NameIndex,
+    pub outputs: NameIndex,
+    pub labels: NameIndex,
+}
+
+/// Parameters in a dictionary, looked up by label and equipment code. A clause sees them as their list.
+#[derive(Drop)]
+pub struct Parameters {
+    rows: Dictionary,
+}
+
+impl Model for Parameters {
+    ghost use Rattle.std.specs.Prelude.{◌≤◌, All, List};
+    ghost use Rattle.dc_dict.specs.declared.parameter.Parameter.{Parameter as ParameterRow};
+
+    ghost Value = { List ParameterRow };
+
+    ghost view = { λ p. p.rows };
+
+    ghost invariant = { λ p. All (λ q. q.min_us ≤ 60000000) p.rows };
+}
+
+impl Parameters {
+    /// The parameters, of which the dictionary refuses none.
+    pub(crate) fn of(alloc: Global, parameters: &[Parameter]) -> Result<Parameters, AllocError>
+        requires shape { position parameter_out parameters.now ≡ None }
+        requires once { doubled same_parameter (map parameter_key parameters.now) ≡ None }
+        requires ordered { first_inverted parameters.now ≡ None }
+        ensures { IfOk result (λ p. p ≡ parameters.now) }
+    {
+        let mut rows = Dictionary::new(alloc);
+        for row in parameters {
+            add(&mut rows, *row)?;
+        }
+        Ok(Parameters { rows })
+    }
+
+    /// How many there are.
+    pub fn len(&self) -> usize
+        ensures { result ≡ length self.now }
+    {
+        self.rows.len()
+    }
+
+    /// The parameter of this number.
+    pub fn at(&self, number: usize) -> &Parameter
+        requires { number < length self.now }
+        ensures { result.now ≡ slice_index_or self.now number (record { label = 0; equipment = 0; format = Bnr; min_us = 0; max_us = 0 }) }
+    {
+        self.rows.row_at(number)
+    }
+
+    /// The parameter of this key.
+    pub fn find(&self, key: ParameterKey) -> Option<Parameter>
+        ensures value { result ≡ parameter_of self.now key }
+        ensures small { IfSome result (λ p. p.min_us ≤ 60000000) }
+    {
+        self.rows.row(key.label, key.equipment).copied()
+    }
+}
+
+/// Appends a row that the dictionary does not refuse.
+fn add(rows: &mut Dictionary, row: Parameter) -> Result<(), AllocError>
+    requires { refusal_of rows.old row ≡ None }
+    ensures { OnOk result (rows.new ≡ rows.old ++ row ∷ []) }
+{
+    match rows.insert(row) {
+        Ok(()) => Ok(()),
+        Err(DictFault::Memory) => Err(AllocError),
+        Err(_) => unreachable!(),
+    }
+}
+
+/// The keys of these parameters.
+fn keys_of(alloc: Global, parameters: &[Parameter]) -> Result<Vec<ParameterKey>, AllocError>
+    ensures { IfOk result (λ v. v.items ≡ map parameter_key parameters.now) }
+{
+    parameters
+        .iter()
+        .map(|p| ParameterKey {
+            label: p.label,
+            equipment: p.equipment,
+        })
+        .collect(alloc)
+}
+
+/// The first parameter with the label and equipment code of one before it.
+pub(crate) fn first_doubled_parameter(
+    alloc: Global,
+    parameters: &[Parameter],
+) -> Result<Option<usize>, AllocError>
+    ensures { IfOk result (λ r. r ≡ doubled same_parameter (map parameter_key parameters.now)) }
+{
+    let keys = keys_of(alloc, parameters)?;
+    let (_, found) = distinct(alloc, &keys)?;
+    Ok(found)
+}

@@ -1,0 +1,474 @@
+//! The rules in their order.
+ghost use Rattle.std.specs.Prelude.{Ok, None, ◌≡◌, ◌≤◌, map, length, IfOk, option_map, option_and_then, slice_get};
+ghost use Rattle.dc_rules.specs.Rules.{Tells, first_rules, later_rules, quantities, told, then_told, shape, totals, counts, doubled, doubled_name, overlap as overlap_of, first_unserved as unserved_bus};
+ghost use Rattle.dc_parts.specs.Keys.{same_parameter, parameter_key};
+ghost use Rattle.dc_rules.specs.Rules.{first_inverted, first_quick, first_narrow, first_unknown_stream, first_unknown_label};
+ghost use Rattle.dc_rules.specs.Rules.{bus_names, stream_names, router_names, output_names, label_names, names, references, schedules, entries_from};
+ghost use Rattle.dc_rules.specs.Rules.{earlier, at_owner, breach_told, first_overfull, entry_owners, first_doubled_offset, first_doubled_label};
+ghost use Rattle.dc_parts.specs.Document.{stream_owners, label_owners};
+
+use crate::breach::{Breach, earlier_of, refuse, refuse_breach};
+use crate::index::{NameIndex, Names, Parameters, distinct, first_doubled_parameter};
+use crate::keys::PlacedEntry;
+use crate::overlaps::first_overlap;
+use crate::quantities::{
+    first_inverted, first_narrow, first_quick, first_unknown_label, first_unknown_stream,
+};
+use crate::references::{
+    first_doubled_source, first_lost_label, first_lost_router, first_unserved,
+};
+use crate::schedules::{
+    first_different, first_late, first_unable_output, first_unable_router, label_keys, offset_keys,
+    place_entries,
+};
+use crate::shape::{
+    bus_shape, check_top, count_members, label_shape, output_shape, parameter_shape, router_shape,
+    stream_owners, stream_shape,
+};
+use dc_parts::{BuildError, LabelPart, Parts, Section, StreamPart, TableRule};
+use std::alloc::{AllocError, Global};
+
+/// The owner of each label.
+fn label_owners(alloc: Global, parts: &Parts) -> Result<Vec<usize>, AllocError>
+    ensures { IfOk result (λ v. v.items ≡ label_owners parts.now) }
+{
+    parts.labels().iter().map(|x| x.output).collect(alloc)
+}
+
+/// The output of each entry.
+fn entry_owners(alloc: Global, entries: &[PlacedEntry]) -> Result<Vec<usize>, AllocError>
+    ensures { IfOk result (λ v. v.items ≡ map (λ e. e.output) entries.now) }
+{
+    entries.iter().map(|e| e.output).collect(alloc)
+}
+
+/// The breach of a member at the place of its owner.
+fn at_owner(owners: &[usize], found: Option<Breach>) -> Option<Breach>
+    ensures { result ≡ at_owner owners.now found }
+{
+    let breach = found?;
+    Some(Breach {
+        place: owners.get(breach.place).copied().unwrap_or(0),
+        fault: breach.fault,
+    })
+}
+
+/// Numbers in their ranges, lists in their limits.
+pub(crate) fn check_shape(alloc: Global, parts: &Parts) -> Result<(), BuildError>
+    ensures { Tells (shape parts.now) result }
+{
+    let streams = stream_owners(alloc, parts).map_err(BuildError::Memory)?;
+    let bus_counts = count_members(alloc, &streams, parts.bus_count()).map_err(BuildError::Memory)?;
+    let labels = label_owners(alloc, parts).map_err(BuildError::Memory)?;
+    let output_counts = count_members(alloc, &labels, parts.output_count()).map_err(
+        BuildError::Memory,
+    )?;
+    check_shape_of(parts, (&streams, &bus_counts), (&labels, &output_counts))
+}
+
+/// The same, given the bus of each stream and how many streams each bus has, and the like of labels and outputs.
+fn check_shape_of(
+    parts: &Parts,
+    streams: (&[usize], &[usize]),
+    labels: (&[usize], &[usize]),
+) -> Result<(), BuildError>
+    requires streams { streams.0.now ≡ stream_owners parts.now }
+    requires stream_counts { streams.1.now ≡ counts (stream_owners parts.now) (length parts.now.buses) }
+    requires labels { labels.0.now ≡ label_owners parts.now }
+    requires label_counts { labels.1.now ≡ counts (label_owners parts.now) (length parts.now.outputs) }
+    ensures { result ≡ shape parts.now }
+{
+    check_top(parts)?;
+    refuse(
+        TableRule::NumberOutOfRange,
+        Section::Parameter,
+        parameter_shape(parts.parameters()),
+    )?;
+    let bus = bus_shape(parts.buses(), streams.1);
+    let stream = at_owner(streams.0, stream_shape(parts.streams()));
+    refuse_breach(earlier_of(bus, stream))?;
+    refuse_breach(router_shape(parts.routers()))?;
+    let output = output_shape(parts.outputs(), labels.1);
+    let label = at_owner(labels.0, label_shape(parts.labels()));
+    refuse_breach(earlier_of(output, label))
+}
+
+/// The entries of all outputs in the order of the text.
+pub(crate) fn place_all(alloc: Global, parts: &Parts) -> Result<Vec<PlacedEntry>, AllocError>
+    ensures { IfOk result (λ v. v.items ≡ entries_from 0 parts.now.labels) }
+{
+    place_entries(alloc, parts.labels())
+}
+
+/// Totals over the tables.
+pub(crate) fn check_totals(
+    alloc: Global,
+    parts: &Parts,
+    entries: &[PlacedEntry],
+) -> Result<(), BuildError>
+    requires { entries.now ≡ entries_from 0 parts.now.labels }
+    ensures { Tells (totals parts.now) result }
+{
+    let owners = entry_owners(alloc, entries).map_err(BuildError::Memory)?;
+    let counted = count_members(alloc, &owners, parts.output_count()).map_err(BuildError::Memory)?;
+    check_totals_of(parts, &counted)
+}
+
+/// The same, given how many entries each output has.
+fn check_totals_of(parts: &Parts, entries: &[usize]) -> Result<(), BuildError>
+    requires { entries.now ≡ counts (entry_owners parts.now.labels) (length parts.now.outputs) }
+    ensures { result ≡ totals parts.now }
+{
+    refuse(
+        TableRule::CountOutOfRange,
+        Section::Bus,
+        bus_past(parts.streams()),
+    )?;
+    refuse(
+        TableRule::CountOutOfRange,
+        Section::Output,
+        output_past(parts.labels()),
+    )?;
+    refuse(
+        TableRule::CountOutOfRange,
+        Section::Output,
+        first_overfull(entries),
+    )
+}
+
+/// The bus by which the total of streams is passed.
+fn bus_past(streams: &[StreamPart]) -> Option<usize>
+    ensures { result ≡ option_map (λ s. s.bus) (slice_get streams.now 1024) }
+{
+    let stream = streams.get(1024)?;
+    Some(stream.bus)
+}
+
+/// The output by which the total of labels is passed.
+fn output_past(labels: &[LabelPart]) -> Option<usize>
+    ensures { result ≡ option_map (λ x. x.output) (slice_get labels.now 1024) }
+{
+    let label = labels.get(1024)?;
+    Some(label.output)
+}
+
+/// The first output with too many entries.
+fn first_overfull(counts: &[usize]) -> Option<usize>
+    ensures { result ≡ first_overfull counts.now }
+{
+    counts.iter().position(|n| *n > 1024)
+}
+
+/// The intervals that the parameters leave to streams and labels.
+fn check_intervals(parts: &Parts, parameters: &Parameters) -> Result<(), BuildError>
+    requires tick { 1 ≤ parts.now.tick_us }
+    requires same { parameters.now ≡ parts.now.parameters }
+    ensures { result ≡ then_told (told TableRule.MinimumBelowOneTick Section.Stream (first_quick parts.now.tick_us parts.now.parameters parts.now.streams)) (told TableRule.NoOutputInterval Section.Label (first_narrow parts.now.tick_us parts.now.parameters parts.now.labels)) }
+{
+    refuse(
+        TableRule::MinimumBelowOneTick,
+        Section::Stream,
+        first_quick(parts.tick_us(), parameters, parts.streams()),
+    )?;
+    refuse(
+        TableRule::NoOutputInterval,
+        Section::Label,
+        first_narrow(parts.tick_us(), parameters, parts.labels()),
+    )
+}
+
+/// The names to look up, where none is doubled.
+pub(crate) fn index_names(alloc: Global, parts: &Parts) -> Result<Names, BuildError>
+    ensures rule { Tells (names parts.now) result }
+    ensures buses { IfOk result (λ n. n.buses ≡ bus_names parts.now) }
+    ensures streams { IfOk result (λ n. n.streams ≡ stream_names parts.now) }
+    ensures routers { IfOk result (λ n. n.routers ≡ router_names parts.now) }
+    ensures outputs { IfOk result (λ n. n.outputs ≡ output_names parts.now) }
+    ensures labels { IfOk result (λ n. n.labels ≡ label_names parts.now) }
+{
+    let buses = NameIndex::of(alloc, Section::Bus, parts.buses())?;
+    let streams = NameIndex::of(alloc, Section::Stream, parts.streams())?;
+    let routers = NameIndex::of(alloc, Section::Router, parts.routers())?;
+    let outputs = NameIndex::of(alloc, Section::Output, parts.outputs())?;
+    with_labels(alloc, parts, (buses, streams), (routers, outputs))
+}
+
+/// The names of the labels beside those of the other tables.
+fn with_labels(
+    alloc: Global,
+    parts: &Parts,
+    inputs: (NameIndex, NameIndex),
+    senders: (NameIndex, NameIndex),
+) -> Result<Names, BuildError>
+    ensures rule { Tells (told TableRule.NameDoubled Section.Label (doubled_name (label_names parts.now))) result }
+    ensures buses { IfOk result (λ n. n.buses ≡ inputs.0) }
+    ensures streams { IfOk result (λ n. n.streams ≡ inputs.1) }
+    ensures routers { IfOk result (λ n. n.routers ≡ senders.0) }
+    ensures outputs { IfOk result (λ n. n.outputs ≡ senders.1) }
+    ensures labels { IfOk result (λ n. n.labels ≡ label_names parts.now) }
+{
+    let labels = NameIndex::of(alloc, Section::Label, parts.labels())?;
+    let (buses, streams) = inputs;
+    let (routers, outputs) = senders;
+    Ok(Names {
+        buses,
+        streams,
+        routers,
+        outputs,
+        labels,
+    })
+}
+
+/// What tables name of one another, given the first stream that overlaps with one before it and the first bus that no
+/// router visits, or two.
+fn check_references(
+    parts: &Parts,
+    parameters: &Parameters,
+    names: &Names,
+    overlap: Option<usize>,
+    unserved: Option<usize>,
+) -> Result<(), BuildError>
+    requires parameters { parameters.now ≡ parts.now.parameters }
+    requires buses { names.now.buses ≡ bus_names parts.now }
+    requires streams { names.now.streams ≡ stream_names parts.now }
+    requires overlap { overlap ≡ doubled overlap_of parts.now.streams }
+    requires unserved { unserved ≡ unserved_bus parts.now.routers parts.now.buses }
+    ensures { result ≡ references parts.now }
+{
+    refuse(
+        TableRule::ParameterAbsent,
+        Section::Stream,
+        first_unknown_stream(parameters, parts.streams()),
+    )?;
+    refuse(
+        TableRule::ParameterAbsent,
+        Section::Label,
+        first_unknown_label(parameters, parts.labels()),
+    )?;
+    refuse(TableRule::StreamsOverlap, Section::Stream, overlap)?;
+    refuse(
+        TableRule::NameAbsent,
+        Section::Router,
+        first_lost_router(&names.buses, parts.routers()),
+    )?;
+    refuse(
+        TableRule::NameAbsent,
+        Section::Label,
+        first_lost_label(&names.streams, parts.labels()),
+    )?;
+    refuse(TableRule::BusNotVisitedByOne, Section::Bus, unserved)?;
+    refuse(
+        TableRule::SourceDoubled,
+        Section::Label,
+        first_doubled_source(parts.labels()),
+    )
+}
+
+/// The label of the first entry at an offset that is taken.
+fn find_doubled_offset(alloc: Global, entries: &[PlacedEntry]) -> Result<Option<usize>, AllocError>
+    ensures { IfOk result (λ r. r ≡ first_doubled_offset entries.now) }
+{
+    let keys = offset_keys(alloc, entries)?;
+    let (_, found) = distinct(alloc, &keys)?;
+    Ok(label_at(entries, found))
+}
+
+/// The label of the entry of this number.
+fn label_at(entries: &[PlacedEntry], number: Option<usize>) -> Option<usize>
+    ensures { result ≡ option_map (λ e. e.label) (option_and_then (slice_get entries.now) number) }
+{
+    let entry = entries.get(number?)?;
+    Some(entry.label)
+}
+
+/// The first label with the label and SDI of one before it.
+fn find_doubled_label(alloc: Global, labels: &[LabelPart]) -> Result<Option<usize>, AllocError>
+    ensures { IfOk result (λ r. r ≡ first_doubled_label labels.now) }
+{
+    let keys = label_keys(alloc, labels)?;
+    let (_, found) = distinct(alloc, &keys)?;
+    Ok(found)
+}
+
+/// Formats, entries and budgets.
+pub(crate) fn check_schedules(
+    alloc: Global,
+    parts: &Parts,
+    parameters: &Parameters,
+    names: &Names,
+    entries: &[PlacedEntry],
+) -> Result<(), BuildError>
+    requires tick { 1 ≤ parts.now.tick_us }
+    requires parameters { parameters.now ≡ parts.now.parameters }
+    requires streams { names.now.streams ≡ stream_names parts.now }
+    requires entries { entries.now ≡ entries_from 0 parts.now.labels }
+    ensures { Tells (schedules parts.now) result }
+{
+    let offset = find_doubled_offset(alloc, entries).map_err(BuildError::Memory)?;
+    let label = find_doubled_label(alloc, parts.labels()).map_err(BuildError::Memory)?;
+    check_schedules_of(parts, parameters, names, offset, label)
+}
+
+/// The same, given the first label at a doubled offset, and the first that is doubled itself.
+fn check_schedules_of(
+    parts: &Parts,
+    parameters: &Parameters,
+    names: &Names,
+    offset: Option<usize>,
+    label: Option<usize>,
+) -> Result<(), BuildError>
+    requires tick { 1 ≤ parts.now.tick_us }
+    requires parameters { parameters.now ≡ parts.now.parameters }
+    requires streams { names.now.streams ≡ stream_names parts.now }
+    requires offset { offset ≡ first_doubled_offset (entries_from 0 parts.now.labels) }
+    requires label { label ≡ first_doubled_label parts.now.labels }
+    ensures { result ≡ schedules parts.now }
+{
+    refuse(
+        TableRule::FormatsDiffer,
+        Section::Label,
+        first_different(parameters, parts.streams(), &names.streams, parts.labels()),
+    )?;
+    refuse(
+        TableRule::OffsetPastFrame,
+        Section::Label,
+        first_late(parts.outputs(), parts.labels()),
+    )?;
+    refuse(TableRule::OffsetDoubled, Section::Label, offset)?;
+    refuse(TableRule::LabelDoubled, Section::Label, label)?;
+    refuse(
+        TableRule::RouterCannotKeepPace,
+        Section::Router,
+        first_unable_router(parts.routers()),
+    )?;
+    refuse(
+        TableRule::OutputCannotKeepPace,
+        Section::Output,
+        first_unable_output(parts.tick_us(), parts.outputs()),
+    )
+}
+
+/// The rules up to T12: the entries in the order of the text, and the parameters to look up.
+pub(crate) fn check_first(
+    alloc: Global,
+    parts: &Parts,
+) -> Result<(Vec<PlacedEntry>, Parameters), BuildError>
+    ensures rule { Tells (first_rules parts.now) result }
+    ensures entries { IfOk result (λ r. r.0.items ≡ entries_from 0 parts.now.labels) }
+    ensures parameters { IfOk result (λ r. r.1 ≡ parts.now.parameters) }
+{
+    check_shape(alloc, parts)?;
+    let entries = place_all(alloc, parts).map_err(BuildError::Memory)?;
+    check_totals(alloc, parts, &entries)?;
+    let parameters = check_parameters(alloc, parts)?;
+    Ok((entries, parameters))
+}
+
+/// The rules on parameters, which are then to be looked up: all that are doubled before the first whose least interval is
+/// over its greatest, so that the dictionary refuses none.
+fn check_parameters(alloc: Global, parts: &Parts) -> Result<Parameters, BuildError>
+    requires shape { shape parts.now ≡ Ok tt }
+    ensures rule { Tells (quantities parts.now) result }
+    ensures parameters { IfOk result (λ p. p ≡ parts.now.parameters) }
+{
+    let found = first_doubled_parameter(alloc, parts.parameters()).map_err(BuildError::Memory)?;
+    refuse(TableRule::ParameterDoubled, Section::Parameter, found)?;
+    refuse(
+        TableRule::IntervalReversed,
+        Section::Parameter,
+        first_inverted(parts.parameters()),
+    )?;
+    keep_parameters(alloc, parts)
+}
+
+/// The parameters to look up, where no stream and no label is left without an interval.
+fn keep_parameters(alloc: Global, parts: &Parts) -> Result<Parameters, BuildError>
+    requires shape { shape parts.now ≡ Ok tt }
+    requires once { doubled same_parameter (map parameter_key parts.now.parameters) ≡ None }
+    requires ordered { first_inverted parts.now.parameters ≡ None }
+    ensures rule { Tells (then_told (told TableRule.MinimumBelowOneTick Section.Stream (first_quick parts.now.tick_us parts.now.parameters parts.now.streams)) (told TableRule.NoOutputInterval Section.Label (first_narrow parts.now.tick_us parts.now.parameters parts.now.labels))) result }
+    ensures parameters { IfOk result (λ p. p ≡ parts.now.parameters) }
+{
+    let parameters = Parameters::of(alloc, parts.parameters()).map_err(BuildError::Memory)?;
+    check_intervals(parts, &parameters)?;
+    Ok(parameters)
+}
+
+/// The rules from T13 on: the names to look up.
+pub(crate) fn check_later(
+    alloc: Global,
+    parts: &Parts,
+    parameters: &Parameters,
+    entries: &[PlacedEntry],
+) -> Result<Names, BuildError>
+    requires tick { 1 ≤ parts.now.tick_us }
+    requires parameters { parameters.now ≡ parts.now.parameters }
+    requires entries { entries.now ≡ entries_from 0 parts.now.labels }
+    ensures rule { Tells (later_rules parts.now) result }
+    ensures buses { IfOk result (λ n. n.buses ≡ bus_names parts.now) }
+    ensures streams { IfOk result (λ n. n.streams ≡ stream_names parts.now) }
+    ensures routers { IfOk result (λ n. n.routers ≡ router_names parts.now) }
+    ensures outputs { IfOk result (λ n. n.outputs ≡ output_names parts.now) }
+    ensures labels { IfOk result (λ n. n.labels ≡ label_names parts.now) }
+{
+    let names = index_names(alloc, parts)?;
+    pass_named(alloc, parts, parameters, names, entries)
+}
+
+/// The names, where the rules from T14 on are kept.
+fn pass_named(
+    alloc: Global,
+    parts: &Parts,
+    parameters: &Parameters,
+    names: Names,
+    entries: &[PlacedEntry],
+) -> Result<Names, BuildError>
+    requires tick { 1 ≤ parts.now.tick_us }
+    requires parameters { parameters.now ≡ parts.now.parameters }
+    requires buses { names.buses ≡ bus_names parts.now }
+    requires streams { names.streams ≡ stream_names parts.now }
+    requires entries { entries.now ≡ entries_from 0 parts.now.labels }
+    ensures rule { Tells (then_told (references parts.now) (schedules parts.now)) result }
+    ensures same { IfOk result (λ n. n ≡ names) }
+{
+    check_named(alloc, parts, parameters, &names, entries)?;
+    Ok(names)
+}
+
+/// The rules from T14 on.
+fn check_named(
+    alloc: Global,
+    parts: &Parts,
+    parameters: &Parameters,
+    names: &Names,
+    entries: &[PlacedEntry],
+) -> Result<(), BuildError>
+    requires tick { 1 ≤ parts.now.tick_us }
+    requires parameters { parameters.now ≡ parts.now.parameters }
+    requires buses { names.now.buses ≡ bus_names parts.now }
+    requires streams { names.now.streams ≡ stream_names parts.now }
+    requires entries { entries.now ≡ entries_from 0 parts.now.labels }
+    ensures { Tells (then_told (references parts.now) (schedules parts.now)) result }
+{
+    tell_references(alloc, parts, parameters, names)?;
+    check_schedules(alloc, parts, parameters, names, entries)
+}
+
+/// What tables name of one another, as a verdict.
+fn tell_references(
+    alloc: Global,
+    parts: &Parts,
+    parameters: &Parameters,
+    names: &Names,
+) -> Result<(), BuildError>
+    requires parameters { parameters.now ≡ parts.now.parameters }
+    requires buses { names.now.buses ≡ bus_names parts.now }
+    requires streams { names.now.streams ≡ stream_names parts.now }
+    ensures { Tells (references parts.now) result }
+{
+    let overlap = first_overlap(alloc, parts.streams()).map_err(BuildError::Memory)?;
+    let unserved = first_unserved(alloc, parts.routers(), parts.buses()).map_err(
+        BuildError::Memory,
+    )?;
+    check_references(parts, parameters, names, overlap, unserved)
+}

@@ -1,0 +1,39 @@
+use dc_word::{Label, Sdi};
+
+/// What must differ between the labels of all outputs.
+#[derive(Clone, Copy, Debug, PartialEq, Eq, Hash)]
+pub struct LabelKey {
+    pub output: usize,
+    pub label: Label,
+    pub sdi: Sdi,
+}
+
+/// What must differ between the entries of all outputs.
+#[derive(Clone, Copy, Debug, PartialEq, Eq, Hash)]
+pub struct PlacedOffset {
+    pub output: usize,
+    pub offset: u32,
+}
+
+/// An entry with its output.
+#[derive(Clone, Copy, Debug, PartialEq)]
+pub struct PlacedEntry {
+    pub output: usize,
+    pub offset: u32,
+    pub label: usize,
+}
+
+/// A label on a bus.
+#[derive(Clone, Copy, Debug, PartialEq, Eq, Hash)]
+pub struct BusLabel {
+    pub bus: usize,
+    pub label: Label,
+}
+
+/// A label on a bus with one SDI, or with any.
+#[derive(Clone, Copy, Debug, PartialEq, Eq, Hash)]
+pub struct Declared {
+    pub bus: usize,
+    pub label: Label,
+    pub sdi: Option<Sdi>,
+}

@@ -1,0 +1,37 @@
+//! What is known of a document that keeps all rules.
+ghost use Rattle.std.specs.Prelude.{IfOk};
+ghost use Rattle.dc_rules.specs.Rules.{Tells, verdict_of};
+ghost use Rattle.dc_rules.specs.Obeys.{Obeys};
+ghost use Rattle.dc_rules.specs.Passed.{ArePassed};
+
+use crate::index::{Names, Parameters};
+use crate::judge::{check_first, check_later};
+use crate::keys::PlacedEntry;
+use dc_parts::{BuildError, Parts};
+use std::alloc::Global;
+
+/// What a document that keeps all rules is looked up by: the entries of all outputs in the order of the text, its
+/// parameters and its names.
+#[derive(Drop)]
+pub struct Passed {
+    pub entries: Vec<PlacedEntry>,
+    pub parameters: Parameters,
+    pub names: Names,
+}
+
+impl Passed {
+    /// What these parts are looked up by, where no rule is broken, else the first broken rule; or memory is out.
+    pub fn of(alloc: Global, parts: &Parts) -> Result<Passed, BuildError>
+        ensures verdict { Tells (verdict_of parts.now) result }
+        ensures obeys { IfOk result (λ p. Obeys parts.now) }
+        ensures passed { IfOk result (λ p. ArePassed parts.now p) }
+    {
+        let (entries, parameters) = check_first(alloc, parts)?;
+        let names = check_later(alloc, parts, &parameters, &entries)?;
+        Ok(Passed {
+            entries,
+            parameters,
+            names,
+        })
+    }
+}

@@ -1,7 +1,0 @@
-use Rattle.std.proofs.Common.{ap, ◌∙◌}
-use Rattle.dc_tables.specs.Declarations.{same_place}
-use Rattle.indexmap.specs.IndexSet.{insert_key}
-use Rattle.dc_tables.proofs.overlaps.Declarations.add.Goals as goal
-
-pub returns-clause-labels : goal.returns-clause-labels
-returns-clause-labels c = c.in_ok-insert.ensures.keys ∙ ap (λ k. insert_key same_place c.args.self.now.labels.keys k) c.place.ensures

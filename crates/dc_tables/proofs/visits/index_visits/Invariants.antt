@@ -1,8 +1,0 @@
-use Rattle.std.proofs.Common.{◌≡◌, ℕ, List, take}
-use Rattle.std.specs.Str.{bytes_eq}
-use Rattle.indexmap.specs.IndexMap.{get}
-use Rattle.dc_tables.specs.Visits.{visitors_of}
-use Rattle.dc_tables.proofs.visits.index_visits.Given as goal
-
-abbrev pub invariant-loop-number : goal.invariant-loop-number
-invariant-loop-number l = (n : List ℕ) → get bytes_eq l.visits.known n ≡ visitors_of (take l.number l.routers) n

@@ -1,0 +1,2 @@
+-- Lemmas that laws and crates above cite, one file a topic.
+pub mod GapLaws

@@ -1,0 +1,85 @@
+#!/usr/bin/env python3
+"""Tests that each edit of must-fail/ and of edits/ still applies, in a second and with no proof.
+
+usage: scripts/edits_apply.py [CRATE..]
+
+An edit is a file with a line 'file: src/lib.rt' and then pairs of lines 'old: TEXT' and 'new: TEXT'. It applies where
+each old text stands exactly once in that file; further pairs apply to what the earlier ones made. Told too: a pair that
+changes nothing, an edit that stands in both places, a file that is no edit, an edit of no crate, and a crate with more
+edits in must-fail/ than the gate is to try.
+"""
+import os
+import re
+import sys
+
+TOP = os.path.dirname(os.path.dirname(os.path.abspath(__file__)))
+MOST, MOST_OF = 8, {"dc_core": 12, "dc_check": 12}
+NAME = re.compile(r"[A-Za-z0-9_-][A-Za-z0-9_.-]*\.edit")
+
+
+def names_in(folder):
+    return sorted(os.listdir(folder)) if os.path.isdir(folder) else []
+
+
+def refusal(edit, crate):
+    """Returns why the edit cannot be applied to the crate, or nothing."""
+    texts, path, old, pairs = {}, None, None, 0
+    with open(edit, encoding="utf-8") as it:
+        lines = it.read().split("\n")
+    for line in lines:
+        if line.startswith("file: "):
+            path = line[len("file: ") :].strip()
+            if os.path.normpath(path) != path or not path.startswith(("src/", "specs/", "proofs/")):
+                return f"{path} is no file below src/, specs/ or proofs/"
+        elif line.startswith("old: "):
+            if old is not None:
+                return f"no new text for: {old}"
+            old = line[len("old: ") :]
+        elif line.startswith("new:"):
+            new = re.sub(r"\A ", "", line[len("new:") :])
+            if not path or not old:
+                return "a new text stands before its file or its old text"
+            if path not in texts:
+                try:
+                    with open(f"{crate}/{path}", encoding="utf-8") as it:
+                        texts[path] = it.read()
+                except OSError:
+                    return f"there is no {path}"
+            found = texts[path].count(old)
+            if found != 1:
+                return f"in {path}, {found} times and not once: {old}"
+            if old == new:
+                return f"old and new text are the same: {old}"
+            texts[path] = texts[path].replace(old, new)
+            old, pairs = None, pairs + 1
+    if old is not None:
+        return f"no new text for: {old}"
+    return None if pairs else "it has no pair of an old and a new text"
+
+
+def main(wanted):
+    crates = [it for it in names_in(f"{TOP}/crates") if os.path.isdir(f"{TOP}/crates/{it}/src")]
+    told, tried = [], 0
+    told += [f"there is no crate {it}" for it in wanted if it not in crates]
+    told += [f"edits/{it}: there is no crate of this name" for it in names_in(f"{TOP}/edits") if it not in crates and not wanted]
+    for crate in [it for it in crates if it in wanted or not wanted]:
+        folder = f"{TOP}/crates/{crate}"
+        places = {f"crates/{crate}/must-fail": f"{folder}/must-fail", f"edits/{crate}": f"{TOP}/edits/{crate}"}
+        gate, outside = (names_in(it) for it in places.values())
+        most = MOST_OF.get(crate, MOST)
+        if len(gate) > most:
+            told.append(f"crates/{crate}/must-fail: {len(gate)} edits, and the gate is to try at most {most}")
+        told += [f"edits/{crate}/{it}: it stands in must-fail/ too" for it in outside if it in gate]
+        for place, where in places.items():
+            for name in names_in(where):
+                tried += 1
+                why = refusal(f"{where}/{name}", folder) if NAME.fullmatch(name) else "no edit: its name does not end in .edit"
+                told += [f"{place}/{name}: {why}"] if why else []
+    for line in told:
+        print(line)
+    print(f"{tried} edits read, {len(told)} faults")
+    return 1 if told else 0
+
+
+if __name__ == "__main__":
+    sys.exit(main(sys.argv[1:]))
