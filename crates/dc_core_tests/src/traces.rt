@@ -263,13 +263,13 @@ fn a_source_may_fail_at_any_pull(rt: HostRuntime) -> Result<(), Fail> {
 }
 
 #[test]
-fn a_fault_is_told_by_its_code_and_line(rt: HostRuntime) -> Result<(), Fail> {
+fn a_fault_says_what_is_wrong_and_where(rt: HostRuntime) -> Result<(), Fail> {
     let fault = TraceFault {
         rule: LineRule::LineNotEnded,
         line: 4,
     };
     let text = format!(in rt.alloc(); "{fault}")?;
-    assert_eq!(rt; text.as_str(), "E6 at line 4");
+    assert_eq!(rt; text.as_str(), "the input ends inside a line (at line 4)");
     Ok(())
 }
 
