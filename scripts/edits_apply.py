@@ -4,7 +4,7 @@
 usage: scripts/edits_apply.py [CRATE..]
 
 An edit is a file with a line 'file: src/lib.rt' and then pairs of lines 'old: TEXT' and 'new: TEXT'. It applies where
-each old text stands exactly once in that file; further pairs apply to what the earlier ones made. Told too: a pair that
+each old text stands exactly once in that file; further pairs apply to what the earlier ones made. Reported too: a pair that
 changes nothing, an edit that stands in both places, a file that is no edit, an edit of no crate, and a crate with more
 edits in must-fail/ than the gate is to try.
 """
@@ -59,26 +59,26 @@ def refusal(edit, crate):
 
 def main(wanted):
     crates = [it for it in names_in(f"{TOP}/crates") if os.path.isdir(f"{TOP}/crates/{it}/src")]
-    told, tried = [], 0
-    told += [f"there is no crate {it}" for it in wanted if it not in crates]
-    told += [f"edits/{it}: there is no crate of this name" for it in names_in(f"{TOP}/edits") if it not in crates and not wanted]
+    reported, tried = [], 0
+    reported += [f"there is no crate {it}" for it in wanted if it not in crates]
+    reported += [f"edits/{it}: there is no crate of this name" for it in names_in(f"{TOP}/edits") if it not in crates and not wanted]
     for crate in [it for it in crates if it in wanted or not wanted]:
         folder = f"{TOP}/crates/{crate}"
         places = {f"crates/{crate}/must-fail": f"{folder}/must-fail", f"edits/{crate}": f"{TOP}/edits/{crate}"}
         gate, outside = (names_in(it) for it in places.values())
         most = MOST_OF.get(crate, MOST)
         if len(gate) > most:
-            told.append(f"crates/{crate}/must-fail: {len(gate)} edits, and the gate is to try at most {most}")
-        told += [f"edits/{crate}/{it}: it stands in must-fail/ too" for it in outside if it in gate]
+            reported.append(f"crates/{crate}/must-fail: {len(gate)} edits, and the gate is to try at most {most}")
+        reported += [f"edits/{crate}/{it}: it stands in must-fail/ too" for it in outside if it in gate]
         for place, where in places.items():
             for name in names_in(where):
                 tried += 1
                 why = refusal(f"{where}/{name}", folder) if NAME.fullmatch(name) else "no edit: its name does not end in .edit"
-                told += [f"{place}/{name}: {why}"] if why else []
-    for line in told:
+                reported += [f"{place}/{name}: {why}"] if why else []
+    for line in reported:
         print(line)
-    print(f"{tried} edits read, {len(told)} faults")
-    return 1 if told else 0
+    print(f"{tried} edits read, {len(reported)} faults")
+    return 1 if reported else 0
 
 
 if __name__ == "__main__":

@@ -2,12 +2,12 @@
 use Rattle.std.proofs.Common.{◌≡◌, ◌≢◌, ℕ, ◌+◌, ◌-◌, ◌<◌, ◌≤◌, ◌++◌, List, [], ◌∷◌, length, refl, sym, ◌∙◌, ap, subst, arith, true, false, codes, Option, Some, None, IfErr, IfOk, IfSome, Result, Ok, Err, inl, inr}
 use Rattle.std.specs.Prelude.{nat_le, nat_lt}
 use Rattle.std.proofs.lemmas.Bool.{lt-ltb}
-use Rattle.dc_cert.specs.Claims.{Claims}
+use Rattle.dc_cert.specs.NamedRows.{NamedRows}
 use Rattle.dc_cert.specs.Faults.{fault_text}
 use Rattle.dc_cert.specs.Reading.{certificate_of, document_of}
 use Rattle.dc_cert.specs.declared.fault.Fault.{Fault}
 use Rattle.dc_cert.specs.declared.fault.CertRule.TheVariants.{NotJson}
-use Rattle.dc_cert.specs.declared.fault.Place.TheVariants.{Top}
+use Rattle.dc_cert.specs.declared.fault.TextPlace.TheVariants.{Top}
 use Rattle.dc_check.specs.Accepts.{Accepts}
 use Rattle.dc_check.specs.Certified.{AcceptedKeepTheirClaims}
 use Rattle.dc_check.specs.Verdict.{verdict_of}
@@ -15,8 +15,8 @@ use Rattle.dc_parts.specs.FaultText.{table_fault_text}
 use Rattle.dc_tables.specs.TableRows.{TableRows}
 use Rattle.dc_parts.specs.declared.fault.TableFault.{TableFault}
 use Rattle.dc_toml.specs.Reading.{tables_of}
-use Rattle.dc_toml.specs.Told.{AreTablesOf}
-use Rattle.dc_app.specs.Answer.{Answer, Any, Raises, Reports, Told, failed_by, one_line, sink_failures_of, status_of}
+use Rattle.dc_toml.specs.Reported.{AreTablesOf}
+use Rattle.dc_app.specs.Answer.{Answer, Any, Raises, Reports, Reported, failed_by, one_line, sink_failures_of, status_of}
 use Rattle.dc_parts.specs.declared.fault.BuildError.TheVariants.{Refused as RefusedTables}
 use Rattle.dc_app.specs.Check.{AreCertified, Certifies, CheckAnswers, Judges, JudgesTexts, ReportsCheck, accepted_text, judged_answer}
 use Rattle.dc_app.specs.Inputs.{Loads}
@@ -28,7 +28,7 @@ use Rattle.dc_app.proofs.Loading.{over}
 -- ---- a certificate for tables
 
 -- it is accepted
-pub accepted_judged : (t : TableRows) (claims : Claims) (line : List ℕ) → AcceptedKeepTheirClaims t → Accepts t claims → verdict_of t claims ≡ None → line ≡ accepted_text t
+pub accepted_judged : (t : TableRows) (claims : NamedRows) (line : List ℕ) → AcceptedKeepTheirClaims t → Accepts t claims → verdict_of t claims ≡ None → line ≡ accepted_text t
     → Judges t (Ok claims) line (Ok 0)
 accepted_judged t claims line keep ok none is =
     (rw (none, is) refl, (λ zero_is. record { claims = claims; read = refl; accepted = ok; kept = keep claims ok }))
@@ -50,25 +50,25 @@ long_judged t (Some text) line fault long at is = (rw (long_text text long, is, 
 
 judged_texts : (t : TableRows) (rows text line : List ℕ) (result : Result ℕ Failure) → AreTablesOf (tables_of rows) t → Judges t (certificate_of text) line result
     → JudgesTexts rows text line result
-judged_texts t rows text line (Ok status) told (is, certified) = ((Ok t, told, is), (λ e. record { rows = t; read = told; certified = certified e }))
-judged_texts t rows text line (Err Source) told h = tt
-judged_texts t rows text line (Err Memory) told h = tt
-judged_texts t rows text line (Err Sink) told h = h
+judged_texts t rows text line (Ok status) reported (is, certified) = ((Ok t, reported, is), (λ e. record { rows = t; read = reported; certified = certified e }))
+judged_texts t rows text line (Err Source) reported h = tt
+judged_texts t rows text line (Err Memory) reported h = tt
+judged_texts t rows text line (Err Sink) reported h = h
 
 -- the tables were read, and the certificate was judged
 pub both_judged : (t : TableRows) (r s : Option (List ℕ)) (rows text line : List ℕ) (result : Result ℕ Failure) → r ≡ Some rows → s ≡ Some text
     → IfSome r (λ x. Loads (tables_of x) (Ok t)) → IfSome s (λ x. Judges t (certificate_of x) line result) → JudgesTexts rows text line result
 both_judged t r s rows text line result e f loads judges =
-    let told = rw e at loads in
+    let reported = rw e at loads in
     let judged = rw f at judges in
-    judged_texts t rows text line result told judged
+    judged_texts t rows text line result reported judged
 
 -- the tables were refused
 pub refused_judged : (r : Option (List ℕ)) (rows text line : List ℕ) (fault printed : TableFault) → r ≡ Some rows → IfSome r (λ x. Loads (tables_of x) (Err (Refused fault)))
     → printed ≡ fault → line ≡ codes "unreadable " ++ table_fault_text printed → JudgesTexts rows text line (Ok 2)
 refused_judged r rows text line fault printed e loads same is =
-    let told = rw e at loads in
-    ((Err (RefusedTables fault), told, ap (λ l. one_line l 2) (is ∙ ap (λ f. codes "unreadable " ++ table_fault_text f) same)), (λ e. absurd (omega arith)))
+    let reported = rw e at loads in
+    ((Err (RefusedTables fault), reported, ap (λ l. one_line l 2) (is ∙ ap (λ f. codes "unreadable " ++ table_fault_text f) same)), (λ e. absurd (omega arith)))
 
 -- failures of both sources
 pub both_raised : (a a' b b' : ℕ) (result : Result ℕ Failure) → a' ≡ a + 0 → Raises b b' result → Raises (a + b) (a' + b') result
@@ -86,53 +86,53 @@ memory_not_sink : Memory ≢ Sink
 memory_not_sink e = cc
 
 module _ (line : List ℕ) (old new : Option (List ℕ)) (a a' k mid k' : ℕ) where
-  -- what was judged was written, and what failed was told
+  -- what was judged was written, and what failed was reported
   pub tells : (Is : Answer → Type 0) (judged ended : Result ℕ Failure) → Is (judged_answer line judged) → Raises a a' judged → mid ≡ k + sink_failures_of ended → mid ≤ k'
       → IfOk ended (λ status. status < 3) → IfErr ended (λ e. e ≢ Sink → judged ≡ Err e)
-      → Reports old new (failed_by ended) (k' - k) (judged_answer line judged) (status_of ended) → Told Is old new a a' k k' (status_of ended)
-  tells Is judged (Ok status) is raised counted rise low other told =
+      → Reports old new (failed_by ended) (k' - k) (judged_answer line judged) (status_of ended) → Reported Is old new a a' k k' (status_of ended)
+  tells Is judged (Ok status) is raised counted rise low other reported =
       record {
         answer = judged_answer line judged;
         failure = Sink;
         is = is;
-        reports = told;
+        reports = reported;
         counted = λ e. absurd (omega arith);
         memory = λ e. absurd (omega arith);
       }
-  tells Is judged (Err Source) is raised counted rise low other told =
+  tells Is judged (Err Source) is raised counted rise low other reported =
       record {
         answer = judged_answer line judged;
         failure = Source;
         is = is;
-        reports = told;
+        reports = reported;
         counted = λ e. rw (other source_not_sink) at raised;
         memory = λ e f. absurd (cc);
       }
-  tells Is judged (Err Sink) is raised counted rise low other told =
+  tells Is judged (Err Sink) is raised counted rise low other reported =
       record {
         answer = judged_answer line judged;
         failure = Sink;
         is = is;
-        reports = told;
+        reports = reported;
         counted = λ e. omega arith;
         memory = λ e f. absurd (cc);
       }
-  tells Is judged (Err Memory) is raised counted rise low other told =
+  tells Is judged (Err Memory) is raised counted rise low other reported =
       record {
         answer = judged_answer line judged;
         failure = Memory;
         is = is;
-        reports = told;
+        reports = reported;
         counted = λ e. rw (other memory_not_sink) at raised;
         memory = λ e f. rw (other memory_not_sink) refl;
       }
 
-  pub check_told : (judged ended : Result ℕ Failure) (status : ℕ) → Raises a a' judged → mid ≡ k + sink_failures_of ended → mid ≤ k' → IfOk ended (λ status. status < 3)
+  pub check_reported : (judged ended : Result ℕ Failure) (status : ℕ) → Raises a a' judged → mid ≡ k + sink_failures_of ended → mid ≤ k' → IfOk ended (λ status. status < 3)
       → IfErr ended (λ e. e ≢ Sink → judged ≡ Err e) → status ≡ status_of ended → Reports old new (failed_by ended) (k' - k) (judged_answer line judged) status
-      → Told Any old new a a' k k' status
-  check_told judged ended status raised counted rise low other is told =
+      → Reported Any old new a a' k k' status
+  check_reported judged ended status raised counted rise low other is reported =
       let P : ℕ → Type 0 = λ n. Reports old new (failed_by ended) (k' - k) (judged_answer line judged) n in
-      subst (λ n. Told Any old new a a' k k' n) (sym is) (tells Any judged ended tt raised counted rise low other (subst P is told))
+      subst (λ n. Reported Any old new a a' k k' n) (sym is) (tells Any judged ended tt raised counted rise low other (subst P is reported))
 
 module _ (rows text line : List ℕ) (old new : Option (List ℕ)) (a a' k mid k' : ℕ) where
   -- a line or none, which is not there whole
@@ -153,10 +153,10 @@ module _ (rows text line : List ℕ) (old new : Option (List ℕ)) (a a' k mid k
       → IfOk ended (λ status. status < 3) → IfOk ended (λ status. judged ≡ Ok status) → IfErr ended (λ e. e ≢ Sink → judged ≡ Err e) → status ≡ status_of ended
       → Reports old new (failed_by ended) (k' - k) (judged_answer line judged) status
       → ReportsCheck rows text old new a a' k k' status
-  check_reports judged ended status says raised counted rise low same other is told =
+  check_reports judged ended status says raised counted rise low same other is reported =
       let P : ℕ → Type 0 = λ n. Reports old new (failed_by ended) (k' - k) (judged_answer line judged) n in
       let Q : ℕ → Type 0 = λ n. ReportsCheck rows text old new a a' k k' n in
       subst Q (sym is) (record {
-        told = tells line old new a a' k mid k' (CheckAnswers rows text (nat_lt (status_of ended) 3)) judged ended (answers judged ended says low same) raised counted rise low other (subst P is told);
+        reported = tells line old new a a' k mid k' (CheckAnswers rows text (nat_lt (status_of ended) 3)) judged ended (answers judged ended says low same) raised counted rise low other (subst P is reported);
         certified = certified judged ended says same;
       })

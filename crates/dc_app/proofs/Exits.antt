@@ -7,10 +7,10 @@ use Rattle.dc_word.specs.declared.format.Format.{Format}
 use Rattle.dc_device.specs.Bytes.{AppendsFront, Gathered, Writes}
 use Rattle.dc_device.specs.Device.{Settles, failures_of}
 use Rattle.dc_device.specs.Lines.{Held, NoFeed, ReadsOn, spelled}
-use Rattle.dc_device.specs.declared.reader.Part.TheVariants.{Long, Whole}
+use Rattle.dc_device.specs.declared.reader.LineEnd.TheVariants.{Long, Whole}
 use Rattle.dc_device.specs.lemmas.Known.{front_after, front_more}
 use Rattle.dc_device.specs.lemmas.LineLemmas.{NoFeed-append, spelled-append}
-use Rattle.dc_app.specs.Answer.{Answer, Asks, Causes, Ends, EndsSome, IsCounted, LeavesSink, Raises, Reports, SettlesBy, Told, cut_short, after_all, failed_by, failure_text, fault, nothing, sink_failures_of, status_of}
+use Rattle.dc_app.specs.Answer.{Answer, Asks, Causes, Ends, EndsSome, IsCounted, LeavesSink, Raises, Reports, SettlesBy, Reported, cut_short, after_all, failed_by, failure_text, fault, nothing, sink_failures_of, status_of}
 use Rattle.dc_app.specs.Decode.{answer_end, answer_text, answer_word}
 use Rattle.dc_event.specs.WordText.{word_of}
 use Rattle.dc_app.specs.Printed.{line_of}
@@ -19,13 +19,13 @@ use Rattle.dc_app.specs.declared.answer.Failure.TheVariants.{Source, Sink, Memor
 use Rattle.dc_app.proofs.LineAnswers.{answer_cut, answer_long, answer_whole}
 use Rattle.dc_app.proofs.Says.{Says, waits}
 
--- a last write behind what was gathered
+-- a last write after what was gathered
 pub writes_after : {T E : Type 0} (r s t : Option (List ℕ)) (a b xs : List ℕ) (result : Result T E) → Gathered r a s b xs → Writes s t b result
     → Writes r t (a ++ xs) result
 writes_after r s t a b xs (Ok x) (front, p, whole) q = subst (Appends r t) whole (Appends-trans r s t front b p q)
 writes_after r s t a b xs (Err e) (front, p, whole) q = subst (AppendsFront r t) whole (front_after r s t front b p q)
 
--- joined lines, behind what waits
+-- joined lines, after what waits
 joined : (front waiting : List ℕ) (done more : List (List ℕ)) → front ++ waiting ≡ spelled done → front ++ (waiting ++ spelled more) ≡ spelled (done ++ more)
 joined front waiting done more e =
     sym (append_assoc front waiting (spelled more)) ∙ ap (λ l. l ++ spelled more) e ∙ sym (spelled-append done more)
@@ -110,7 +110,7 @@ at_end None s xs e p q = cc
 at_end (Some ys) None xs e p q = absurd p
 at_end (Some ys) (Some zs) xs e p q = let f : xs ≡ ys = cc in f ∙ sym p ∙ q
 
--- the text ended behind the bytes of a line
+-- the text ended after the bytes of a line
 pub cut_ends : (format : Format) (line line' : List ℕ) (old new : Held) (r s : Option (List ℕ)) (bytes : List ℕ) (number : ℕ) (a b c : Option (List ℕ)) (waiting : List ℕ) (result : Result ℕ Failure)
     → NoFeed line → ReadsOn old new line line' None → length line' ≤ 64 → Asks r s bytes a b waiting (Ok false) → Ends b [] c (answer_end number line') result
     → (rest : List ℕ) → prepend_known (line ++ old.bytes) r ≡ Some rest → Ends a waiting c (answer_text format (old.room + length line) number rest) result
@@ -121,7 +121,7 @@ cut_ends format line line' old new r s bytes number a b c waiting result plain (
     let plain' : NoFeed line' = subst NoFeed (sym e) (NoFeed-append line old.bytes plain more) in
     rw (whole, answer_cut format (old.room + length line) number line' plain' short fits) (ends_pushed a b c waiting (answer_end number line') result pushed ends)
 
--- a whole line: its answer, and what is left behind it
+-- a whole line: its answer, and what is left after it
 pub whole_line : (format : Format) (line line' : List ℕ) (old new : Held) (r : Option (List ℕ)) (number : ℕ)
     → NoFeed line → ReadsOn old new line line' (Some Whole) → length line' ≤ 64
     → (rest : List ℕ) → prepend_known (line ++ old.bytes) r ≡ Some rest
@@ -162,7 +162,7 @@ write_ends format line line' old new r number word a b waiting failure plain rea
 after_twice : (xs ys : List (List ℕ)) (answer : Answer) → after_all xs (after_all ys answer) ≡ after_all (xs ++ ys) answer
 after_twice xs ys answer = ap (λ ls. let r : Answer = record { lines = ls; status = answer.status } in r) (sym (append_assoc xs ys answer.lines))
 
--- more lines behind those that were said
+-- more lines after those that were said
 pub gathered_lines : (a b c : Option (List ℕ)) (waiting waiting' : List ℕ) (done more : List (List ℕ)) → Gathered a [] b waiting (spelled done)
     → Gathered b waiting c waiting' (spelled more) → Gathered a [] c waiting' (spelled (done ++ more))
 gathered_lines a b c waiting waiting' done lines (front, p, e) (more, q, f) = (
@@ -335,11 +335,11 @@ done_left before sink last hidden same seen = record { seen = λ _. seen; last =
 pub failed_left : (before sink : ℕ) (last hidden : Bool) → sink ≡ before + 1 → last ≡ true → LeavesSink before sink last hidden
 failed_left before sink last hidden more is = record { seen = λ same. absurd (omega arith); last = λ _. (more, is) }
 
--- what failed was told, or not
-pub told_left : {T E : Type 0} (result : Result T E) (before sink sink' : ℕ) (last hidden : Bool) → sink ≡ before → sink' ≡ sink + failures_of result → Settles result last hidden
+-- what failed was reported, or not
+pub reported_left : {T E : Type 0} (result : Result T E) (before sink sink' : ℕ) (last hidden : Bool) → sink ≡ before → sink' ≡ sink + failures_of result → Settles result last hidden
     → LeavesSink before sink' last hidden
-told_left (Ok x) before sink sink' last hidden same count settled = done_left before sink' last hidden (omega arith) settled
-told_left (Err e) before sink sink' last hidden same count settled = failed_left before sink' last hidden (omega arith) settled
+reported_left (Ok x) before sink sink' last hidden same count settled = done_left before sink' last hidden (omega arith) settled
+reported_left (Err e) before sink sink' last hidden same count settled = failed_left before sink' last hidden (omega arith) settled
 
 -- a result of the source or of memory has counted no failure of the sink
 pub no_sink_failure : (ended : Result ℕ Failure) (failure given : Failure) (before sink : ℕ) → ended ≡ Err given → given ≡ failure → failure ≢ Sink → sink ≡ before + sink_failures_of ended → sink ≡ before
@@ -347,7 +347,7 @@ no_sink_failure ended Source given before sink is this other count = let n = rw 
 no_sink_failure ended Memory given before sink is this other count = let n = rw (is, this) at count in omega (arith, n)
 no_sink_failure ended Sink given before sink is this other count = absurd (other refl)
 
--- ---- what is told
+-- ---- what is reported
 
 -- something was said, and the end
 pub some_ends : (a b c : Option (List ℕ)) (waiting : List ℕ) (done : List (List ℕ)) (last : Answer) (result : Result ℕ Failure) → Gathered a [] b waiting (spelled done)
@@ -370,13 +370,13 @@ no_lines : (ended : Result ℕ Failure) (answer : Answer) → (ended ≡ Err Mem
 no_lines (Ok status) answer none low is = absurd (cc)
 no_lines (Err failure) answer none low is = none (ap (λ f. let r : Result ℕ Failure = Err f in r) is)
 
-told_of : (Is : Answer → Type 0) (old mid new : Option (List ℕ)) (ended : Result ℕ Failure) (answer : Answer) (source source' sink sink' sink'' status : ℕ) → Is answer
+reported_of : (Is : Answer → Type 0) (old mid new : Option (List ℕ)) (ended : Result ℕ Failure) (answer : Answer) (source source' sink sink' sink'' status : ℕ) → Is answer
     → (ended ≡ Err Memory → answer.lines ≡ []) → Ends old [] mid answer ended → IfOk ended (λ status. status < 3) → Raises source source' ended → sink' ≡ sink + sink_failures_of ended
     → sink' ≤ sink'' → status ≡ status_of ended
     → ((old : Option (List ℕ)) (answer : Answer) (before : ℕ) → IfOk ended (λ status. status < 3) → sink' ≡ before + sink_failures_of ended → Ends old [] mid answer ended
     → Reports old new (failed_by ended) (sink'' - before) answer status)
-    → Told Is old new source source' sink sink'' status
-told_of Is old mid new ended answer source source' sink sink' sink'' status is none ends low raises more rise same reports = record {
+    → Reported Is old new source source' sink sink'' status
+reported_of Is old mid new ended answer source source' sink sink' sink'' status is none ends low raises more rise same reports = record {
   answer = answer;
   failure = failed_by ended;
   is = is;
@@ -386,18 +386,18 @@ told_of Is old mid new ended answer source source' sink sink' sink'' status is n
 }
 
 -- how an engine is reported that answered so, and where memory was refused left its sink as it was
-pub any_told : (Is : Answer → Type 0) (old mid new : Option (List ℕ)) (ended : Result ℕ Failure) (source source' sink sink' sink'' status : ℕ) → (answer : Answer) × Is answer × Ends old [] mid answer ended
+pub any_reported : (Is : Answer → Type 0) (old mid new : Option (List ℕ)) (ended : Result ℕ Failure) (source source' sink sink' sink'' status : ℕ) → (answer : Answer) × Is answer × Ends old [] mid answer ended
     → (ended ≡ Err Memory → (mid ≡ old) × Is nothing) → IfOk ended (λ status. status < 3) → Raises source source' ended → sink' ≡ sink + sink_failures_of ended
     → sink' ≤ sink'' → status ≡ status_of ended
     → ((old : Option (List ℕ)) (answer : Answer) (before : ℕ) → IfOk ended (λ status. status < 3) → sink' ≡ before + sink_failures_of ended → Ends old [] mid answer ended
     → Reports old new (failed_by ended) (sink'' - before) answer status)
-    → Told Is old new source source' sink sink'' status
-any_told Is old mid new (Ok x) source source' sink sink' sink'' status (answer, is, ends) quiet low raises more rise same reports =
-    told_of Is old mid new (Ok x) answer source source' sink sink' sink'' status is (λ e. absurd (cc)) ends low raises more rise same reports
-any_told Is old mid new (Err Source) source source' sink sink' sink'' status (answer, is, ends) quiet low raises more rise same reports =
-    told_of Is old mid new (Err Source) answer source source' sink sink' sink'' status is (λ e. absurd (cc)) ends low raises more rise same reports
-any_told Is old mid new (Err Sink) source source' sink sink' sink'' status (answer, is, ends) quiet low raises more rise same reports =
-    told_of Is old mid new (Err Sink) answer source source' sink sink' sink'' status is (λ e. absurd (cc)) ends low raises more rise same reports
-any_told Is old mid new (Err Memory) source source' sink sink' sink'' status some quiet low raises more rise same reports =
+    → Reported Is old new source source' sink sink'' status
+any_reported Is old mid new (Ok x) source source' sink sink' sink'' status (answer, is, ends) quiet low raises more rise same reports =
+    reported_of Is old mid new (Ok x) answer source source' sink sink' sink'' status is (λ e. absurd (cc)) ends low raises more rise same reports
+any_reported Is old mid new (Err Source) source source' sink sink' sink'' status (answer, is, ends) quiet low raises more rise same reports =
+    reported_of Is old mid new (Err Source) answer source source' sink sink' sink'' status is (λ e. absurd (cc)) ends low raises more rise same reports
+any_reported Is old mid new (Err Sink) source source' sink sink' sink'' status (answer, is, ends) quiet low raises more rise same reports =
+    reported_of Is old mid new (Err Sink) answer source source' sink sink' sink'' status is (λ e. absurd (cc)) ends low raises more rise same reports
+any_reported Is old mid new (Err Memory) source source' sink sink' sink'' status some quiet low raises more rise same reports =
     let (untouched, is) = quiet refl in
-    told_of Is old mid new (Err Memory) nothing source source' sink sink' sink'' status is (λ _. refl) (subst (λ m. Ends old [] m nothing (Err Memory)) (sym untouched) (none_ends old Memory)) low raises more rise same reports
+    reported_of Is old mid new (Err Memory) nothing source source' sink sink' sink'' status is (λ _. refl) (subst (λ m. Ends old [] m nothing (Err Memory)) (sym untouched) (none_ends old Memory)) low raises more rise same reports

@@ -4,7 +4,7 @@ use Rattle.std.proofs.lemmas.Bool.Decides.{nat_tests}
 use Rattle.dc_tables.specs.TableRows.{TableRows}
 use Rattle.dc_parts.specs.declared.fault.TableFault.{TableFault}
 use Rattle.dc_toml.specs.Reading.{document_of, tables_of}
-use Rattle.dc_toml.specs.Told.{TellsTables}
+use Rattle.dc_toml.specs.Reported.{TellsTables}
 use Rattle.dc_app.specs.Inputs.{Loads, OnlyBehind, ReadsText, no_document}
 use Rattle.dc_app.specs.declared.inputs.Unloaded.{Unloaded}
 use Rattle.dc_app.specs.declared.inputs.Unloaded.TheVariants.{Refused, Failed}
@@ -24,13 +24,13 @@ refused_loads (Some text) (Failed failure) h = tt
 
 pub read_loads : (r : Option (List ℕ)) (bytes items : List ℕ) (result : Result TableRows Unloaded) → bytes ≡ items → IfSome r (λ text. items ≡ text) → Loads (tables_of bytes) result
     → IfSome r (λ text. Loads (tables_of text) result)
-read_loads None bytes items result e h told = tt
-read_loads (Some text) bytes items result e h told = subst (λ text. Loads (tables_of text) result) (e ∙ h) told
+read_loads None bytes items result e h reported = tt
+read_loads (Some text) bytes items result e h reported = subst (λ text. Loads (tables_of text) result) (e ∙ h) reported
 
--- the tables were read, and what comes behind them may be asked for
+-- the tables were read, and what comes after them may be asked for
 pub behind_read : (r : Option (List ℕ)) (t : TableRows) (untouched : Type 0) → IfSome r (λ text. Loads (tables_of text) (Ok t)) → IfSome r (λ text. OnlyBehind (tables_of text) untouched)
-behind_read None t untouched told = tt
-behind_read (Some text) t untouched told = inl (t, told)
+behind_read None t untouched reported = tt
+behind_read (Some text) t untouched reported = inl (t, reported)
 
 -- it was not asked for
 pub behind_kept : (r : Option (List ℕ)) (untouched : Type 0) → untouched → IfSome r (λ text. OnlyBehind (tables_of text) untouched)

@@ -12,7 +12,7 @@ use Rattle.dc_device.specs.lemmas.Known.{front_more}
 use Rattle.dc_tables.specs.TableRows.{TableRows}
 use Rattle.dc_bound.specs.Run.{ticks}
 use Rattle.dc_event.specs.Reading.{IsOver, Reading, Stays, Tells, TellsEvent, event_in_front, no_more, pulls_left}
-use Rattle.dc_event.specs.ReplyText.{event_lines, is_told, reply_line, run_lines}
+use Rattle.dc_event.specs.ReplyText.{event_lines, is_reported, reply_line, run_lines}
 use Rattle.dc_event.specs.TraceText.{Trace, trace_of}
 use Rattle.dc_event.specs.declared.event.Event.{Event}
 use Rattle.dc_event.specs.declared.trace.TraceFault.{TraceFault}
@@ -64,7 +64,7 @@ stayed : (left later : Option Trace) (rest : Trace) → left ≡ Some rest → S
 stayed None later rest at h = cc
 stayed (Some t) later rest at h = cc
 
--- the trace behind one more event
+-- the trace after one more event
 behind_next : (done : List Event) (e : Event) (trace rest more : Trace) → trace ≡ behind done rest → rest ≡ event_in_front e more → trace ≡ behind (done ++ e ∷ []) more
 behind_next done e trace rest more whole first =
     whole ∙ ap (λ r. behind done r) first ∙ ap (λ es. let t : Trace = record { events = es; fault = more.fault } in t) (sym (append_assoc done (e ∷ []) more.events))
@@ -117,42 +117,42 @@ module _ (t : TableRows) (all : Bool) (from : Option (List ℕ)) where
 
   stop_goes : (stop : TraceStop) (result : Result ℕ Failure) (left later : Option Trace) (done : List Event) (rest : Trace) → left ≡ Some rest → Tells left later (Err stop) → StopsBy stop result
       → GoesOn (is_whole result) t done rest.events rest.fault (stop_end stop)
-  stop_goes End result left later done rest at told stops = over_goes (is_whole result) done rest None nothing (over left rest None at told) refl
-  stop_goes (Fault f) result left later done rest at told stops = over_goes (is_whole result) done rest (Some f) (stop_end (Fault f)) (over left rest (Some f) at told) refl
-  stop_goes Broken (Ok x) left later done rest at told (never, low) = absurd (never refl)
-  stop_goes Broken (Err x) left later done rest at told stops = inr refl
+  stop_goes End result left later done rest at reported stops = over_goes (is_whole result) done rest None nothing (over left rest None at reported) refl
+  stop_goes (Fault f) result left later done rest at reported stops = over_goes (is_whole result) done rest (Some f) (stop_end (Fault f)) (over left rest (Some f) at reported) refl
+  stop_goes Broken (Ok x) left later done rest at reported (never, low) = absurd (never refl)
+  stop_goes Broken (Err x) left later done rest at reported stops = inr refl
 
   -- the reader stopped
   pub stop_ends : (left later : Option Trace) (p : Progress) (old new end : Option (List ℕ)) (waiting : List ℕ) (stop : TraceStop) (result : Result ℕ Failure) → Said t all from left p old new waiting
       → Tells left later (Err stop) → StopsBy stop result → Ends new waiting end (stop_end stop) result → IfSome from (λ text. WritesTrace t all text old end result)
-  stop_ends left later p old new end waiting stop result s told stops ends =
-      said_ends left p old new end waiting result s (λ rest at. (stop_end stop, stop_goes stop result left later s.done rest at told stops, ends))
+  stop_ends left later p old new end waiting stop result s reported stops ends =
+      said_ends left p old new end waiting result s (λ rest at. (stop_end stop, stop_goes stop result left later s.done rest at reported stops, ends))
 
   -- the next event was refused
   pub refused_ends : (rows : TableRows) (left later : Option Trace) (p p' : Progress) (old new end : Option (List ℕ)) (waiting : List ℕ) (e : Event) (r : Refusal) (result : Result ℕ Failure)
       → rows ≡ t → Said t all from left p old new waiting → TellsEvent left later e → ((done : List Event) → StandsAt p done → Steps rows p' done e (Err r))
       → Ends new waiting end (refused t r.event r.fault r.number) result → IfSome from (λ text. WritesTrace t all text old end result)
-  refused_ends rows left later p p' old new end waiting e r result same s told steps ends = said_ends left p old new end waiting result s (λ rest at.
-      let (more, is, first) = next left later rest e at told in
+  refused_ends rows left later p p' old new end waiting e r result same s reported steps ends = said_ends left p old new end waiting result s (λ rest at.
+      let (more, is, first) = next left later rest e at reported in
       let (never, cause, event, number) = subst (λ rows. Steps rows p' s.done e (Err r)) same (steps s.done s.at) in
       let last : Answer = refused t r.event r.fault r.number in
-      let told : last ≡ refused t e r.fault (length s.done + 1) = ap (λ e. refused t e r.fault r.number) event ∙ ap (λ n. refused t e r.fault n) number in (
+      let reported : last ≡ refused t e r.fault (length s.done + 1) = ap (λ e. refused t e r.fault r.number) event ∙ ap (λ n. refused t e r.fault n) number in (
         last,
-        subst (λ (r : Trace). GoesOn (is_whole result) t s.done r.events r.fault last) (sym first) (goes_either (is_whole result) s.done (e ∷ more.events) more.fault last (r.fault, never, cause, told)),
+        subst (λ (r : Trace). GoesOn (is_whole result) t s.done r.events r.fault last) (sym first) (goes_either (is_whole result) s.done (e ∷ more.events) more.fault last (r.fault, never, cause, reported)),
         ends,
       ))
 
   -- the lines that a step prints
   abbrev printed : Step → List (List ℕ)
-  printed step = cond (all || is_told step.reply) (reply_line t step.tick step.event step.reply ∷ []) []
+  printed step = cond (all || is_reported step.reply) (reply_line t step.tick step.event step.reply ∷ []) []
 
   -- the line of the next event could not be written
   pub say_ends : (rows : TableRows) (left later : Option Trace) (p p' : Progress) (old new end : Option (List ℕ)) (waiting waiting' : List ℕ) (e : Event) (step : Step) (failure : Failure)
       → rows ≡ t → Said t all from left p old new waiting → TellsEvent left later e → ((done : List Event) → StandsAt p done → Steps rows p' done e (Ok step))
       → AppendsFront new end (waiting ++ spelled (printed step)) → failure ≡ Sink → IfSome from (λ text. WritesTrace t all text old end (Err failure))
-  say_ends rows left later p p' old new end waiting waiting' e step failure same s told steps failed is_sink = rw is_sink (by_text from (λ text. WritesTrace t all text old end (Err Sink)) (λ text is.
+  say_ends rows left later p p' old new end waiting waiting' e step failure same s reported steps failed is_sink = rw is_sink (by_text from (λ text. WritesTrace t all text old end (Err Sink)) (λ text is.
       let (rest, at, whole) = s.ahead text is in
-      let (more, later_is, first) = next left later rest e at told in
+      let (more, later_is, first) = next left later rest e at reported in
       let (may, stands, step_is) = subst (λ rows. Steps rows p' s.done e (Ok step)) same (steps s.done s.at) in
       let lines : printed step ≡ event_lines t all s.done e = ap printed step_is in
       let tail : Answer = record { lines = event_lines t all s.done e; status = 0 } in
@@ -176,7 +176,7 @@ module _ (t : TableRows) (all : Bool) (from : Option (List ℕ)) where
   pub said_next : (rows : TableRows) (left later : Option Trace) (p p' : Progress) (old new end : Option (List ℕ)) (waiting waiting' : List ℕ) (e : Event) (step : Step)
       → rows ≡ t → Said t all from left p old new waiting → TellsEvent left later e → ((done : List Event) → StandsAt p done → Steps rows p' done e (Ok step))
       → Gathered new waiting end waiting' (spelled (printed step)) → Said t all from later p' old end waiting'
-  said_next rows left later p p' old new end waiting waiting' e step same s told steps gathered =
+  said_next rows left later p p' old new end waiting waiting' e step same s reported steps gathered =
       let (may, stands, step_is) = subst (λ rows. Steps rows p' s.done e (Ok step)) same (steps s.done s.at) in
       let lines : printed step ≡ event_lines t all s.done e = ap printed step_is in
       record {
@@ -186,7 +186,7 @@ module _ (t : TableRows) (all : Bool) (from : Option (List ℕ)) where
         gathered = rw (run_lines-push t all s.done e) (gathered_lines old new end waiting waiting' (run_lines t all s.done) (event_lines t all s.done e) s.gathered (subst (λ ls. Gathered new waiting end waiting' (spelled ls)) lines gathered));
         ahead = λ text is.
             let (rest, at, whole) = s.ahead text is in
-            let (more, later_is, first) = next left later rest e at told in
+            let (more, later_is, first) = next left later rest e at reported in
             (more, later_is, behind_next s.done e (trace_of t 1073741824 text) rest more whole first);
       }
 
@@ -245,10 +245,10 @@ pub step_count : (rows : TableRows) (p p' : Progress) (done : List Event) (e : E
 step_count rows p p' done e step at (may, stands, is) = omega (arith, at.count, stands.count, length-append done (e ∷ []))
 
 -- a reader that tells an event had not stopped
-pub not_stopped : (stopped : Option TraceStop) (told : Result Event TraceStop) (e : Event) (old new : Reading) → told ≡ Ok e
-    → IfSome stopped (λ stop. (Some told ≡ Some (Err stop)) × (new ≡ old)) → stopped ≡ None
-not_stopped None told e old new is again = refl
-not_stopped (Some stop) told e old new is (same, kept) = absurd (cc)
+pub not_stopped : (stopped : Option TraceStop) (reported : Result Event TraceStop) (e : Event) (old new : Reading) → reported ≡ Ok e
+    → IfSome stopped (λ stop. (Some reported ≡ Some (Err stop)) × (new ≡ old)) → stopped ≡ None
+not_stopped None reported e old new is again = refl
+not_stopped (Some stop) reported e old new is (same, kept) = absurd (cc)
 
 -- needing more leaves no more to pull
 pub pulls_needed : (stopped stopped' : Option TraceStop) (held held' : List ℕ) (room room' : ℕ) → stopped ≡ None → stopped' ≡ None → held' ≡ [] → length held + room' ≡ room
@@ -256,8 +256,8 @@ pub pulls_needed : (stopped stopped' : Option TraceStop) (held held' : List ℕ)
 pulls_needed stopped stopped' [] held' room room' a b c e = rw (a, b, c) (omega (arith, e))
 pulls_needed stopped stopped' (x ∷ xs) held' room room' a b c e = rw (a, b, c) (omega (arith, e))
 
--- nor does an event that was told
-pub pulls_told : (stopped stopped' : Option TraceStop) (held held' : List ℕ) (room room' : ℕ) → stopped ≡ None → stopped' ≡ None → room' < room
+-- nor does an event that was reported
+pub pulls_reported : (stopped stopped' : Option TraceStop) (held held' : List ℕ) (room room' : ℕ) → stopped ≡ None → stopped' ≡ None → room' < room
     → pulls_left stopped' room' held' ≤ pulls_left stopped room held
-pulls_told stopped stopped' held [] room room' a b e = rw (a, b) (omega (arith, e))
-pulls_told stopped stopped' held (x ∷ xs) room room' a b e = rw (a, b) (omega (arith, e))
+pulls_reported stopped stopped' held [] room room' a b e = rw (a, b) (omega (arith, e))
+pulls_reported stopped stopped' held (x ∷ xs) room room' a b e = rw (a, b) (omega (arith, e))

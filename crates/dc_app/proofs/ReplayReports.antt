@@ -6,10 +6,10 @@ use Rattle.dc_tables.specs.TableRows.{TableRows}
 use Rattle.dc_parts.specs.declared.fault.BuildError.TheVariants.{Refused as RefusedTables}
 use Rattle.dc_parts.specs.declared.fault.TableFault.{TableFault}
 use Rattle.dc_toml.specs.Reading.{tables_of}
-use Rattle.dc_app.specs.Answer.{Answer, Any, Ends, EndsSome, Raises, Reports, Told, failed_by, is_whole, nothing, sink_failures_of, status_of}
+use Rattle.dc_app.specs.Answer.{Answer, Any, Ends, EndsSome, Raises, Reports, Reported, failed_by, is_whole, nothing, sink_failures_of, status_of}
 use Rattle.dc_app.specs.Inputs.{Loads}
 use Rattle.dc_app.specs.Refusals.{tables_end}
-use Rattle.dc_app.proofs.Exits.{any_told, none_ends}
+use Rattle.dc_app.proofs.Exits.{any_reported, none_ends}
 use Rattle.dc_app.specs.Replay.{AnswersTexts, ReplayAnswers, ReportsReplay, WritesReplay, WritesTrace}
 use Rattle.dc_app.specs.declared.answer.Failure.{Failure}
 use Rattle.dc_app.specs.declared.answer.Failure.TheVariants.{Source, Sink, Memory}
@@ -58,17 +58,17 @@ replay_reports None s all old mid new ended source source' sink sink' sink'' sta
 replay_reports (Some rows) None all old mid new ended source source' sink sink' sink'' status writes quiet low raises more rise is reports = tt
 replay_reports (Some rows) (Some text) all old mid new ended source source' sink sink' sink'' status (answer, answers, ends) quiet low raises more rise is reports =
     let whole : is_whole ended ≡ nat_lt status 3 = whole_status ended low ∙ ap (λ n. nat_lt n 3) (sym is) in
-    any_told (ReplayAnswers all rows text (nat_lt status 3)) old mid new ended source source' sink sink' sink'' status (answer, subst (λ whole. ReplayAnswers all rows text whole answer) whole answers, ends)
+    any_reported (ReplayAnswers all rows text (nat_lt status 3)) old mid new ended source source' sink sink' sink'' status (answer, subst (λ whole. ReplayAnswers all rows text whole answer) whole answers, ends)
     (λ refused. (quiet refused, subst (λ whole. ReplayAnswers all rows text whole nothing) (sym (ap is_whole refused) ∙ whole) (inr refl)))
     low raises more rise is reports
 
-pub replay_told : (old mid new : Option (List ℕ)) (ended : Result ℕ Failure) (source source' sink sink' sink'' status : ℕ) → EndsSome old mid ended → (ended ≡ Err Memory → mid ≡ old)
+pub replay_reported : (old mid new : Option (List ℕ)) (ended : Result ℕ Failure) (source source' sink sink' sink'' status : ℕ) → EndsSome old mid ended → (ended ≡ Err Memory → mid ≡ old)
     → IfOk ended (λ status. status < 3) → Raises source source' ended → sink' ≡ sink + sink_failures_of ended → sink' ≤ sink'' → status ≡ status_of ended
     → ((old : Option (List ℕ)) (answer : Answer) (before : ℕ) → IfOk ended (λ status. status < 3) → sink' ≡ before + sink_failures_of ended → Ends old [] mid answer ended
     → Reports old new (failed_by ended) (sink'' - before) answer status)
-    → Told Any old new source source' sink sink'' status
-replay_told old mid new ended source source' sink sink' sink'' status (answer, ends) quiet low raises more rise is reports =
-    any_told Any old mid new ended source source' sink sink' sink'' status (answer, tt, ends) (λ refused. (quiet refused, tt)) low raises more rise is reports
+    → Reported Any old new source source' sink sink'' status
+replay_reported old mid new ended source source' sink sink' sink'' status (answer, ends) quiet low raises more rise is reports =
+    any_reported Any old mid new ended source source' sink sink' sink'' status (answer, tt, ends) (λ refused. (quiet refused, tt)) low raises more rise is reports
 
 -- the first fault of the tables' text was written
 pub refused_some : (old new : Option (List ℕ)) (waiting : List ℕ) (answer : Answer) (result : Result ℕ Failure) → waiting ≡ [] → Ends old waiting new answer result → EndsSome old new result

@@ -21,11 +21,11 @@ pub carried : (t : TableRows) (p : Progress) (core : Core) (tick : ℕ) (done : 
 carried t p core tick done e r same at (may, stands, replied) next =
     let clock : tick ≡ tick_after (done ++ e ∷ []) = omega (arith, tick-push done e, at.clock, next) in
     let now : Reply = reply t done e in
-    let told : r ≡ now = replied ∙ ap (λ t. reply t done e) same in (
+    let reported : r ≡ now = replied ∙ ap (λ t. reply t done e) same in (
       subst (λ t. MayFollow t done e) same may,
       record { stands = stands; clock = clock; count = omega (arith, at.count, length-append done (e ∷ [])) },
       ap (λ k. let s : Step = record { tick = k; event = e; reply = r } in s) clock
-          ∙ ap (λ r. let s : Step = record { tick = tick_after (done ++ e ∷ []); event = e; reply = r } in s) told,
+          ∙ ap (λ r. let s : Step = record { tick = tick_after (done ++ e ∷ []); event = e; reply = r } in s) reported,
     )
 
 pub declined : (t : TableRows) (p new : Progress) (core : Core) (done : List Event) (e : Event) (f : StepFault)

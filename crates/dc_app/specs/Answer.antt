@@ -40,7 +40,7 @@ failure_text Source = codes "failed device"
 failure_text Sink = codes "failed device"
 failure_text Memory = codes "failed memory"
 
--- Until something fails: what is written behind what waited, where the answer is known.
+-- Until something fails: what is written after what waited, where the answer is known.
 abbrev pub Ends : Option (List ℕ) → List ℕ → Option (List ℕ) → Answer → Result ℕ Failure → Type 0
 Ends old waiting new answer (Ok status) = Appends old new (waiting ++ spelled answer.lines) × (status ≡ answer.status)
 Ends old waiting new answer (Err Source) = (k : ℕ) × Appends old new (waiting ++ spelled (take k answer.lines))
@@ -112,9 +112,9 @@ IsCounted Memory sources sources' sink sink' = sources' ≡ sources
 abbrev pub EndsSome : Option (List ℕ) → Option (List ℕ) → Result ℕ Failure → Type 0
 EndsSome old new result = (answer : Answer) × Ends old [] new answer result
 
--- What a command reports of an answer that is such, where its sources and its sink failed so often before and behind it:
+-- What a command reports of an answer that is such, where its sources and its sink failed so often before and after it:
 -- what it tells to have failed has failed, and where memory was refused, no line stands before that.
-pub record Told (Is : Answer → Type 0) (old new : Option (List ℕ)) (sources sources' sink sink' status : ℕ) : Type 0 where
+pub record Reported (Is : Answer → Type 0) (old new : Option (List ℕ)) (sources sources' sink sink' status : ℕ) : Type 0 where
   pub answer : Answer
   pub failure : Failure
   pub is : Is answer
@@ -126,7 +126,7 @@ pub record Told (Is : Answer → Type 0) (old new : Option (List ℕ)) (sources 
 abbrev pub Any : Answer → Type 0
 Any answer = Unit {0}
 
--- Behind calls of a sink: where the engine got to its end, nothing is hidden; where the sink failed, its last call did.
+-- After calls of a sink: where the engine got to its end, nothing is hidden; where the sink failed, its last call did.
 abbrev pub SettlesBy : {T : Type 0} → Result T Failure → Bool → Bool → Type 0
 SettlesBy (Ok x) last_failed hidden = hidden ≡ false
 SettlesBy (Err Source) last_failed hidden = Unit {0}

@@ -1,6 +1,6 @@
 -- What `check` answers to the texts of tables and of a certificate.
 use Rattle.std.specs.Prelude.{◌≡◌, ◌⊎◌, ℕ, ◌<◌, nat_lt, Bool, true, false, ◌||◌, if◌then◌else◌, Option, Some, None, List, [], ◌∷◌, ◌++◌, length, slice_index_or, Result, Ok, Err, codes, decimal}
-use Rattle.dc_cert.specs.Claims.{Claims}
+use Rattle.dc_cert.specs.NamedRows.{NamedRows}
 use Rattle.dc_cert.specs.Faults.{fault_text}
 use Rattle.dc_cert.specs.Reading.{Reading, certificate_of}
 use Rattle.dc_check.specs.Accepts.{Accepts}
@@ -10,15 +10,15 @@ use Rattle.dc_check.specs.Verdict.{verdict_of}
 use Rattle.dc_check.specs.declared.fault.CheckFault.{CheckFault}
 use Rattle.dc_check.specs.declared.fault.Condition.{Condition}
 use Rattle.dc_check.specs.declared.fault.Condition.TheVariants.{NamesDiffer, BacklogTooSmall, DelayTooSmall}
-use Rattle.dc_check.specs.declared.fault.Part.{Part}
-use Rattle.dc_check.specs.declared.fault.Part.TheVariants.{Inputs, Outputs, Labels}
+use Rattle.dc_check.specs.declared.fault.CertificateList.{CertificateList}
+use Rattle.dc_check.specs.declared.fault.CertificateList.TheVariants.{Inputs, Outputs, Labels}
 use Rattle.dc_parts.specs.Names.{text_of}
 use Rattle.dc_tables.specs.TableRows.{TableRows}
 use Rattle.dc_parts.specs.declared.fault.BuildError.{BuildError}
 use Rattle.dc_parts.specs.declared.fault.BuildError.TheVariants.{Refused, Memory as NoMemory}
 use Rattle.dc_toml.specs.Reading.{tables_of}
-use Rattle.dc_toml.specs.Told.{TellsTables, AreTablesOf}
-use Rattle.dc_app.specs.Answer.{Answer, Told, one_line, unreadable}
+use Rattle.dc_toml.specs.Reported.{TellsTables, AreTablesOf}
+use Rattle.dc_app.specs.Answer.{Answer, Reported, one_line, unreadable}
 use Rattle.dc_app.specs.Refusals.{tables_end}
 use Rattle.dc_app.specs.declared.answer.Failure.{Failure}
 use Rattle.dc_app.specs.declared.answer.Failure.TheVariants.{Source, Sink, Memory}
@@ -36,18 +36,18 @@ names_window DelayTooSmall = true
 names_window _ = false
 
 -- a list; one of its members
-abbrev pub list_text : Part → List ℕ
+abbrev pub list_text : CertificateList → List ℕ
 list_text Inputs = codes "inputs"
 list_text Outputs = codes "outputs"
 list_text Labels = codes "labels"
 
-abbrev pub member_text : Part → List ℕ
+abbrev pub member_text : CertificateList → List ℕ
 member_text Inputs = codes "input "
 member_text Outputs = codes "output "
 member_text Labels = codes "label "
 
 -- the name of a bus, an output or a label
-abbrev pub member_name : TableRows → Part → ℕ → List ℕ
+abbrev pub member_name : TableRows → CertificateList → ℕ → List ℕ
 member_name t Inputs index = text_of (slice_index_or t.keys.buses index [])
 member_name t Outputs index = text_of (slice_index_or t.keys.outputs index [])
 member_name t Labels index = text_of (slice_index_or t.keys.labels index [])
@@ -76,7 +76,7 @@ answer_verdict t None = one_line (accepted_text t) 0
 answer_verdict t (Some fault) = one_line (refused_text t fault) 1
 
 -- to a certificate that reads so
-abbrev pub answer_claims : TableRows → Reading Claims → Answer
+abbrev pub answer_claims : TableRows → Reading NamedRows → Answer
 answer_claims t (Ok claims) = answer_verdict t (verdict_of t claims)
 answer_claims t (Err fault) = unreadable (fault_text fault)
 
@@ -98,8 +98,8 @@ CheckAnswers tables certificate false answer = AnswersCheck tables certificate a
 -- ---- an accepted certificate
 
 -- what was read is a certificate that is accepted for the tables, and it keeps its claims
-pub record Certifies (t : TableRows) (reading : Reading Claims) : Type 0 where
-  pub claims : Claims
+pub record Certifies (t : TableRows) (reading : Reading NamedRows) : Type 0 where
+  pub claims : NamedRows
   pub read : reading ≡ Ok claims
   pub accepted : Accepts t claims
   pub kept : KeepsItsClaims t claims
@@ -113,7 +113,7 @@ pub record AreCertified (tables certificate : List ℕ) : Type 0 where
 -- ---- what is judged, before it is written
 
 -- the line and the status, with what status 0 means; or memory was refused, or the source failed
-abbrev pub Judges : TableRows → Reading Claims → List ℕ → Result ℕ Failure → Type 0
+abbrev pub Judges : TableRows → Reading NamedRows → List ℕ → Result ℕ Failure → Type 0
 Judges t reading line (Ok status) = (one_line line status ≡ answer_claims t reading) × (status ≡ 0 → Certifies t reading)
 Judges t reading line (Err Source) = Unit {0}
 Judges t reading line (Err Memory) = Unit {0}
@@ -132,8 +132,8 @@ judged_answer line (Err failure) = record { lines = []; status = 3 }
 
 -- ---- what is reported
 
--- What `check` reports, where its sources and its sink failed so often before and behind it; with status 0 the certificate
+-- What `check` reports, where its sources and its sink failed so often before and after it; with status 0 the certificate
 -- keeps its claims.
 pub record ReportsCheck (tables certificate : List ℕ) (old new : Option (List ℕ)) (sources sources' sink sink' status : ℕ) : Type 0 where
-  pub told : Told (CheckAnswers tables certificate (nat_lt status 3)) old new sources sources' sink sink' status
+  pub reported : Reported (CheckAnswers tables certificate (nat_lt status 3)) old new sources sources' sink sink' status
   pub certified : status ≡ 0 → AreCertified tables certificate

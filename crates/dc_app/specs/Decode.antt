@@ -11,7 +11,7 @@ abbrev pub answer_word : Format → ℕ → Option ℕ → Answer → Answer
 answer_word format number None rest = fault (codes "E5") number
 answer_word format number (Some w) rest = after_all (line_of format w ∷ []) rest
 
--- the answer where the text ends behind these bytes of a line
+-- the answer where the text ends after these bytes of a line
 abbrev pub answer_end : ℕ → List ℕ → Answer
 answer_end number [] = record { lines = []; status = 0 }
 answer_end number (b ∷ bs) = fault (codes "E6") number

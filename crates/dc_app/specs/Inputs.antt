@@ -7,7 +7,7 @@ use Rattle.dc_parts.specs.declared.fault.Section.TheVariants.{Top}
 use Rattle.dc_parts.specs.declared.fault.TableFault.{TableFault}
 use Rattle.dc_tables.specs.TableRows.{TableRows}
 use Rattle.dc_toml.specs.Faults.{Reading}
-use Rattle.dc_toml.specs.Told.{AreTablesOf, TellsTables}
+use Rattle.dc_toml.specs.Reported.{AreTablesOf, TellsTables}
 use Rattle.dc_toml.specs.Written.{Written}
 use Rattle.dc_app.specs.declared.answer.Failure.TheVariants.{Source, Sink, Memory}
 use Rattle.dc_app.specs.declared.inputs.Unloaded.{Unloaded}
@@ -37,6 +37,6 @@ failed_in (Err (Failed Source)) = 1
 failed_in (Err (Failed Sink)) = 0
 failed_in (Err (Failed Memory)) = 0
 
--- what comes behind the tables is asked for only where their text, that reads so, is that of tables; else it is untouched
+-- what comes after the tables is asked for only where their text, that reads so, is that of tables; else it is untouched
 abbrev pub OnlyBehind : Reading Written → Type 0 → Type 0
 OnlyBehind reading untouched = ((rows : TableRows) × AreTablesOf reading rows) ⊎ untouched

@@ -5,7 +5,7 @@ use Rattle.dc_word.specs.declared.format.Format.{Format}
 use Rattle.dc_word.specs.declared.format.Format.TheVariants.{Bnr, Bcd, Disc}
 use Rattle.dc_word.specs.declared.format.Status.{Status}
 use Rattle.dc_word.specs.declared.format.Status.TheVariants.{FailureWarning, NoComputedData, FunctionalTest, Normal, Plus, Minus, Verified}
-use Rattle.dc_word.specs.declared.word.Place.{Place}
+use Rattle.dc_word.specs.declared.word.DigitPlace.{DigitPlace}
 use Rattle.dc_word.specs.Bcd.{bcd_of, number_of}
 use Rattle.dc_word.specs.Format.{status_of}
 use Rattle.dc_word.specs.Word.{bnr_of, data_of, is_odd, label_of, sdi_of, ssm_of}
@@ -13,7 +13,7 @@ use Rattle.dc_app.specs.Text.{five_decimal, five_hex, three_octal}
 use Rattle.dc_event.specs.WordText.{digit, eight_hex}
 
 -- the five digits of a decimal word, or its first place above 9
-abbrev pub bcd_text : Result ℕ Place → List ℕ
+abbrev pub bcd_text : Result ℕ DigitPlace → List ℕ
 bcd_text (Ok n) = five_decimal n
 bcd_text (Err place) = codes "bad" ++ digit (number_of place) ∷ []
 

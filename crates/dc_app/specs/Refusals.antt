@@ -19,7 +19,7 @@ use Rattle.dc_app.specs.declared.answer.Failure.{Failure}
 use Rattle.dc_app.specs.declared.answer.Failure.TheVariants.{Source, Sink, Memory}
 use Rattle.dc_app.specs.Answer.{Answer, fault, nothing, unreadable}
 
--- behind the events of a trace: nothing, or its fault
+-- after the events of a trace: nothing, or its fault
 abbrev pub trace_end : Option TraceFault → Answer
 trace_end None = nothing
 trace_end (Some f) = fault (line_rule_code f.rule) f.line
@@ -30,7 +30,7 @@ stop_end End = nothing
 stop_end (Fault f) = fault (line_rule_code f.rule) f.line
 stop_end Broken = nothing
 
--- a result behind a reader's stop: it tells of a failed source just where the reader does
+-- a result after a reader's stop: it tells of a failed source exactly where the reader does
 abbrev pub StopsBy : TraceStop → Result ℕ Failure → Type 0
 StopsBy stop (Ok status) = (stop ≢ Broken) × (status < 3)
 StopsBy stop (Err Source) = stop ≡ Broken
@@ -47,7 +47,7 @@ actor_name t (Router r) = name_at t.keys.routers r
 actor_name t (Output o) = name_at t.keys.outputs o
 actor_name t Clock = []
 
--- the actor that an event is refused for, behind a space
+-- the actor that an event is refused for, after a space
 abbrev pub culprit_text : TableRows → StepFault → Event → List ℕ
 culprit_text t Spent (Route r) = codes " " ++ name_at t.keys.routers r
 culprit_text t TooSoon (Send o) = codes " " ++ name_at t.keys.outputs o

@@ -4,7 +4,7 @@ use Rattle.dc_tables.specs.TableRows.{TableRows}
 use Rattle.dc_parts.specs.declared.fault.BuildError.{BuildError}
 use Rattle.dc_parts.specs.declared.fault.BuildError.TheVariants.{Refused, Memory}
 use Rattle.dc_toml.specs.Reading.{tables_of}
-use Rattle.dc_toml.specs.Told.{TellsTables}
+use Rattle.dc_toml.specs.Reported.{TellsTables}
 use Rattle.dc_event.specs.ReplyText.{run_lines}
 use Rattle.dc_event.specs.TraceText.{Trace, trace_of}
 use Rattle.dc_event.specs.declared.event.Event.{Event}
@@ -12,7 +12,7 @@ use Rattle.dc_event.specs.declared.trace.TraceFault.{TraceFault}
 use Rattle.dc_core.specs.Standing.{IsFault, MayFollow}
 use Rattle.dc_core.specs.declared.fault.StepFault.{StepFault}
 use Rattle.dc_app.specs.declared.answer.Failure.{Failure}
-use Rattle.dc_app.specs.Answer.{Answer, Ends, Told, after_all, is_whole}
+use Rattle.dc_app.specs.Answer.{Answer, Ends, Reported, after_all, is_whole}
 use Rattle.dc_app.specs.Refusals.{refused, tables_end, trace_end}
 
 -- each event may follow those before it, where `past` stands before the first
@@ -21,7 +21,7 @@ AllFollow t past [] = Unit {0}
 AllFollow t past (e ∷ rest) = MayFollow t past e × AllFollow t (past ++ e ∷ []) rest
 
 -- How a replay ends that has carried out `done`: by the end of the trace or its fault; or by the refusal of the next
--- event, which may not follow. Its line is the one behind those of `done`.
+-- event, which may not follow. Its line is the one after those of `done`.
 abbrev pub EndsBy : TableRows → List Event → List Event → Option TraceFault → Answer → Type 0
 EndsBy t done [] fault last = last ≡ trace_end fault
 EndsBy t done (e ∷ rest) fault last = (f : StepFault) × (¬ MayFollow t done e) × IsFault t done e f × (last ≡ refused t e f (length done + 1))
@@ -67,7 +67,7 @@ WritesTrace t all text old new result = (answer : Answer) × Replays t all (trac
 abbrev pub WritesReplay : Bool → List ℕ → List ℕ → Option (List ℕ) → Option (List ℕ) → Result ℕ Failure → Type 0
 WritesReplay all tables text old new result = (answer : Answer) × ReplayAnswers all tables text (is_whole result) answer × Ends old [] new answer result
 
--- What `replay` reports, where its sources and its sink failed so often before and behind it
+-- What `replay` reports, where its sources and its sink failed so often before and after it
 abbrev pub ReportsReplay : Bool → List ℕ → List ℕ → Option (List ℕ) → Option (List ℕ) → ℕ → ℕ → ℕ → ℕ → ℕ → Type 0
 ReportsReplay all tables text old new sources sources' sink sink' status =
-    Told (ReplayAnswers all tables text (nat_lt status 3)) old new sources sources' sink sink' status
+    Reported (ReplayAnswers all tables text (nat_lt status 3)) old new sources sources' sink sink' status

@@ -2,9 +2,9 @@
 ghost use Rattle.std.specs.Prelude.{◌≡◌, ◌≢◌, ℕ, List, [], ◌+◌, ◌-◌, ◌^◌, ◌<◌, ◌≤◌, IfErr, IfOk, IfSome, Some, Ok};
 ghost use Rattle.dc_device.specs.Device.{AsksUpTo};
 ghost use Rattle.dc_toml.specs.Reading.{tables_of};
-ghost use Rattle.dc_cert.specs.Claims.{claims_of};
+ghost use Rattle.dc_cert.specs.NamedRows.{named_rows};
 ghost use Rattle.dc_cert.specs.Reading.{certificate_of};
-ghost use Rattle.dc_app.specs.Answer.{Any, Ends, LeavesSink, Raises, SettlesBy, Told, sink_failures_of};
+ghost use Rattle.dc_app.specs.Answer.{Any, Ends, LeavesSink, Raises, SettlesBy, Reported, sink_failures_of};
 ghost use Rattle.dc_app.specs.Check.{Judges, JudgesTexts, ReportsCheck, judged_answer};
 ghost use Rattle.dc_app.specs.Inputs.{OnlyBehind};
 
@@ -13,7 +13,7 @@ use crate::inputs::{Unloaded, load};
 use crate::judgement::{print_accepted, print_cert_fault, print_refused};
 use crate::print::print_table_fault;
 use crate::text::Text;
-use dc_cert::{CertFault, CertRule, Certificate, Fault, Place, TEXT_LIMIT, read_cert};
+use dc_cert::{CertFault, CertRule, Certificate, Fault, TEXT_LIMIT, TextPlace, read_cert};
 use dc_check::laws::{accepted_certificates_keep_their_claims, no_fault_is_acceptance};
 use dc_check::verdict;
 use dc_device::{LineWriter, Sink, Source, Unread, read_at_most};
@@ -22,7 +22,7 @@ use std::alloc::Global;
 
 // Judges a certificate, and prints the verdict. The answer is the status.
 fn judge(tables: &Tables, certificate: &Certificate, line: &mut Text) -> u8
-    ensures answer { Judges tables.now (Ok (claims_of certificate.now)) line.new.items (Ok result) }
+    ensures answer { Judges tables.now (Ok (named_rows certificate.now)) line.new.items (Ok result) }
     ensures status { result < 3 }
 {
     accepted_certificates_keep_their_claims(tables);
@@ -76,7 +76,7 @@ fn judge_source<C: Source>(
                 line,
                 Fault {
                     rule: CertRule::NotJson,
-                    place: Place::Top,
+                    place: TextPlace::Top,
                 },
             );
             Ok(2)
@@ -162,7 +162,7 @@ pub fn run_check<T: Source, C: Source, K: Sink>(
         → ReportsCheck rows text (K.contents sink.old) (K.contents sink.new)
         (T.failed tables.old + C.failed certificate.old) (T.failed tables.new + C.failed certificate.new)
         (K.failed sink.old) (K.failed sink.new) result }
-    ensures told { Told Any (K.contents sink.old) (K.contents sink.new)
+    ensures reported { Reported Any (K.contents sink.old) (K.contents sink.new)
         (T.failed tables.old + C.failed certificate.old) (T.failed tables.new + C.failed certificate.new)
         (K.failed sink.old) (K.failed sink.new) result }
     ensures asks_tables { AsksUpTo 1048576 (T.asked tables.old) (T.asked tables.new) (T.dry tables.old) (T.dry tables.new) }

@@ -9,11 +9,11 @@ ghost use Rattle.dc_app.specs.Printed.{line_of};
 use crate::answer::{Failure, LIMIT, ask, end_at, report};
 use crate::print::print;
 use crate::text::Text;
-use dc_device::{Line, LineReader, LineWriter, Part, Sink, Source};
+use dc_device::{Line, LineEnd, LineReader, LineWriter, Sink, Source};
 use dc_event::read_word;
 use dc_word::{Format, Word};
 
-// Answers a text that ends behind these bytes of a line.
+// Answers a text that ends after these bytes of a line.
 fn end_inside<K: Sink>(
     line: &[u8],
     number: u64,
@@ -88,8 +88,8 @@ fn answer<S: Source, K: Sink>(
                 Ok(false) => return end_inside(line.as_slice(), number, writer, sink),
                 Ok(true) => {}
             },
-            Some(Part::Long) => return end_at(writer, sink, b"E1", number),
-            Some(Part::Whole) => {
+            Some(LineEnd::Long) => return end_at(writer, sink, b"E1", number),
+            Some(LineEnd::Whole) => {
                 let Some(word) = read_word(line.as_slice()) else {
                     return end_at(writer, sink, b"E5", number);
                 };
@@ -107,7 +107,7 @@ fn answer<S: Source, K: Sink>(
 /// Decodes the words on a source, one a line, onto a sink, with no memory but two fixed buffers. Each line that is
 /// due is shown before the source is asked for more.
 ///
-/// The answer is the exit status: 0 at the end of the text; 2 at the first faulty line, whose fault was written behind
+/// The answer is the exit status: 0 at the end of the text; 2 at the first faulty line, whose fault was written after
 /// the lines before it; 3 where a device failed. After a failed pull whole lines of the answer and then
 /// `failed device` were written; a push or flush that failed is the last call of the sink, and so is a pull that
 /// gave no byte of the source.

@@ -8,7 +8,7 @@ ghost use Rattle.std.specs.Prelude.{codes};
 
 use crate::text::{Text, append, append_number};
 use dc_cert::Fault;
-use dc_check::{CheckFault, Condition, Part};
+use dc_check::{CertificateList, CheckFault, Condition};
 use dc_tables::Tables;
 
 // Whether a condition is of a list as a whole.
@@ -29,39 +29,39 @@ fn has_window(condition: Condition) -> bool
 }
 
 // The name of a list.
-fn list(part: Part) -> &'static [u8]
+fn list(part: CertificateList) -> &'static [u8]
     ensures text { result.now ≡ list_text part }
     ensures short { length result.now ≤ 7 }
 {
     match part {
-        Part::Inputs => b"inputs",
-        Part::Outputs => b"outputs",
-        Part::Labels => b"labels",
+        CertificateList::Inputs => b"inputs",
+        CertificateList::Outputs => b"outputs",
+        CertificateList::Labels => b"labels",
     }
 }
 
 // What a member of a list is called, and a space.
-fn member(part: Part) -> &'static [u8]
+fn member(part: CertificateList) -> &'static [u8]
     ensures text { result.now ≡ member_text part }
     ensures short { length result.now ≤ 7 }
 {
     match part {
-        Part::Inputs => b"input ",
-        Part::Outputs => b"output ",
-        Part::Labels => b"label ",
+        CertificateList::Inputs => b"input ",
+        CertificateList::Outputs => b"output ",
+        CertificateList::Labels => b"label ",
     }
 }
 
 // The name of a bus, an output or a label.
-fn name(tables: &Tables, part: Part, index: usize) -> &[u8]
+fn name(tables: &Tables, part: CertificateList, index: usize) -> &[u8]
     requires { index < part_count tables.now part }
     ensures text { result.now ≡ member_name tables.now part index }
     ensures short { length result.now ≤ 16 }
 {
     match part {
-        Part::Inputs => tables.bus_name(index).text(),
-        Part::Outputs => tables.output_name(index).text(),
-        Part::Labels => tables.label_name(index).text(),
+        CertificateList::Inputs => tables.bus_name(index).text(),
+        CertificateList::Outputs => tables.output_name(index).text(),
+        CertificateList::Labels => tables.label_name(index).text(),
     }
 }
 

@@ -1,4 +1,4 @@
-//! The engines behind the commands of dc429: each reads sources, writes to one sink and answers the exit status.
+//! The engines of the commands of dc429: each reads sources, writes to one sink and answers the exit status.
 #![tactic(auto)]
 
 mod answer;

@@ -6,9 +6,9 @@ ghost use Rattle.dc_device.specs.Bytes.{Gathers};
 ghost use Rattle.dc_device.specs.Device.{failures_of};
 ghost use Rattle.dc_device.specs.Lines.{spelled};
 ghost use Rattle.dc_core.specs.CoreSteps.{rows_of};
-ghost use Rattle.dc_event.specs.ReplyText.{is_told, reply_line};
+ghost use Rattle.dc_event.specs.ReplyText.{is_reported, reply_line};
 ghost use Rattle.dc_event.specs.TraceFaults.{line_rule_code};
-ghost use Rattle.dc_app.specs.Answer.{Any, Ends, EndsSome, LeavesSink, Raises, SettlesBy, Told, is_whole, sink_failures_of};
+ghost use Rattle.dc_app.specs.Answer.{Any, Ends, EndsSome, LeavesSink, Raises, SettlesBy, Reported, is_whole, sink_failures_of};
 ghost use Rattle.dc_app.specs.Inputs.{OnlyBehind};
 ghost use Rattle.dc_app.specs.Refusals.{StopsBy, refused, stop_end, tables_end};
 ghost use Rattle.dc_app.specs.Replay.{ReportsReplay, WritesReplay, WritesTrace};
@@ -112,7 +112,7 @@ fn say<K: Sink>(
 ) -> Result<(), Failure>
     requires { K.failed sink.old + 1 < 2 ^ 64 }
     ensures bytes { Gathers (K.contents sink.old) writer.old (K.contents sink.new) writer.new
-        (spelled (cond (all || is_told step.reply) (reply_line tables.now step.tick step.event step.reply ∷ []) [])) result }
+        (spelled (cond (all || is_reported step.reply) (reply_line tables.now step.tick step.event step.reply ∷ []) [])) result }
     ensures count { K.failed sink.new ≡ K.failed sink.old + failures_of result }
     ensures sink { IfErr result (λ e. e ≡ Failure.Sink) }
     ensures last { IfErr result (λ e. K.last_failed sink.new ≡ true) }
@@ -250,7 +250,7 @@ fn replay<T: Source, S: Source, K: Sink>(
 /// that tell of a word that is sent or lost. Each line that is due is shown before the trace is asked for more.
 ///
 /// The answer is the exit status: 0 at the end of the trace; 1 at the first event that may not follow, 2 at the first
-/// fault of the tables or of the trace, whose line was written behind the lines before it; 3 where a device failed or
+/// fault of the tables or of the trace, whose line was written after the lines before it; 3 where a device failed or
 /// memory was refused. After a failed pull whole lines of the answer and then `failed device` were written, and where
 /// memory was refused `failed memory` alone. A push or flush that failed is the last call of the sink, and a pull that
 /// gave no byte the last of its source.
@@ -268,7 +268,7 @@ pub fn run_replay<T: Source, S: Source, K: Sink>(
         ReportsReplay all rows text (K.contents sink.old) (K.contents sink.new)
         (T.failed tables.old + S.failed trace.old) (T.failed tables.new + S.failed trace.new)
         (K.failed sink.old) (K.failed sink.new) result)) }
-    ensures told { Told Any (K.contents sink.old) (K.contents sink.new)
+    ensures reported { Reported Any (K.contents sink.old) (K.contents sink.new)
         (T.failed tables.old + S.failed trace.old) (T.failed tables.new + S.failed trace.new)
         (K.failed sink.old) (K.failed sink.new) result }
     ensures asks_tables { AsksUpTo 1048576 (T.asked tables.old) (T.asked tables.new) (T.dry tables.old) (T.dry tables.new) }

@@ -1,7 +1,7 @@
 //! The printed lines of replies and of refusals.
 ghost use Rattle.std.specs.Prelude.{◌≡◌, ◌++◌, ◌+◌, ◌≤◌, ◌||◌, length, codes, decimal};
 ghost use Rattle.arrayvec.specs.ArrayVec.{array_vec_len};
-ghost use Rattle.dc_event.specs.ReplyText.{arrival_text, is_told as is_told_reply, name_at, reply_line, routing_text, sending_text};
+ghost use Rattle.dc_event.specs.ReplyText.{arrival_text, is_reported as is_reported_reply, name_at, reply_line, routing_text, sending_text};
 ghost use Rattle.dc_event.specs.WordText.{eight_hex};
 ghost use Rattle.dc_app.specs.Refusals.{actor_name, cause_text, culprit_text, refused_text};
 
@@ -139,8 +139,8 @@ pub fn print_step(text: &mut Text, tables: &Tables, step: Step)
 }
 
 // Whether a reply is printed where not all are.
-fn is_told(reply: Reply) -> bool
-    ensures { result ≡ is_told_reply reply }
+fn is_reported(reply: Reply) -> bool
+    ensures { result ≡ is_reported_reply reply }
 {
     match reply {
         Reply::Queued(_) | Reply::Took(_, _) | Reply::Empty(_) | Reply::Idle | Reply::Now(_) =>
@@ -151,9 +151,9 @@ fn is_told(reply: Reply) -> bool
 
 /// Whether a reply is printed: each one, or those that tell of a word that is sent or lost.
 pub fn is_printed(all: bool, reply: Reply) -> bool
-    ensures { result ≡ (all || is_told_reply reply) }
+    ensures { result ≡ (all || is_reported_reply reply) }
 {
-    all || is_told(reply)
+    all || is_reported(reply)
 }
 
 // The text of an actor's name.

@@ -32,7 +32,7 @@ pub struct Refusal {
     pub number: u64,
 }
 
-// The tick behind an event.
+// The tick after an event.
 fn tick_behind(tick: u64, event: &Event) -> u64
     requires { tick + 1 < 2 ^ 64 }
     ensures { result ≡ tick + ends event.now }
@@ -47,7 +47,7 @@ impl Progress {
     /// Carries out the event of the next line.
     ///
     /// # Errors
-    /// Just where it may not follow the events before it.
+    /// Exactly where it may not follow the events before it.
     pub fn step(&mut self, event: Event) -> Result<Step, Refusal>
         requires early { self.old.tick ≤ 2 ^ 40 }
         requires number { self.old.number + 1 < 2 ^ 64 }

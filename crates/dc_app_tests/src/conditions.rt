@@ -1,4 +1,4 @@
-//! Each condition of a certificate on the small tables, and which of two broken ones is told.
+//! Each condition of a certificate on the small tables, and which of two broken ones is reported.
 
 use crate::asking::check_says;
 use crate::small::{CERTIFICATE, push_filled, push_tables};
@@ -124,7 +124,7 @@ version=2 police_key=police jitter_key=jitter_us jitter=10000 queue=4 stale=24 b
 version=2 police_key=police jitter_key=jitter_us jitter=10000 queue=4 stale=24 backlog=4 delay=4 window=5 age=27|refused C10 label x";
 
 #[test]
-fn the_first_broken_condition_is_told(rt: HostRuntime) -> Result<(), Fail> {
+fn the_first_broken_condition_is_reported(rt: HostRuntime) -> Result<(), Fail> {
     judges(&rt, rt.alloc(), NUMBERS)?;
     judges(&rt, rt.alloc(), EDGES)?;
     judges(&rt, rt.alloc(), ORDER)?;

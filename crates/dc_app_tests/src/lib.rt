@@ -1,4 +1,4 @@
-//! Trials of the engines behind the commands: whole texts of tables, certificates and traces in, lines and status out.
+//! Trials of the engines of the commands: whole texts of tables, certificates and traces in, lines and status out.
 #![tactic(auto)]
 
 #[cfg(test)]

@@ -15,7 +15,7 @@ const NONE: Failing = Failing {
 /// A word of no use from the first source, and a usable one from the second.
 const BOTH: &str = "A A A00000C1\nA B FFFFFCC1\nR R1\nR R1\nS O\n";
 
-/// What is told of it without all replies.
+/// What is reported of it without all replies.
 const SENT: &str = "0 O FFFFFCC1\n";
 
 /// Each reply.

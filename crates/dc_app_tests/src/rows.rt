@@ -8,7 +8,7 @@ use std::process::Abort;
 use std::rt::HostRuntime;
 use std::test::Fail;
 
-/// Changes of the small tables, a trace, each reply, the replies that are told without `--all`, the status. A `/` is a
+/// Changes of the small tables, a trace, each reply, the replies that are reported without `--all`, the status. A `/` is a
 /// line feed.
 const ROWS: &str =
     "|R R1/A A 600000C1/A A E0000021/S O/T/R R1/T/R R1/|0 R1 empty A/0 A queued 1/0 A queued 2/0 O A00000C1/1 tick/1 R1 took A 600000C1/2 tick/2 R1 took A E0000021/|0 O A00000C1/|0
@@ -80,14 +80,14 @@ fn push_lines(text: &mut String, lines: &str) -> Result<(), AllocError> {
 fn replays_row(rt: &impl Abort, alloc: Global, row: &str, all: bool) -> Result<(), Fail> {
     let (changes, rest) = row.split_once('|').ok_or("no trace in a row")?;
     let (lines, rest) = rest.split_once('|').ok_or("no replies in a row")?;
-    let (each, rest) = rest.split_once('|').ok_or("no told replies in a row")?;
-    let (told, status) = rest.split_once('|').ok_or("no status in a row")?;
+    let (each, rest) = rest.split_once('|').ok_or("no reported replies in a row")?;
+    let (reported, status) = rest.split_once('|').ok_or("no status in a row")?;
     let mut tables = String::new(alloc);
     push_tables(&mut tables, changes)?;
     let mut trace = String::new(alloc);
     push_lines(&mut trace, lines)?;
     let mut want = String::new(alloc);
-    push_lines(&mut want, if all { each } else { told })?;
+    push_lines(&mut want, if all { each } else { reported })?;
     let status = match status {
         "0" => 0,
         "1" => 1,

@@ -124,7 +124,7 @@ offsets = [<offsets=0>]
 
 /// The small tables with the values of a row. The keys of version 2 are comments, where a row does not name them
 /// (`police_key=police jitter_key=jitter_us`). With `streams=3` bus A has a third stream, with `buses=2` there is a bus B
-/// behind it.
+/// after it.
 pub fn push_tables(text: &mut String, row: &str) -> Result<(), AllocError> {
     push_filled(text, HEAD, row, "", "")?;
     if value(row, "streams", "2") == "3" {

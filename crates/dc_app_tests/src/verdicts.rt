@@ -6,8 +6,8 @@ use dc_app::run_check;
 use dc_cert::{Certificate, read_cert};
 use dc_check::laws::no_fault_is_acceptance;
 use dc_check::{
-    Certified, CheckFault, Condition, Part, certify, check, job_fault, job_fault_given, misnamed,
-    verdict,
+    CertificateList, Certified, CheckFault, Condition, certify, check, job_fault, job_fault_given,
+    misnamed, verdict,
 };
 use dc_device::{MemSink, MemSource};
 use dc_tables::Tables;
@@ -95,7 +95,7 @@ fn read(alloc: Global, row: &str) -> Result<(Tables, Certificate), Fail> {
 }
 
 /// A fault of the first member of a list.
-fn at(part: Part, condition: Condition, window: u32) -> CheckFault {
+fn at(part: CertificateList, condition: Condition, window: u32) -> CheckFault {
     CheckFault {
         condition,
         part,
@@ -141,21 +141,21 @@ fn certified(tables: Arc<Tables>, certificate: Certificate) -> Option<Certified>
 #[test]
 fn each_job_has_its_own_fault(rt: HostRuntime) -> Result<(), Fail> {
     let (tables, certificate) = read(rt.alloc(), "delay=1 output_delay=1 age=31")?;
-    let late = Some(at(Part::Labels, Condition::AgeOverLimit, 0));
+    let late = Some(at(CertificateList::Labels, Condition::AgeOverLimit, 0));
     assert_eq!(rt; misnamed(&tables, &certificate), None);
     assert_eq!(rt;
         fault_of_job(&tables, &certificate, 0),
-        Some(at(Part::Inputs, Condition::DelayTooSmall, 1))
+        Some(at(CertificateList::Inputs, Condition::DelayTooSmall, 1))
     );
     assert_eq!(rt;
         fault_of_job(&tables, &certificate, 1),
-        Some(at(Part::Outputs, Condition::DelayTooSmall, 1))
+        Some(at(CertificateList::Outputs, Condition::DelayTooSmall, 1))
     );
     assert_eq!(rt; fault_of_job(&tables, &certificate, 2), late);
     assert_eq!(rt; fault_of_label(&tables, &certificate, 0), late);
     assert_eq!(rt;
         verdict(&tables, &certificate),
-        Err(at(Part::Inputs, Condition::DelayTooSmall, 1))
+        Err(at(CertificateList::Inputs, Condition::DelayTooSmall, 1))
     );
     Ok(())
 }

@@ -14,8 +14,8 @@ abbrev pub IsDue : ℕ → List ℕ → List (ℕ × ℕ) → Type 0
 IsDue frame offsets xs = (k : ℕ) → k < length (ticks_of xs) → slice_index (ticks_of xs) k ≡ due frame offsets k
 
 -- how many offsets are this one
-abbrev pub due_at : List ℕ → ℕ → ℕ
-due_at offsets i = count_in i 1 offsets
+abbrev pub entries_at : List ℕ → ℕ → ℕ
+entries_at offsets i = count_in i 1 offsets
 
 -- each is below the next, and all below the frame
 pub record Offsets (frame : ℕ) (offsets : List ℕ) : Type 0 where
@@ -25,13 +25,13 @@ pub record Offsets (frame : ℕ) (offsets : List ℕ) : Type 0 where
 
 -- the greatest number of entries due in d consecutive ticks
 abbrev pub cyclic_cap : (frame : ℕ) (offsets : List ℕ) → ℕ → ℕ
-cyclic_cap frame offsets d = most_among (λ i. due_at offsets i) frame d
+cyclic_cap frame offsets d = most_among (λ i. entries_at offsets i) frame d
 
 -- ---- the same for entries of any kind, whose offset is `off`
 
 -- the tick at which entry number n, from 0, of a frame that comes again and again is due
-abbrev pub due_in : {E : Type 0} → (E → ℕ) → E → ℕ → List E → ℕ → ℕ
-due_in off z frame es n = n / length es * frame + off (slice_index_or es (n % length es) z)
+abbrev pub due_of_entry : {E : Type 0} → (E → ℕ) → E → ℕ → List E → ℕ → ℕ
+due_of_entry off z frame es n = n / length es * frame + off (slice_index_or es (n % length es) z)
 
 -- offsets ascend, and all lie below the frame
 pub record IsFrame {E : Type 0} (off : E → ℕ) (z : E) (frame : ℕ) (es : List E) : Type 0 where

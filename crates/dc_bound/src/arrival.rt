@@ -11,7 +11,7 @@ ghost use Rattle.dc_bound.specs.lemmas.Budget.{one_each_holds, one_each_prefix};
 ghost use Rattle.dc_bound.specs.Window.{earlier_jump, later_jump};
 
 // The greatest number of ticks of a window.
-const LONGEST: u64 = 1_000_000;
+const LONGEST_SPAN: u64 = 1_000_000;
 
 /// What may come at most in any so many consecutive ticks.
 pub trait ArrivalBound {
@@ -274,7 +274,7 @@ impl<A: ArrivalBound, B: ArrivalBound> ArrivalBound for Both<A, B> {
 pub(crate) fn jump_at(ticks: u64) -> Option<u32>
     ensures { MatchOption result (1000000 < ticks) (λ j. (j ≡ ticks) × (j ≤ 1000000)) }
 {
-    if ticks <= LONGEST {
+    if ticks <= LONGEST_SPAN {
         Some(ticks as u32)
     } else {
         None

@@ -5,10 +5,8 @@ ghost use Rattle.std.specs.Prelude.{◌≡◌, ℕ, ◌<◌, ◌≤◌, Some, Ma
 ghost use Rattle.dc_busy.specs.BusyWindow.{Closes, BacklogBounded, DelayBounded};
 ghost use Rattle.dc_busy.specs.Least.{IsLeast, IsLeastUpTo100000, ClosesWithin};
 
+use crate::LONGEST_WINDOW;
 use dc_bound::{ArrivalBound, ServiceBound};
-
-/// The longest window, and the longest delay, that is looked for, in ticks.
-const LONGEST: u32 = 100_000;
 
 /// The greatest number by which what may come in some number of ticks up to `window`, 1 to 100,000, is above the visits
 /// in the whole ticks inside them, two less; 0 where it is never above. It is the least backlog of which
@@ -48,7 +46,7 @@ pub fn least_delay<A: ArrivalBound, S: ServiceBound>(
     while ticks <= window {
         let (most, jump) = arrivals.at_most_and_jump(ticks);
         let before = ticks - 1;
-        match least_ticks(service, most, before + delay, before + LONGEST) {
+        match least_ticks(service, most, before + delay, before + LONGEST_WINDOW) {
             None => return None,
             Some(served) => delay = served - before,
         }
@@ -65,9 +63,9 @@ pub fn least_window<A: ArrivalBound, S: ServiceBound>(arrivals: &A, service: &S)
     ensures { IsLeastUpTo100000 (ClosesWithin (A.cap arrivals.now) (S.floor service.now)) result }
 {
     let mut ticks = 1;
-    while ticks <= LONGEST {
+    while ticks <= LONGEST_WINDOW {
         let (most, jump) = arrivals.at_most_and_jump(ticks);
-        let end = jump.unwrap_or(LONGEST + 1).min(LONGEST + 1);
+        let end = jump.unwrap_or(LONGEST_WINDOW + 1).min(LONGEST_WINDOW + 1);
         if let Some(served) = least_ticks(service, most, ticks - 1, end - 2) {
             return Some(served + 1);
         }

@@ -16,6 +16,9 @@ pub use between::failures_between;
 use dc_bound::{ArrivalBound, ServiceBound};
 pub use least::{least_delay, least_window, most_backlog};
 
+/// The longest window, and the longest delay, that a certificate may claim, in ticks.
+pub const LONGEST_WINDOW: u32 = 100_000;
+
 /// Whether a window closes: as many visits in its ticks but the first as may come in all of them. `window` is 1 to
 /// 100,000.
 pub fn closes<A: ArrivalBound, S: ServiceBound>(arrivals: &A, service: &S, window: u32) -> bool

@@ -11,7 +11,7 @@ use Rattle.json.specs.Print.{escape_letter, escape_byte, escape, quoted}
 use Rattle.serde_json.specs.Data.{Data, number, unsigned, string, array, Items, no_items, item, Members, no_members, member}
 use Rattle.serde_json.specs.View.{items_of}
 use Rattle.serde_json.specs.Written.{comma_if, compact_text, items_text, members_text}
-use Rattle.dc_cert.specs.Claims.{InputClaim, OutputClaim, LabelClaim, Claims}
+use Rattle.dc_cert.specs.NamedRows.{NamedInput, NamedOutput, NamedLabel, NamedRows}
 use Rattle.dc_cert.specs.Limits.{IsWithinLimits, InputFits, OutputFits, LabelFits, ClaimsFit}
 use Rattle.dc_cert.specs.Names.{is_name_byte, is_name}
 use Rattle.dc_cert.specs.Printing.{input_data, output_data, label_data, claims_data, claims_text}
@@ -65,19 +65,19 @@ name_short s named =
     let short : nat_le (length s) 16 ≡ true = (and_parts (nat_le 1 (length s)) (nat_le (length s) 16) both.0).1 in
     grind (arith, nat_tests)
 
-abbrev pub InputIsSayable : InputClaim → Type 0
+abbrev pub InputIsSayable : NamedInput → Type 0
 InputIsSayable x = IsTrue (is_name x.bus) × InputFits x
 
-abbrev pub OutputIsSayable : OutputClaim → Type 0
+abbrev pub OutputIsSayable : NamedOutput → Type 0
 OutputIsSayable x = IsTrue (is_name x.output) × OutputFits x
 
-abbrev pub LabelIsSayable : LabelClaim → Type 0
+abbrev pub LabelIsSayable : NamedLabel → Type 0
 LabelIsSayable x = IsTrue (is_name x.label) × LabelFits x
 
 length-name : (s : List ℕ) → IsTrue (is_name s) → length (compact_text (string s)) ≤ 98
 length-name s named = let short = name_short s named in let text = length-quoted s in omega arith
 
-length-input_data : (x : InputClaim) → InputIsSayable x → length (compact_text (input_data x)) ≤ 300
+length-input_data : (x : NamedInput) → InputIsSayable x → length (compact_text (input_data x)) ≤ 300
 length-input_data x h =
     let backlog = length-number x.backlog h.1.1 in
     let bus = length-name x.bus h.0 in
@@ -94,7 +94,7 @@ length-input_data x h =
       length-member true (codes "window") (number (unsigned x.window)) no_members,
     )
 
-length-output_data : (x : OutputClaim) → OutputIsSayable x → length (compact_text (output_data x)) ≤ 250
+length-output_data : (x : NamedOutput) → OutputIsSayable x → length (compact_text (output_data x)) ≤ 250
 length-output_data x h =
     let delay = length-number x.delay h.1.1 in
     let output = length-name x.output h.0 in
@@ -108,23 +108,23 @@ length-output_data x h =
       length-member true (codes "window") (number (unsigned x.window)) no_members,
     )
 
-length-label_data : (x : LabelClaim) → LabelIsSayable x → length (compact_text (label_data x)) ≤ 200
+length-label_data : (x : NamedLabel) → LabelIsSayable x → length (compact_text (label_data x)) ≤ 200
 length-label_data x h =
     let age = length-number x.age h.1 in
     let label = length-name x.label h.0 in
     let second = member (codes "label") (string x.label) no_members in
     omega (arith, length-member false (codes "age") (number (unsigned x.age)) second, length-member true (codes "label") (string x.label) no_members)
 
-pub inputs_sayable : (xs : List InputClaim) → All (λ x. IsTrue (is_name x.bus)) xs → All InputFits xs → All InputIsSayable xs
+pub inputs_sayable : (xs : List NamedInput) → All (λ x. IsTrue (is_name x.bus)) xs → All InputFits xs → All InputIsSayable xs
 inputs_sayable xs named fits k d h = (named k d h, fits k d h)
 
-pub outputs_sayable : (xs : List OutputClaim) → All (λ x. IsTrue (is_name x.output)) xs → All OutputFits xs → All OutputIsSayable xs
+pub outputs_sayable : (xs : List NamedOutput) → All (λ x. IsTrue (is_name x.output)) xs → All OutputFits xs → All OutputIsSayable xs
 outputs_sayable xs named fits k d h = (named k d h, fits k d h)
 
-pub labels_sayable : (xs : List LabelClaim) → All (λ x. IsTrue (is_name x.label)) xs → All LabelFits xs → All LabelIsSayable xs
+pub labels_sayable : (xs : List NamedLabel) → All (λ x. IsTrue (is_name x.label)) xs → All LabelFits xs → All LabelIsSayable xs
 labels_sayable xs named fits k d h = (named k d h, fits k d h)
 
-pub length-claims_text : (claims : Claims) → IsWithinLimits claims → ClaimsFit claims → length (claims_text claims) ≤ 1048576
+pub length-claims_text : (claims : NamedRows) → IsWithinLimits claims → ClaimsFit claims → length (claims_text claims) ≤ 1048576
 unfolding claims_text
 length-claims_text claims limits fit =
     let inputs = length-items input_data 300 InputIsSayable length-input_data false claims.inputs (inputs_sayable claims.inputs limits.input_names fit.inputs_fit) in

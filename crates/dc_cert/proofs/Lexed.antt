@@ -1,4 +1,4 @@
--- A line feed behind a printed value changes nothing that is read.
+-- A line feed after a printed value changes nothing that is read.
 use Rattle.std.proofs.Common.{◌≡◌, ℕ, ◌<◌, ◌^◌, List, [], ◌∷◌, ◌++◌, Bool, true, false, Option, Some, decimal, refl, sym, ap, ap₂, ◌∙◌, append_assoc, append-nil, option_and_then}
 use Rattle.json.specs.Token.{begin_object, end_object, begin_array, end_array, string, number}
 use Rattle.json.specs.Word.{ends_word}
@@ -34,7 +34,7 @@ abbrev mutual
   MembersArePlain no_members = Unit {0}
   MembersArePlain (member k d ms) = IsPlain d × MembersArePlain ms
 
--- ---- what stands behind a printed value plays no part in how it is cut into lexemes
+-- ---- what stands after a printed value plays no part in how it is cut into lexemes
 
 lex-quoted : (s r : List ℕ) → lex between (quoted s ++ r) ≡ token (string s) ∷ lex between r
 unfolding lex
@@ -103,6 +103,6 @@ lex-line_feed : (d : Data) → IsPlain d → lex between (compact_text d ++ 10 �
 unfolding lex
 lex-line_feed d h = same-data d h (10 ∷ []) [] refl refl refl ∙ ap (lex between) (append-nil (compact_text d))
 
--- the value is read alike with a line feed behind it
+-- the value is read alike with a line feed after it
 pub read-line_feed : (d : Data) → IsPlain d → read (compact_text d ++ 10 ∷ []) ≡ read (compact_text d)
 read-line_feed d h = ap (λ ls. option_and_then of_json (option_and_then (λ p. json.if_last p.0 p.1) (json.value max_depth (punctuate fresh ls)))) (lex-line_feed d h)

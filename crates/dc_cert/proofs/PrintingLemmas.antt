@@ -9,7 +9,7 @@ use Rattle.serde_json.specs.View.{view, items_of}
 use Rattle.serde_json.specs.Written.{has_float, items_have_float, compact_text}
 use Rattle.serde_json.specs.declared.value.Value.{Value, Array}
 use Rattle.serde_json.proofs.Views.{view-Array}
-use Rattle.dc_cert.specs.Claims.{InputClaim, OutputClaim, LabelClaim, Claims}
+use Rattle.dc_cert.specs.NamedRows.{NamedInput, NamedOutput, NamedLabel, NamedRows}
 use Rattle.dc_cert.specs.Printing.{input_data, output_data, label_data, claims_data, claims_text}
 
 -- ---- the loop over the rows
@@ -41,7 +41,7 @@ no_floats : {C : Type 0} (printed : C → Data) → ((x : C) → has_float (prin
 no_floats printed each [] = refl
 no_floats printed each (x ∷ xs) = rw (each x, no_floats printed each xs) refl
 
-pub has_float-claims_data : (claims : Claims) → has_float (claims_data claims) ≡ false
+pub has_float-claims_data : (claims : NamedRows) → has_float (claims_data claims) ≡ false
 has_float-claims_data claims =
     rw (no_floats input_data (λ x. refl) claims.inputs, no_floats label_data (λ x. refl) claims.labels, no_floats output_data (λ x. refl) claims.outputs) refl
 
@@ -49,7 +49,7 @@ shallow : {C : Type 0} (printed : C → Data) → ((x : C) → depth (printed x)
 shallow printed each [] = omega arith
 shallow printed each (x ∷ xs) = let rest = shallow printed each xs in let here = each x in omega arith
 
-pub depth-claims_data : (claims : Claims) → depth (claims_data claims) ≤ 127
+pub depth-claims_data : (claims : NamedRows) → depth (claims_data claims) ≤ 127
 depth-claims_data claims =
     let inputs = shallow input_data (λ x. refl) claims.inputs in
     let labels = shallow label_data (λ x. refl) claims.labels in
@@ -57,7 +57,7 @@ depth-claims_data claims =
     omega arith
 
 -- what was printed, with its line feed
-pub text_is : (claims : Claims) (d : Data) (old feed new : List ℕ) → d ≡ claims_data claims → (has_float d ≡ false → old ≡ compact_text d)
+pub text_is : (claims : NamedRows) (d : Data) (old feed new : List ℕ) → d ≡ claims_data claims → (has_float d ≡ false → old ≡ compact_text d)
     → new ≡ old ++ feed → feed ≡ 10 ∷ [] → new ≡ claims_text claims
 unfolding claims_text
 text_is claims d old feed new is text more fed =

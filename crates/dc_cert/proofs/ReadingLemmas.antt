@@ -10,7 +10,7 @@ use Rattle.serde_json.specs.declared.value.Value.{Value}
 use Rattle.serde_json.proofs.Views.{items_len-items_view}
 use Rattle.dc_cert.specs.declared.fault.Fault.{Fault}
 use Rattle.dc_cert.specs.declared.fault.CertRule.TheVariants.{NotJson, ListOrNameOutOfBounds}
-use Rattle.dc_cert.specs.declared.fault.Place.TheVariants.{Top}
+use Rattle.dc_cert.specs.declared.fault.TextPlace.TheVariants.{Top}
 use Rattle.dc_cert.specs.Reading.{Reading, refused, found, list_in, document_of}
 
 -- ---- the rows of a list

@@ -9,7 +9,7 @@ use Rattle.serde_json.specs.Events.{items_len}
 use Rattle.serde_json.specs.Read.{read, max_depth}
 use Rattle.serde_json.specs.View.{items_of}
 use Rattle.serde_json.specs.Written.{has_float, compact_text}
-use Rattle.dc_cert.specs.Claims.{InputClaim, OutputClaim, LabelClaim, Claims}
+use Rattle.dc_cert.specs.NamedRows.{NamedInput, NamedOutput, NamedLabel, NamedRows}
 use Rattle.dc_cert.specs.Limits.{IsWithinLimits, ClaimsFit}
 use Rattle.dc_cert.specs.Printing.{input_data, output_data, label_data, claims_data, claims_text}
 use Rattle.dc_cert.specs.Reading.{Reading, input_of, output_of, label_of, rows_of, claims_in, certificate_of, ◌>>=◌}
@@ -26,15 +26,15 @@ few n h = grind (arith, nat_tests)
 
 -- ---- rows
 
-input_back : (n : ℕ) (x : InputClaim) → InputIsSayable x → input_of n (input_data x) ≡ Ok x
+input_back : (n : ℕ) (x : NamedInput) → InputIsSayable x → input_of n (input_data x) ≡ Ok x
 unfolding input_of
 input_back n x h = rw (h.0, fits x.window h.1.0, fits x.backlog h.1.1, fits x.delay h.1.2) refl
 
-output_back : (n : ℕ) (x : OutputClaim) → OutputIsSayable x → output_of n (output_data x) ≡ Ok x
+output_back : (n : ℕ) (x : NamedOutput) → OutputIsSayable x → output_of n (output_data x) ≡ Ok x
 unfolding output_of
 output_back n x h = rw (h.0, fits x.window h.1.0, fits x.delay h.1.1) refl
 
-label_back : (n : ℕ) (x : LabelClaim) → LabelIsSayable x → label_of n (label_data x) ≡ Ok x
+label_back : (n : ℕ) (x : NamedLabel) → LabelIsSayable x → label_of n (label_data x) ≡ Ok x
 unfolding label_of
 label_back n x h = rw (h.0, fits x.age h.1) refl
 
@@ -49,7 +49,7 @@ items_len-rows printed (x ∷ xs) = ap suc (items_len-rows printed xs)
 
 -- ---- the certificate
 
-claims_back : (claims : Claims) → IsWithinLimits claims → ClaimsFit claims → claims_in (claims_data claims) ≡ Ok claims
+claims_back : (claims : NamedRows) → IsWithinLimits claims → ClaimsFit claims → claims_in (claims_data claims) ≡ Ok claims
 unfolding claims_in
 claims_back claims limits fit =
     let inputs = rows_back input_of input_data InputIsSayable input_back 0 claims.inputs (inputs_sayable claims.inputs limits.input_names fit.inputs_fit) in
@@ -73,16 +73,16 @@ plain_rows : {C : Type 0} (printed : C → Data) (P : C → Type 0) → ((x : C)
 plain_rows printed P each [] all = tt
 plain_rows printed P each (x ∷ xs) all = (each x (all 0 x (omega arith)), plain_rows printed P each xs (All-tail P x xs all))
 
-plain_input : (x : InputClaim) → InputIsSayable x → IsPlain (input_data x)
+plain_input : (x : NamedInput) → InputIsSayable x → IsPlain (input_data x)
 plain_input x h = (omega (arith, h.1.1), (tt, (omega (arith, h.1.2), (omega (arith, h.1.0), tt))))
 
-plain_output : (x : OutputClaim) → OutputIsSayable x → IsPlain (output_data x)
+plain_output : (x : NamedOutput) → OutputIsSayable x → IsPlain (output_data x)
 plain_output x h = (omega (arith, h.1.1), (tt, (omega (arith, h.1.0), tt)))
 
-plain_label : (x : LabelClaim) → LabelIsSayable x → IsPlain (label_data x)
+plain_label : (x : NamedLabel) → LabelIsSayable x → IsPlain (label_data x)
 plain_label x h = (omega (arith, h.1), (tt, tt))
 
-plain_claims : (claims : Claims) → IsWithinLimits claims → ClaimsFit claims → IsPlain (claims_data claims)
+plain_claims : (claims : NamedRows) → IsWithinLimits claims → ClaimsFit claims → IsPlain (claims_data claims)
 plain_claims claims limits fit = (
   plain_rows input_data InputIsSayable plain_input claims.inputs (inputs_sayable claims.inputs limits.input_names fit.inputs_fit),
   (
@@ -95,7 +95,7 @@ plain_claims claims limits fit = (
 )
 
 -- the printed value with its line feed, where it reads without it
-pub reads_back : (claims : Claims) (d : Data) (old new : List ℕ) → d ≡ claims_data claims → (has_float d ≡ false → old ≡ compact_text d)
+pub reads_back : (claims : NamedRows) (d : Data) (old new : List ℕ) → d ≡ claims_data claims → (has_float d ≡ false → old ≡ compact_text d)
     → (depth d ≤ max_depth → read old ≡ Some d) → new ≡ claims_text claims → IsUtf8 new → ClaimsFit claims → IsWithinLimits claims → certificate_of new ≡ Ok claims
 unfolding claims_text
 reads_back claims d old new is text back printed utf8 fit limits =

@@ -1,7 +1,7 @@
 -- The numbers of a certificate, without its names.
 use Rattle.std.specs.Prelude.{ℕ, List, map, slice_index_or}
 use Rattle.dc_cert.specs.declared.certificate.Certificate.{Certificate}
-use Rattle.dc_cert.specs.Claims.{InputClaim, OutputClaim, LabelClaim, Claims, claims_of}
+use Rattle.dc_cert.specs.NamedRows.{NamedInput, NamedOutput, NamedLabel, NamedRows, named_rows}
 
 -- what is claimed of an input bus: a closing window, a backlog, a delay
 pub record InputBound : Type 0 where
@@ -30,15 +30,15 @@ output_bound c o = slice_index_or c.outputs o (record { window = 0; delay = 0 })
 
 -- ---- the numbers of claims
 
-abbrev pub input_numbers : InputClaim → InputBound
+abbrev pub input_numbers : NamedInput → InputBound
 input_numbers claim = record { window = claim.window; backlog = claim.backlog; delay = claim.delay }
 
-abbrev pub output_numbers : OutputClaim → OutputBound
+abbrev pub output_numbers : NamedOutput → OutputBound
 output_numbers claim = record { window = claim.window; delay = claim.delay }
 
-abbrev pub numbers_of : Claims → CertificateRows
+abbrev pub numbers_of : NamedRows → CertificateRows
 numbers_of claims = record { inputs = map input_numbers claims.inputs; outputs = map output_numbers claims.outputs; ages = map (λ l. l.age) claims.labels }
 
 -- the numbers of the program's certificate
 abbrev pub certificate_rows : Certificate → CertificateRows
-certificate_rows c = numbers_of (claims_of c)
+certificate_rows c = numbers_of (named_rows c)

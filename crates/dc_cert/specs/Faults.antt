@@ -1,9 +1,9 @@
--- How a fault is told, and when a reading answers what its definition says.
+-- How a fault is reported, and when a reading answers what its definition says.
 use Rattle.std.specs.Prelude.{◌≡◌, ℕ, List, ◌++◌, codes, decimal, Result, Ok, Err}
 use Rattle.dc_cert.specs.declared.fault.CertRule.{CertRule}
 use Rattle.dc_cert.specs.declared.fault.CertRule.TheVariants.{NotJson, VersionUnknown, KeyAbsent, KeyUnknown, WrongKind, ListOrNameOutOfBounds}
-use Rattle.dc_cert.specs.declared.fault.Place.{Place}
-use Rattle.dc_cert.specs.declared.fault.Place.TheVariants.{Top, Inputs, Outputs, Labels}
+use Rattle.dc_cert.specs.declared.fault.TextPlace.{TextPlace}
+use Rattle.dc_cert.specs.declared.fault.TextPlace.TheVariants.{Top, Inputs, Outputs, Labels}
 use Rattle.dc_cert.specs.declared.fault.Fault.{Fault}
 use Rattle.dc_cert.specs.declared.fault.CertFault.{CertFault}
 use Rattle.dc_cert.specs.declared.fault.CertFault.TheVariants.{Memory, Unreadable}
@@ -17,7 +17,7 @@ rule_code WrongKind = codes "K5"
 rule_code ListOrNameOutOfBounds = codes "K6"
 
 -- the list and the index, or the top
-abbrev pub place_text : Place → List ℕ
+abbrev pub place_text : TextPlace → List ℕ
 place_text Top = codes "top"
 place_text (Inputs i) = codes "inputs " ++ decimal i
 place_text (Outputs i) = codes "outputs " ++ decimal i

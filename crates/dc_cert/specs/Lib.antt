@@ -1,5 +1,5 @@
 -- What a certificate says, how a text is read as one, and how one is printed.
-pub mod Claims
+pub mod NamedRows
 pub mod Bounds
 pub mod Faults
 pub mod Names

@@ -1,10 +1,10 @@
 -- Which certificates a text can say.
 use Rattle.std.specs.Prelude.{ℕ, ◌^◌, ◌<◌, ◌≤◌, length, All, IsTrue}
-use Rattle.dc_cert.specs.Claims.{InputClaim, OutputClaim, LabelClaim, Claims}
+use Rattle.dc_cert.specs.NamedRows.{NamedInput, NamedOutput, NamedLabel, NamedRows}
 use Rattle.dc_cert.specs.Names.{is_name}
 
 -- lists of at most 1,024 members, and names in their spelling
-pub record IsWithinLimits (claims : Claims) : Type 0 where
+pub record IsWithinLimits (claims : NamedRows) : Type 0 where
   pub few_inputs : length claims.inputs ≤ 1024
   pub few_outputs : length claims.outputs ≤ 1024
   pub few_labels : length claims.labels ≤ 1024
@@ -14,16 +14,16 @@ pub record IsWithinLimits (claims : Claims) : Type 0 where
 
 -- ---- numbers of 32 bits, as those of the program's rows are
 
-abbrev pub InputFits : InputClaim → Type 0
+abbrev pub InputFits : NamedInput → Type 0
 InputFits claim = (claim.window < 2 ^ 32) × (claim.backlog < 2 ^ 32) × (claim.delay < 2 ^ 32)
 
-abbrev pub OutputFits : OutputClaim → Type 0
+abbrev pub OutputFits : NamedOutput → Type 0
 OutputFits claim = (claim.window < 2 ^ 32) × (claim.delay < 2 ^ 32)
 
-abbrev pub LabelFits : LabelClaim → Type 0
+abbrev pub LabelFits : NamedLabel → Type 0
 LabelFits claim = claim.age < 2 ^ 32
 
-pub record ClaimsFit (claims : Claims) : Type 0 where
+pub record ClaimsFit (claims : NamedRows) : Type 0 where
   pub inputs_fit : All InputFits claims.inputs
   pub outputs_fit : All OutputFits claims.outputs
   pub labels_fit : All LabelFits claims.labels

@@ -3,30 +3,30 @@ use Rattle.std.specs.Prelude.{ℕ, List, [], ◌∷◌, ◌++◌, codes, map}
 use Rattle.serde_json.specs.Data.{Data, number, unsigned, string, array, object, Items, Members, no_members, member}
 use Rattle.serde_json.specs.View.{items_of}
 use Rattle.serde_json.specs.Written.{compact_text}
-use Rattle.dc_cert.specs.Claims.{InputClaim, OutputClaim, LabelClaim, Claims}
+use Rattle.dc_cert.specs.NamedRows.{NamedInput, NamedOutput, NamedLabel, NamedRows}
 
 -- a row, with its keys in the order of their bytes
 
-abbrev pub input_data : InputClaim → Data
+abbrev pub input_data : NamedInput → Data
 input_data claim = object
     (member (codes "backlog") (number (unsigned claim.backlog))
     (member (codes "bus") (string claim.bus)
     (member (codes "delay") (number (unsigned claim.delay))
     (member (codes "window") (number (unsigned claim.window)) no_members))))
 
-abbrev pub output_data : OutputClaim → Data
+abbrev pub output_data : NamedOutput → Data
 output_data claim = object
     (member (codes "delay") (number (unsigned claim.delay))
     (member (codes "output") (string claim.output)
     (member (codes "window") (number (unsigned claim.window)) no_members)))
 
-abbrev pub label_data : LabelClaim → Data
+abbrev pub label_data : NamedLabel → Data
 label_data claim = object
     (member (codes "age") (number (unsigned claim.age))
     (member (codes "label") (string claim.label) no_members))
 
 -- a certificate, likewise
-abbrev pub claims_data : Claims → Data
+abbrev pub claims_data : NamedRows → Data
 claims_data claims = object
     (member (codes "inputs") (array (items_of (map input_data claims.inputs)))
     (member (codes "labels") (array (items_of (map label_data claims.labels)))
@@ -34,5 +34,5 @@ claims_data claims = object
     (member (codes "version") (number (unsigned 1)) no_members))))
 
 -- the text of a certificate
-unfoldable pub claims_text : Claims → List ℕ
+unfoldable pub claims_text : NamedRows → List ℕ
 claims_text claims = compact_text (claims_data claims) ++ 10 ∷ []

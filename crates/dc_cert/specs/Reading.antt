@@ -10,10 +10,10 @@ use Rattle.serde_json.specs.Find.{get_member, as_object, as_array, as_str, as_nu
 use Rattle.serde_json.specs.Events.{items_len}
 use Rattle.dc_cert.specs.declared.fault.CertRule.{CertRule}
 use Rattle.dc_cert.specs.declared.fault.CertRule.TheVariants.{NotJson, VersionUnknown, KeyAbsent, KeyUnknown, WrongKind, ListOrNameOutOfBounds}
-use Rattle.dc_cert.specs.declared.fault.Place.{Place}
-use Rattle.dc_cert.specs.declared.fault.Place.TheVariants.{Top, Inputs, Outputs, Labels}
+use Rattle.dc_cert.specs.declared.fault.TextPlace.{TextPlace}
+use Rattle.dc_cert.specs.declared.fault.TextPlace.TheVariants.{Top, Inputs, Outputs, Labels}
 use Rattle.dc_cert.specs.declared.fault.Fault.{Fault}
-use Rattle.dc_cert.specs.Claims.{InputClaim, OutputClaim, LabelClaim, Claims}
+use Rattle.dc_cert.specs.NamedRows.{NamedInput, NamedOutput, NamedLabel, NamedRows}
 use Rattle.dc_cert.specs.Names.{is_name}
 
 -- ---- a value or a fault, and the steps that were good so far
@@ -22,7 +22,7 @@ use Rattle.dc_cert.specs.Names.{is_name}
 abbrev pub Reading : Type 0 → Type 0
 Reading A = Result A Fault
 
-abbrev pub refused : {A : Type 0} → CertRule → Place → Reading A
+abbrev pub refused : {A : Type 0} → CertRule → TextPlace → Reading A
 refused rule place = Err (record { rule = rule; place = place })
 
 -- goes on where nothing was refused
@@ -32,12 +32,12 @@ abbrev pub ◌>>=◌ : {A B : Type 0} → Reading A → (A → Reading B) → Re
 (Err fault) >>= rest = Err fault
 
 -- goes on where the test holds
-abbrev pub wanted : Bool → CertRule → Place → Reading (Unit {0})
+abbrev pub wanted : Bool → CertRule → TextPlace → Reading (Unit {0})
 wanted true rule place = Ok tt
 wanted false rule place = refused rule place
 
 -- what is there, or a fault
-abbrev pub found : {A : Type 0} → Option A → CertRule → Place → Reading A
+abbrev pub found : {A : Type 0} → Option A → CertRule → TextPlace → Reading A
 found (Some x) rule place = Ok x
 found None rule place = refused rule place
 
@@ -57,31 +57,31 @@ all_keys [] ms = true
 all_keys (k ∷ ks) ms = is_some (get_member k ms) && all_keys ks ms
 
 -- the members of a value that is an object, else K5
-abbrev pub object_of : Place → Data → Reading Members
+abbrev pub object_of : TextPlace → Data → Reading Members
 object_of place d = found (as_object d) WrongKind place
 
 -- no key is unknown, else K4; none is absent, else K3
-abbrev pub shape_of : Place → List (List ℕ) → Members → Reading (Unit {0})
+abbrev pub shape_of : TextPlace → List (List ℕ) → Members → Reading (Unit {0})
 shape_of place keys ms = if not (only_keys keys ms) then refused KeyUnknown place else wanted (all_keys keys ms) KeyAbsent place
 
 -- ---- the kinds of values
 
 -- a whole number up to 4,294,967,295, else K5
-abbrev pub number_in : Place → Option ℕ → Reading ℕ
+abbrev pub number_in : TextPlace → Option ℕ → Reading ℕ
 number_in place None = refused WrongKind place
 number_in place (Some n) = if nat_le n 4294967295 then Ok n else refused WrongKind place
 
 -- the number at a key
-abbrev pub number_at : Place → List ℕ → Members → Reading ℕ
+abbrev pub number_at : TextPlace → List ℕ → Members → Reading ℕ
 number_at place key ms = number_in place (option_and_then as_u64 (option_and_then as_number (get_member key ms)))
 
 -- a text, else K5, in the spelling of names, else K6
-abbrev pub name_in : Place → Option (List ℕ) → Reading (List ℕ)
+abbrev pub name_in : TextPlace → Option (List ℕ) → Reading (List ℕ)
 name_in place None = refused WrongKind place
 name_in place (Some s) = if is_name s then Ok s else refused ListOrNameOutOfBounds place
 
 -- the name at a key
-abbrev pub name_at : Place → List ℕ → Members → Reading (List ℕ)
+abbrev pub name_at : TextPlace → List ℕ → Members → Reading (List ℕ)
 name_at place key ms = name_in place (option_and_then as_str (get_member key ms))
 
 -- a list, else K5, of at most 1,024 members, else K6; both at the top
@@ -99,7 +99,7 @@ abbrev pub input_keys : List (List ℕ)
 input_keys = codes "bus" ∷ codes "window" ∷ codes "backlog" ∷ codes "delay" ∷ []
 
 -- the claim for the input with this index
-unfoldable pub input_of : ℕ → Data → Reading InputClaim
+unfoldable pub input_of : ℕ → Data → Reading NamedInput
 input_of i d = do
   ms ← object_of (Inputs i) d
   shape ← shape_of (Inputs i) input_keys ms
@@ -113,7 +113,7 @@ abbrev pub output_keys : List (List ℕ)
 output_keys = codes "output" ∷ codes "window" ∷ codes "delay" ∷ []
 
 -- the claim for the output with this index
-unfoldable pub output_of : ℕ → Data → Reading OutputClaim
+unfoldable pub output_of : ℕ → Data → Reading NamedOutput
 output_of i d = do
   ms ← object_of (Outputs i) d
   shape ← shape_of (Outputs i) output_keys ms
@@ -126,7 +126,7 @@ abbrev pub label_keys : List (List ℕ)
 label_keys = codes "label" ∷ codes "age" ∷ []
 
 -- the claim for the label with this index
-unfoldable pub label_of : ℕ → Data → Reading LabelClaim
+unfoldable pub label_of : ℕ → Data → Reading NamedLabel
 label_of i d = do
   ms ← object_of (Labels i) d
   shape ← shape_of (Labels i) label_keys ms
@@ -153,7 +153,7 @@ abbrev pub version_of : Members → Reading (Unit {0})
 version_of ms = wanted (is_one (option_and_then as_u64 (option_and_then as_number (get_member (codes "version") ms)))) VersionUnknown Top
 
 -- the certificate that a JSON value is
-unfoldable pub claims_in : Data → Reading Claims
+unfoldable pub claims_in : Data → Reading NamedRows
 claims_in d = do
   ms ← object_of Top d
   version ← version_of ms
@@ -171,5 +171,5 @@ unfoldable pub document_of : List ℕ → Reading Data
 document_of text = if nat_le (length text) 1048576 && is_utf8 text then found (read text) NotJson Top else refused NotJson Top
 
 -- the certificate of a text
-abbrev pub certificate_of : List ℕ → Reading Claims
+abbrev pub certificate_of : List ℕ → Reading NamedRows
 certificate_of text = document_of text >>= claims_in

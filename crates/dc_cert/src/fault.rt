@@ -62,7 +62,7 @@ impl CertRule {
     }
 
     /// The fault of this rule at a place.
-    pub(crate) fn at(self, place: Place) -> Fault
+    pub(crate) fn at(self, place: TextPlace) -> Fault
         ensures { result ≡ record { rule = self; place = place } }
     {
         Fault { rule: self, place }
@@ -71,7 +71,7 @@ impl CertRule {
 
 /// Where a certificate's text is wrong.
 #[derive(Clone, Copy, Debug, PartialEq, Eq)]
-pub enum Place {
+pub enum TextPlace {
     /// The text as a whole, or its outermost object.
     Top,
     /// The input with this index, from 0.
@@ -82,15 +82,15 @@ pub enum Place {
     Labels(usize),
 }
 
-impl fmt::Display for Place {
+impl fmt::Display for TextPlace {
     ghost output = { λ place. Some (place_text place) };
 
     fn fmt<W: fmt::Write>(&self, f: &mut fmt::Formatter<W>) -> fmt::Result {
         match self {
-            Place::Top => write!(f, "top"),
-            Place::Inputs(index) => write!(f, "inputs {index}"),
-            Place::Outputs(index) => write!(f, "outputs {index}"),
-            Place::Labels(index) => write!(f, "labels {index}"),
+            TextPlace::Top => write!(f, "top"),
+            TextPlace::Inputs(index) => write!(f, "inputs {index}"),
+            TextPlace::Outputs(index) => write!(f, "outputs {index}"),
+            TextPlace::Labels(index) => write!(f, "labels {index}"),
         }
     }
 }
@@ -112,7 +112,7 @@ pub struct Fault {
     /// What is wrong.
     pub rule: CertRule,
     /// Where it is wrong.
-    pub place: Place,
+    pub place: TextPlace,
 }
 
 impl Fault {
@@ -124,10 +124,10 @@ impl Fault {
         append(&mut text, self.rule.code().as_bytes());
         append(&mut text, b" at ");
         match self.place {
-            Place::Top => append(&mut text, b"top"),
-            Place::Inputs(index) => append_index(&mut text, b"inputs ", index),
-            Place::Outputs(index) => append_index(&mut text, b"outputs ", index),
-            Place::Labels(index) => append_index(&mut text, b"labels ", index),
+            TextPlace::Top => append(&mut text, b"top"),
+            TextPlace::Inputs(index) => append_index(&mut text, b"inputs ", index),
+            TextPlace::Outputs(index) => append_index(&mut text, b"outputs ", index),
+            TextPlace::Labels(index) => append_index(&mut text, b"labels ", index),
         }
         text
     }

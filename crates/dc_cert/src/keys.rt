@@ -7,7 +7,7 @@ ghost use Rattle.dc_cert.specs.Faults.{seen};
 ghost use Rattle.dc_cert.specs.Names.{is_name_byte as is_spelling_byte, is_name};
 ghost use Rattle.dc_cert.specs.Reading.{same_key, only_keys, all_keys, object_of, shape_of, number_at, name_at, list_at, version_of};
 
-use crate::fault::{CertRule, Fault, Place};
+use crate::fault::{CertRule, Fault, TextPlace};
 use crate::read::LIST_LIMIT;
 use serde_json::{Map, Value};
 
@@ -18,7 +18,7 @@ pub type Members = Map<String, Value>;
 const NAME_LIMIT: usize = 16;
 
 /// The members of a value that is an object.
-pub fn object(value: &Value, place: Place) -> Result<&Members, Fault>
+pub fn object(value: &Value, place: TextPlace) -> Result<&Members, Fault>
     ensures { seen (λ m. members_view m.now.entries) result ≡ object_of place (view value.now) }
 {
     match value.as_object() {
@@ -74,7 +74,7 @@ fn all_present(members: &Members, keys: &[&str]) -> bool
 }
 
 /// Refuses an unknown key, and then an absent one.
-pub fn shape(members: &Members, keys: &[&str], place: Place) -> Result<(), Fault>
+pub fn shape(members: &Members, keys: &[&str], place: TextPlace) -> Result<(), Fault>
     ensures { result
         ≡ shape_of place (map (λ k. k.now) keys.now) (members_view members.now.entries) }
 {
@@ -100,13 +100,13 @@ pub fn version(members: &Members) -> Result<(), Fault>
     ensures { result ≡ version_of (members_view members.now.entries) }
 {
     if whole(members, "version") != Some(1) {
-        return Err(CertRule::VersionUnknown.at(Place::Top));
+        return Err(CertRule::VersionUnknown.at(TextPlace::Top));
     }
     Ok(())
 }
 
 /// The number at a key.
-pub fn number(members: &Members, key: &str, place: Place) -> Result<u32, Fault>
+pub fn number(members: &Members, key: &str, place: TextPlace) -> Result<u32, Fault>
     ensures { result ≡ number_at place key.now (members_view members.now.entries) }
 {
     let refused = CertRule::WrongKind.at(place);
@@ -141,7 +141,7 @@ fn is_spelled(text: &str) -> bool
 }
 
 /// The name at a key.
-pub fn name<'a>(members: &'a Members, key: &str, place: Place) -> Result<&'a str, Fault>
+pub fn name<'a>(members: &'a Members, key: &str, place: TextPlace) -> Result<&'a str, Fault>
     ensures { seen (λ s. s.now) result
         ≡ name_at place key.now (members_view members.now.entries) }
 {
@@ -169,10 +169,10 @@ pub fn list<'a>(members: &'a Members, key: &str) -> Result<&'a [Value], Fault>
         ≡ list_at key.now (members_view members.now.entries) }
 {
     let Some(values) = array(members, key) else {
-        return Err(CertRule::WrongKind.at(Place::Top));
+        return Err(CertRule::WrongKind.at(TextPlace::Top));
     };
     if values.len() > LIST_LIMIT {
-        return Err(CertRule::ListOrNameOutOfBounds.at(Place::Top));
+        return Err(CertRule::ListOrNameOutOfBounds.at(TextPlace::Top));
     }
     Ok(values)
 }

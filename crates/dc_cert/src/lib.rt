@@ -15,6 +15,6 @@ mod row;
 mod tests;
 
 pub use certificate::{Certificate, InputRow, LabelRow, OutputRow};
-pub use fault::{CertFault, CertRule, Fault, Place, ShortText};
+pub use fault::{CertFault, CertRule, Fault, ShortText, TextPlace};
 pub use print::cert_text;
 pub use read::{LIST_LIMIT, TEXT_LIMIT, read_cert};

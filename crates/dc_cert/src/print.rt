@@ -2,7 +2,7 @@
 ghost use Rattle.std.specs.Prelude.{◌≡◌, map, string_bytes, All, IfOk};
 ghost use Rattle.serde_json.specs.Data.{array as json_array};
 ghost use Rattle.serde_json.specs.View.{view, items_of};
-ghost use Rattle.dc_cert.specs.Claims.{claims_of};
+ghost use Rattle.dc_cert.specs.NamedRows.{named_rows};
 ghost use Rattle.dc_cert.specs.Limits.{IsWithinLimits, ClaimsFit};
 ghost use Rattle.dc_cert.specs.Printing.{claims_data, claims_text};
 ghost use Rattle.dc_cert.specs.Reading.{certificate_of};
@@ -27,8 +27,8 @@ fn array<R: Row>(alloc: Global, rows: &[R]) -> Result<Value, AllocError>
 
 // The JSON value that a certificate is.
 fn certificate_value(alloc: Global, certificate: &Certificate) -> Result<Value, AllocError>
-    ensures value { IfOk result (λ v. view v ≡ claims_data (claims_of certificate.now)) }
-    ensures numbers { IfOk result (λ _. ClaimsFit (claims_of certificate.now)) }
+    ensures value { IfOk result (λ v. view v ≡ claims_data (named_rows certificate.now)) }
+    ensures numbers { IfOk result (λ _. ClaimsFit (named_rows certificate.now)) }
 {
     let inputs = array(alloc, certificate.inputs.as_slice())?;
     let labels = array(alloc, certificate.labels.as_slice())?;
@@ -42,11 +42,11 @@ fn certificate_value(alloc: Global, certificate: &Certificate) -> Result<Value, 
 ///
 /// `AllocError` where an allocation failed.
 pub fn cert_text(alloc: Global, certificate: &Certificate) -> Result<String, AllocError>
-    ensures text { IfOk result (λ s. string_bytes s ≡ claims_text (claims_of certificate.now)) }
+    ensures text { IfOk result (λ s. string_bytes s ≡ claims_text (named_rows certificate.now)) }
 
     // Within the limits of a text, what was printed reads as the certificate.
-    ensures reads_back { IfOk result (λ s. IsWithinLimits (claims_of certificate.now)
-        → certificate_of (string_bytes s) ≡ Ok (claims_of certificate.now)) }
+    ensures reads_back { IfOk result (λ s. IsWithinLimits (named_rows certificate.now)
+        → certificate_of (string_bytes s) ≡ Ok (named_rows certificate.now)) }
 {
     let value = certificate_value(alloc, certificate)?;
     let mut text = value.to_string(alloc)?;

@@ -1,12 +1,12 @@
 //! From a text to the certificate that it is, or its first fault.
 ghost use Rattle.std.specs.Prelude.{map};
 ghost use Rattle.serde_json.specs.View.{view, items_view};
-ghost use Rattle.dc_cert.specs.Claims.{claims_of};
+ghost use Rattle.dc_cert.specs.NamedRows.{named_rows};
 ghost use Rattle.dc_cert.specs.Faults.{Gives};
 ghost use Rattle.dc_cert.specs.Reading.{rows_of, claims_in, document_of, certificate_of};
 
 use crate::certificate::Certificate;
-use crate::fault::{CertFault, CertRule, Place};
+use crate::fault::{CertFault, CertRule, TextPlace};
 use crate::keys::{list, object, shape, version};
 use crate::row::Row;
 use serde_json::Value;
@@ -38,14 +38,14 @@ fn rows<R: Row>(alloc: Global, values: &[Value]) -> Result<Vec<R>, CertFault>
 // The certificate that a JSON value is.
 #[tactic(auto, unfolding(crate::specs::Reading::claims_in))]
 fn certificate(alloc: Global, value: &Value) -> Result<Certificate, CertFault>
-    ensures { Gives claims_of result (claims_in (view value.now)) }
+    ensures { Gives named_rows result (claims_in (view value.now)) }
 {
-    let members = object(value, Place::Top)?;
+    let members = object(value, TextPlace::Top)?;
     version(members)?;
     shape(
         members,
         &["version", "inputs", "outputs", "labels"],
-        Place::Top,
+        TextPlace::Top,
     )?;
     let inputs = list(members, "inputs")?;
     let outputs = list(members, "outputs")?;
@@ -62,7 +62,7 @@ fn certificate(alloc: Global, value: &Value) -> Result<Certificate, CertFault>
 fn document(alloc: Global, text: &[u8]) -> Result<Value, CertFault>
     ensures { Gives view result (document_of text.now) }
 {
-    let refused = CertRule::NotJson.at(Place::Top);
+    let refused = CertRule::NotJson.at(TextPlace::Top);
     if text.len() > TEXT_LIMIT {
         return Err(CertFault::Unreadable(refused));
     }
@@ -84,7 +84,7 @@ fn document(alloc: Global, text: &[u8]) -> Result<Value, CertFault>
 /// `Unreadable` with the first fault of the text, by the definition that the contract names;
 /// `Memory` where an allocation failed.
 pub fn read_cert(alloc: Global, text: &[u8]) -> Result<Certificate, CertFault>
-    ensures { Gives claims_of result (certificate_of text.now) }
+    ensures { Gives named_rows result (certificate_of text.now) }
 {
     let value = document(alloc, text)?;
     certificate(alloc, &value)

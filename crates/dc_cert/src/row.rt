@@ -3,14 +3,14 @@ ghost use Rattle.std.specs.Prelude.{◌≡◌, ℕ, Result, IfOk};
 ghost use Rattle.serde_json.specs.Data.{Data};
 ghost use Rattle.serde_json.specs.View.{view};
 ghost use Rattle.dc_cert.specs.declared.fault.Fault.{Fault as SpecFault};
-ghost use Rattle.dc_cert.specs.Claims.{InputClaim, OutputClaim, LabelClaim, input_claim, output_claim, label_claim};
+ghost use Rattle.dc_cert.specs.NamedRows.{NamedInput, NamedOutput, NamedLabel, named_input, named_output, named_label};
 ghost use Rattle.dc_cert.specs.Faults.{Gives};
 ghost use Rattle.dc_cert.specs.Reading.{input_of, output_of, label_of};
 ghost use Rattle.dc_cert.specs.Limits.{InputFits, OutputFits, LabelFits};
 ghost use Rattle.dc_cert.specs.Printing.{input_data, output_data, label_data};
 
 use crate::certificate::{InputRow, LabelRow, OutputRow};
-use crate::fault::{CertFault, Place};
+use crate::fault::{CertFault, TextPlace};
 use crate::keys::{name, number, object, shape};
 use serde_json::{Value, json};
 use std::alloc::{AllocError, Global};
@@ -43,9 +43,9 @@ pub trait Row: Drop {
 }
 
 impl Row for InputRow {
-    ghost Claim = { InputClaim };
+    ghost Claim = { NamedInput };
 
-    ghost claim = { input_claim };
+    ghost claim = { named_input };
 
     ghost claim_of = { input_of };
 
@@ -55,7 +55,7 @@ impl Row for InputRow {
 
     #[tactic(auto, unfolding(crate::specs::Reading::input_of))]
     fn read(alloc: Global, value: &Value, index: usize) -> Result<Self, CertFault> {
-        let place = Place::Inputs(index);
+        let place = TextPlace::Inputs(index);
         let members = object(value, place)?;
         shape(members, &["bus", "window", "backlog", "delay"], place)?;
         let bus = name(members, "bus", place)?;
@@ -76,9 +76,9 @@ impl Row for InputRow {
 }
 
 impl Row for OutputRow {
-    ghost Claim = { OutputClaim };
+    ghost Claim = { NamedOutput };
 
-    ghost claim = { output_claim };
+    ghost claim = { named_output };
 
     ghost claim_of = { output_of };
 
@@ -88,7 +88,7 @@ impl Row for OutputRow {
 
     #[tactic(auto, unfolding(crate::specs::Reading::output_of))]
     fn read(alloc: Global, value: &Value, index: usize) -> Result<Self, CertFault> {
-        let place = Place::Outputs(index);
+        let place = TextPlace::Outputs(index);
         let members = object(value, place)?;
         shape(members, &["output", "window", "delay"], place)?;
         let output = name(members, "output", place)?;
@@ -107,9 +107,9 @@ impl Row for OutputRow {
 }
 
 impl Row for LabelRow {
-    ghost Claim = { LabelClaim };
+    ghost Claim = { NamedLabel };
 
-    ghost claim = { label_claim };
+    ghost claim = { named_label };
 
     ghost claim_of = { label_of };
 
@@ -119,7 +119,7 @@ impl Row for LabelRow {
 
     #[tactic(auto, unfolding(crate::specs::Reading::label_of))]
     fn read(alloc: Global, value: &Value, index: usize) -> Result<Self, CertFault> {
-        let place = Place::Labels(index);
+        let place = TextPlace::Labels(index);
         let members = object(value, place)?;
         shape(members, &["label", "age"], place)?;
         let label = name(members, "label", place)?;

@@ -1,5 +1,5 @@
 use crate::{
-    CertFault, CertRule, Certificate, Fault, InputRow, LabelRow, OutputRow, Place, cert_text,
+    CertFault, CertRule, Certificate, Fault, InputRow, LabelRow, OutputRow, TextPlace, cert_text,
     read_cert,
 };
 use std::alloc::{AllocError, Global};
@@ -62,7 +62,7 @@ fn reads_and_prints_the_smallest_certificate(rt: HostRuntime) -> Result<(), Fail
 
 #[test]
 fn tells_the_first_fault_of_the_top(rt: HostRuntime) -> Result<(), Fail> {
-    let top = Place::Top;
+    let top = TextPlace::Top;
     for (text, rule) in [
         ("", CertRule::NotJson),
         ("{\"inputs\":[", CertRule::NotJson),
@@ -99,7 +99,7 @@ fn tells_the_first_fault_of_the_top(rt: HostRuntime) -> Result<(), Fail> {
     Ok(())
 }
 
-// What is told of a text with one input, and a fault in each later list.
+// What is reported of a text with one input, and a fault in each later list.
 fn input_fault(alloc: Global, input: &str) -> Result<Option<Fault>, AllocError> {
     let text = listing(alloc, input, "0", "0")?;
     Ok(fault_of(alloc, text.as_str().as_bytes()))
@@ -107,7 +107,7 @@ fn input_fault(alloc: Global, input: &str) -> Result<Option<Fault>, AllocError> 
 
 #[test]
 fn tells_the_keys_of_an_input(rt: HostRuntime) -> Result<(), Fail> {
-    let place = Place::Inputs(0);
+    let place = TextPlace::Inputs(0);
     for (input, rule) in [
         ("0", CertRule::WrongKind),
         ("[]", CertRule::WrongKind),
@@ -132,7 +132,7 @@ fn tells_the_keys_of_an_input(rt: HostRuntime) -> Result<(), Fail> {
 #[test]
 fn tells_the_values_of_an_input(rt: HostRuntime) -> Result<(), Fail> {
     let alloc = rt.alloc();
-    let place = Place::Inputs(0);
+    let place = TextPlace::Inputs(0);
     for (bus, window, backlog, delay, rule) in [
         ("0", "-1", "0", "0", CertRule::WrongKind),
         ("\"\"", "-1", "0", "0", CertRule::ListOrNameOutOfBounds),
@@ -198,7 +198,7 @@ fn tells_the_first_fault_of_an_output_or_a_label(rt: HostRuntime) -> Result<(), 
             fault,
             Some(Fault {
                 rule,
-                place: Place::Outputs(0)
+                place: TextPlace::Outputs(0)
             }),
             "{output}"
         );
@@ -220,7 +220,7 @@ fn tells_the_first_fault_of_an_output_or_a_label(rt: HostRuntime) -> Result<(), 
             fault,
             Some(Fault {
                 rule,
-                place: Place::Labels(0)
+                place: TextPlace::Labels(0)
             }),
             "{label}"
         );
@@ -234,7 +234,7 @@ fn tells_the_index_and_the_earlier_list(rt: HostRuntime) -> Result<(), Fail> {
     let good = "{\"label\":\"x\",\"age\":4294967295}";
     let labels = format!(in alloc; "{good},{good},{{}}")?;
     let text = listing(alloc, "", "", labels.as_str())?;
-    let place = Place::Labels(2);
+    let place = TextPlace::Labels(2);
     assert_eq!(rt;
         fault_of(alloc, text.as_str().as_bytes()),
         Some(Fault {
@@ -243,7 +243,7 @@ fn tells_the_index_and_the_earlier_list(rt: HostRuntime) -> Result<(), Fail> {
         })
     );
     let text = listing(alloc, "", "{},0", "0")?;
-    let place = Place::Outputs(0);
+    let place = TextPlace::Outputs(0);
     assert_eq!(rt;
         fault_of(alloc, text.as_str().as_bytes()),
         Some(Fault {
@@ -261,7 +261,7 @@ fn counts_the_members_of_each_list(rt: HostRuntime) -> Result<(), Fail> {
     let full = repeated(alloc, "0", ",0", 1023, "")?;
     let top = Some(Fault {
         rule: CertRule::ListOrNameOutOfBounds,
-        place: Place::Top,
+        place: TextPlace::Top,
     });
     for (inputs, outputs, labels, fault) in [
         ("0", "0", long.as_str(), top),
@@ -273,7 +273,7 @@ fn counts_the_members_of_each_list(rt: HostRuntime) -> Result<(), Fail> {
             full.as_str(),
             Some(Fault {
                 rule: CertRule::WrongKind,
-                place: Place::Labels(0),
+                place: TextPlace::Labels(0),
             }),
         ),
     ] {
@@ -291,7 +291,7 @@ fn limits_the_text_and_its_depth(rt: HostRuntime) -> Result<(), Fail> {
     let alloc = rt.alloc();
     let refused = Some(Fault {
         rule: CertRule::NotJson,
-        place: Place::Top,
+        place: TextPlace::Top,
     });
     let spaces = 1_048_576 - SMALL.len();
     let text = repeated(alloc, SMALL, " ", spaces, "")?;
@@ -318,7 +318,7 @@ fn refuses_each_prefix(rt: HostRuntime) -> Result<(), Fail> {
     let text = SMALL.as_bytes();
     let refused = Some(Fault {
         rule: CertRule::NotJson,
-        place: Place::Top,
+        place: TextPlace::Top,
     });
     for end in 0..text.len() {
         let fault = fault_of(rt.alloc(), &text[..end]);
@@ -337,7 +337,7 @@ fn refuses_each_prefix(rt: HostRuntime) -> Result<(), Fail> {
 fn answers_each_replaced_byte(rt: HostRuntime) -> Result<(), Fail> {
     let refused = Some(Fault {
         rule: CertRule::NotJson,
-        place: Place::Top,
+        place: TextPlace::Top,
     });
     for (at, old) in SMALL.as_bytes().iter().enumerate() {
         for byte in [0x00, 0xFF, b'['] {
@@ -400,7 +400,7 @@ fn reads_back_the_greatest_certificate(rt: HostRuntime) -> Result<(), Fail> {
         fault,
         Some(Fault {
             rule: CertRule::ListOrNameOutOfBounds,
-            place: Place::Top
+            place: TextPlace::Top
         })
     );
     Ok(())
@@ -412,28 +412,28 @@ fn tells_a_fault_in_short_and_in_words(rt: HostRuntime) -> Result<(), Fail> {
         (
             Fault {
                 rule: CertRule::NotJson,
-                place: Place::Top,
+                place: TextPlace::Top,
             },
             "K1 at top",
         ),
         (
             Fault {
                 rule: CertRule::WrongKind,
-                place: Place::Inputs(0),
+                place: TextPlace::Inputs(0),
             },
             "K5 at inputs 0",
         ),
         (
             Fault {
                 rule: CertRule::ListOrNameOutOfBounds,
-                place: Place::Outputs(31),
+                place: TextPlace::Outputs(31),
             },
             "K6 at outputs 31",
         ),
         (
             Fault {
                 rule: CertRule::KeyAbsent,
-                place: Place::Labels(1023),
+                place: TextPlace::Labels(1023),
             },
             "K3 at labels 1023",
         ),
@@ -443,7 +443,7 @@ fn tells_a_fault_in_short_and_in_words(rt: HostRuntime) -> Result<(), Fail> {
     }
     let fault = CertFault::Unreadable(Fault {
         rule: CertRule::KeyUnknown,
-        place: Place::Labels(7),
+        place: TextPlace::Labels(7),
     });
     let words = format!(in rt.alloc(); "{fault}")?;
     assert_eq!(rt; words.as_str(), "labels 7: a key is unknown");

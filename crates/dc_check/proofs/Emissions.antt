@@ -207,7 +207,7 @@ each_numbered t run h past rest e s =
 -- the intervals of each label are kept
 pub label_kept : (t : TableRows) → AreValid t → (c : CertificateRows) → AcceptsNumbers t c → (run : List Event) → IsRun t run → KeepsBudgets t run →
     (past rest : List Event) (e : Event) → run ≡ past ++ (e ∷ rest) → (x : ℕ) → x < length t.labels →
-    IntervalKept (emission_ticks t x past) (marks x (emission t past e)) (tick_after past) (label_row t x).least (label_row t x).greatest
+    IntervalKept (emission_ticks t x past) (marks x (emission t past e)) (tick_after past) (label_row t x).minimum (label_row t x).maximum
 label_kept t v c a run numbers keeps past rest e s x h =
     let o : ℕ = (label_row t x).output in
     let there = v.labels_on_outputs x h in
@@ -220,15 +220,15 @@ label_kept t v c a run numbers keeps past rest e s x h =
     let timely : IsTimely tick_after (sent t (label_row t x).output) (due_tick t (label_row t x).output) (output_bound c (label_row t x).output).delay (past ++ e ∷ []) =
     timely_past tick_after (sent t (label_row t x).output) (due_tick t (label_row t x).output) (output_bound c (label_row t x).output).delay (past ++ e ∷ []) rest (subst T regroup all) in
     let each : Each (IsNumbered t) (past ++ e ∷ []) = each_past (IsNumbered t) (past ++ e ∷ []) rest (subst N regroup (each_numbered t run numbers)) in
-    let low : ℕ = (label_row t x).least + (output_bound c (label_row t x).output).delay in
-    let spaced = label_spaced t v x h ((label_row t x).least + (output_bound c (label_row t x).output).delay) in
+    let low : ℕ = (label_row t x).minimum + (output_bound c (label_row t x).output).delay in
+    let spaced = label_spaced t v x h ((label_row t x).minimum + (output_bound c (label_row t x).output).delay) in
     let some : 1 ≤ greatest_of (gaps_of t x) =
     (let first = spaced.first in let next = spaced.next first.0 first.1 in omega (arith, next.3, spaced.ascend first.0 next.0 next.1)) in
     intervals_kept (IsNumbered t) tick_after (sent t (label_row t x).output) (due_tick t (label_row t x).output) (output_bound c (label_row t x).output).delay
     (λ n. entry_label t (label_row t x).output n == x) (λ p d. marks x (emission t p d)) (emission_ticks t x) (label_acts t v x h) (emission_ticks-nil t x) (emission_ticks-push t x)
-    (least_of ((label_row t x).least + (output_bound c (label_row t x).output).delay) (gaps_of t x)) (greatest_of (gaps_of t x)) (label_row t x).least (label_row t x).greatest spaced
-    (all_at_least ((label_row t x).least + (output_bound c (label_row t x).output).delay) (gaps_of t x) (λ k l. fits.not_soon k 0 l))
-    (all_at_most (label_row t x).greatest (output_bound c (label_row t x).output).delay (gaps_of t x) (λ k l. fits.not_late k 0 l) some)
+    (least_of ((label_row t x).minimum + (output_bound c (label_row t x).output).delay) (gaps_of t x)) (greatest_of (gaps_of t x)) (label_row t x).minimum (label_row t x).maximum spaced
+    (all_at_least ((label_row t x).minimum + (output_bound c (label_row t x).output).delay) (gaps_of t x) (λ k l. fits.not_soon k 0 l))
+    (all_at_most (label_row t x).maximum (output_bound c (label_row t x).output).delay (gaps_of t x) (λ k l. fits.not_late k 0 l) some)
     past e timely each
 
 last_or-zero : (ts : List ℕ) → last_or_zero ts ≡ last_or ts 0
@@ -236,8 +236,8 @@ last_or-zero [] = refl
 last_or-zero (a ∷ ts) = last_or-front a 0 ts
 
 -- at an emission
-spaced_some : (t : TableRows) (past : List Event) (o : Option ℕ) → ((x : ℕ) → marks x o ≡ true → 1 ≤ length (emission_ticks t x past) → last_or (emission_ticks t x past) 0 + (label_row t x).least ≤ tick_after past) →
-    IfSome o (λ x. 1 ≤ length (emission_ticks t x past) → last_or_zero (emission_ticks t x past) + (label_row t x).least ≤ tick_after past)
+spaced_some : (t : TableRows) (past : List Event) (o : Option ℕ) → ((x : ℕ) → marks x o ≡ true → 1 ≤ length (emission_ticks t x past) → last_or (emission_ticks t x past) 0 + (label_row t x).minimum ≤ tick_after past) →
+    IfSome o (λ x. 1 ≤ length (emission_ticks t x past) → last_or_zero (emission_ticks t x past) + (label_row t x).minimum ≤ tick_after past)
 spaced_some t past None h = tt
 spaced_some t past (Some x) h = λ some. omega (arith, h x (eq_test x x refl) some, last_or-zero (emission_ticks t x past))
 

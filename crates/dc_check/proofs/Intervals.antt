@@ -52,47 +52,47 @@ pub record IsSpacedOut (due : ℕ → ℕ) (passes : ℕ → Bool) (least greate
   pub first : (j : ℕ) × (passes j ≡ true) × (due j ≤ greatest)
 
 -- the ticks of emissions so far, and the number of the last entry that passed among those that have left
-abbrev pub Told : (due : ℕ → ℕ) (delay : ℕ) (passes : ℕ → Bool) (n : ℕ) (told : List ℕ) → Type 0
-Told due delay passes n told =
-    ((told ≡ []) × ((k : ℕ) → k < n → passes k ≡ false))
-    ⊎ ((j : ℕ) × (j < n) × (passes j ≡ true) × ((k : ℕ) → j < k → k < n → passes k ≡ false) × (due j ≤ last_or told 0) × (last_or told 0 ≤ due j + delay) × (1 ≤ length told))
+abbrev pub Reported : (due : ℕ → ℕ) (delay : ℕ) (passes : ℕ → Bool) (n : ℕ) (reported : List ℕ) → Type 0
+Reported due delay passes n reported =
+    ((reported ≡ []) × ((k : ℕ) → k < n → passes k ≡ false))
+    ⊎ ((j : ℕ) × (j < n) × (passes j ≡ true) × ((k : ℕ) → j < k → k < n → passes k ≡ false) × (due j ≤ last_or reported 0) × (last_or reported 0 ≤ due j + delay) × (1 ≤ length reported))
 
 -- the time since the last emission is at most `most`; at an emission with an earlier one it is at least `least`
-pub record IntervalKept (told : List ℕ) (emission : Bool) (now least most : ℕ) : Type 0 where
-  pub long : now ≤ last_or told 0 + most
-  pub short : emission ≡ true → 1 ≤ length told → last_or told 0 + least ≤ now
+pub record IntervalKept (reported : List ℕ) (emission : Bool) (now least most : ℕ) : Type 0 where
+  pub long : now ≤ last_or reported 0 + most
+  pub short : emission ≡ true → 1 ≤ length reported → last_or reported 0 + least ≤ now
 
 either : (b : Bool) → (b ≡ true) ⊎ (b ≡ false)
 either true = inl refl
 either false = inr refl
 
-module _ {E : Type 0} (fine : E → Type 0) (tick sent : List E → ℕ) (due : ℕ → ℕ) (delay : ℕ) (passes : ℕ → Bool) (emits : List E → E → Bool) (told : List E → List ℕ)
+module _ {E : Type 0} (fine : E → Type 0) (tick sent : List E → ℕ) (due : ℕ → ℕ) (delay : ℕ) (passes : ℕ → Bool) (emits : List E → E → Bool) (reported : List E → List ℕ)
     (acts : Emits fine tick sent passes emits)
-    (told-nil : told [] ≡ [])
-    (told-next : (past : List E) (e : E) → told (past ++ (e ∷ [])) ≡ told past ++ cond (emits past e) (tick past ∷ []) []) where
-  told_step : (past : List E) (e : E) → (IsTimely tick sent due delay past → Each fine past → Told due delay passes (sent past) (told past)) →
-      IsTimely tick sent due delay (past ++ (e ∷ [])) → Each fine (past ++ (e ∷ [])) → Told due delay passes (sent (past ++ (e ∷ []))) (told (past ++ (e ∷ [])))
-  told_step past e ih t w =
+    (reported-nil : reported [] ≡ [])
+    (reported-next : (past : List E) (e : E) → reported (past ++ (e ∷ [])) ≡ reported past ++ cond (emits past e) (tick past ∷ []) []) where
+  reported_step : (past : List E) (e : E) → (IsTimely tick sent due delay past → Each fine past → Reported due delay passes (sent past) (reported past)) →
+      IsTimely tick sent due delay (past ++ (e ∷ [])) → Each fine (past ++ (e ∷ [])) → Reported due delay passes (sent (past ++ (e ∷ []))) (reported (past ++ (e ∷ [])))
+  reported_step past e ih t w =
       let good : fine e = w past [] e refl in
       let each : Each fine past = each_past fine past (e ∷ []) w in
       let before : IsTimely tick sent due delay past = timely_past tick sent due delay past (e ∷ []) t in
       let end : past ++ (e ∷ []) ≡ (past ++ (e ∷ [])) ++ [] = sym (append-nil (past ++ (e ∷ []))) in
       let start : past ≡ past ++ [] = sym (append-nil past) in
-      let P : List ℕ → Type 0 = λ z. Told due delay passes (sent (past ++ (e ∷ []))) z in
+      let P : List ℕ → Type 0 = λ z. Reported due delay passes (sent (past ++ (e ∷ []))) z in
       elim (either (emits past e)) [
         | inl y ↦
             let m = acts.marked past e good y in
-            let grown : told (past ++ (e ∷ [])) ≡ told past ++ (tick past ∷ []) = told-next past e ∙ ap (λ b. told past ++ cond b (tick past ∷ []) []) y in
-            let last : last_or (told (past ++ (e ∷ []))) 0 ≡ tick past = ap (λ z. last_or z 0) grown ∙ last_or-push (told past) (tick past) 0 in
-            let count : 1 ≤ length (told (past ++ (e ∷ []))) = omega (arith, ap length grown, length_push (told past) (tick past)) in
+            let grown : reported (past ++ (e ∷ [])) ≡ reported past ++ (tick past ∷ []) = reported-next past e ∙ ap (λ b. reported past ++ cond b (tick past ∷ []) []) y in
+            let last : last_or (reported (past ++ (e ∷ []))) 0 ≡ tick past = ap (λ z. last_or z 0) grown ∙ last_or-push (reported past) (tick past) 0 in
+            let count : 1 ≤ length (reported (past ++ (e ∷ []))) = omega (arith, ap length grown, length_push (reported past) (tick past)) in
             let early = t.never_early (past ++ (e ∷ [])) [] end (sent past) (omega (arith, m.1)) in
             let late : tick past ≤ due (sent past) + delay =
             elim (cases_lt (due (sent past) + delay) (tick past)) [ inl l ↦ absurd (let bad = before.in_time past [] start (sent past) l in omega (arith, bad)) | inr l ↦ omega arith ] in
             inr (sent past, omega (arith, m.1), m.0, λ k a b. absurd (omega (arith, m.1)), omega (arith, early, last, m.2), omega (arith, last), count)
         | inr n ↦
-            let same : told (past ++ (e ∷ [])) ≡ told past = told-next past e ∙ ap (λ b. told past ++ cond b (tick past ∷ []) []) n ∙ append-nil (told past) in
+            let same : reported (past ++ (e ∷ [])) ≡ reported past = reported-next past e ∙ ap (λ b. reported past ++ cond b (tick past ∷ []) []) n ∙ append-nil (reported past) in
             elim (acts.other past e good n) [
-              | inl s ↦ let Q : ℕ → Type 0 = λ x. Told due delay passes x (told (past ++ (e ∷ []))) in subst Q (sym s) (let R : List ℕ → Type 0 = λ z. Told due delay passes (sent past) z in subst R (sym same) (ih before each))
+              | inl s ↦ let Q : ℕ → Type 0 = λ x. Reported due delay passes x (reported (past ++ (e ∷ []))) in subst Q (sym s) (let R : List ℕ → Type 0 = λ z. Reported due delay passes (sent past) z in subst R (sym same) (ih before each))
               | inr (bad, s) ↦
                   elim (ih before each) [
                     | inl (none, rest) ↦ inl (same ∙ none, λ k l. elim (cases_lt k (sent past)) [ inl a ↦ rest k a | inr a ↦ let eq : k ≡ sent past = omega (arith, s) in ap passes eq ∙ bad ])
@@ -110,10 +110,10 @@ module _ {E : Type 0} (fine : E → Type 0) (tick sent : List E → ℕ) (due : 
             ]
       ]
 
-  pub told_so_far : (run : List E) → IsTimely tick sent due delay run → Each fine run → Told due delay passes (sent run) (told run)
-  told_so_far run =
-      by_events (λ past. IsTimely tick sent due delay past → Each fine past → Told due delay passes (sent past) (told past))
-      (λ t w. inl (told-nil, λ k l. absurd (omega (arith, acts.none_sent)))) told_step run
+  pub reported_so_far : (run : List E) → IsTimely tick sent due delay run → Each fine run → Reported due delay passes (sent run) (reported run)
+  reported_so_far run =
+      by_events (λ past. IsTimely tick sent due delay past → Each fine past → Reported due delay passes (sent past) (reported past))
+      (λ t w. inl (reported-nil, λ k l. absurd (omega (arith, acts.none_sent)))) reported_step run
 
   -- an entry that passes and has not left is not long due
   not_long : (past : List E) → IsTimely tick sent due delay past → (j : ℕ) → sent past ≤ j → tick past ≤ due j + delay
@@ -125,10 +125,10 @@ module _ {E : Type 0} (fine : E → Type 0) (tick sent : List E → ℕ) (due : 
 
   -- intervals are kept where emissions are timely
   pub intervals_kept : (least greatest low high : ℕ) → IsSpacedOut due passes least greatest → low + delay ≤ least → greatest + delay ≤ high →
-      (past : List E) (e : E) → IsTimely tick sent due delay (past ++ (e ∷ [])) → Each fine (past ++ (e ∷ [])) → IntervalKept (told past) (emits past e) (tick past) low high
+      (past : List E) (e : E) → IsTimely tick sent due delay (past ++ (e ∷ [])) → Each fine (past ++ (e ∷ [])) → IntervalKept (reported past) (emits past e) (tick past) low high
   intervals_kept least greatest low high s below above past e t w =
       let before : IsTimely tick sent due delay past = timely_past tick sent due delay past (e ∷ []) t in
-      elim (told_so_far past before (each_past fine past (e ∷ []) w)) [
+      elim (reported_so_far past before (each_past fine past (e ∷ []) w)) [
         | inl (none, rest) ↦
             let f = s.first in
             let unsent : sent past ≤ f.0 = elim (cases_lt f.0 (sent past)) [ inl l ↦ absurd (let bad = rest f.0 l in let good = f.1 in cc) | inr l ↦ omega arith ] in

@@ -3,7 +3,7 @@ use Rattle.std.proofs.Common.{◌≡◌, ◌≢◌, ℕ, ◌+◌, ◌<◌, Bool,
 use Rattle.std.proofs.lemmas.List.{length-map, get_or-map, same_lists}
 use Rattle.std.specs.Prelude.{string_bytes, not, nat_eq}
 use Rattle.std.specs.Cmp.Lexicographic.{pointwise, same_text, other_text}
-use Rattle.dc_cert.specs.Claims.{InputClaim, OutputClaim, LabelClaim, input_claim, output_claim, label_claim}
+use Rattle.dc_cert.specs.NamedRows.{NamedInput, NamedOutput, NamedLabel, named_input, named_output, named_label}
 use Rattle.dc_cert.specs.declared.certificate.InputRow.{InputRow}
 use Rattle.dc_cert.specs.declared.certificate.OutputRow.{OutputRow}
 use Rattle.dc_cert.specs.declared.certificate.LabelRow.{LabelRow}
@@ -27,12 +27,12 @@ same_bytes : (b : Bool) → false ≡ not b → true ≡ b
 same_bytes true h = refl
 same_bytes false h = sym h
 
--- what a test of two texts for difference has told, where each is known as another
+-- what a test of two texts for difference has reported, where each is known as another
 pub names_differ : (test : Bool) (a b name text : List ℕ) → test ≡ true → test ≡ not (pointwise nat_eq a b) → a ≡ name → b ≡ text → name ≢ text
-names_differ test a b name text holds told e f = λ same. other_text a b (other_bytes _ (sym holds ∙ told)) (e ∙ same ∙ sym f)
+names_differ test a b name text holds reported e f = λ same. other_text a b (other_bytes _ (sym holds ∙ reported)) (e ∙ same ∙ sym f)
 
 pub names_agree : (test : Bool) (a b name text : List ℕ) → test ≡ false → test ≡ not (pointwise nat_eq a b) → a ≡ name → b ≡ text → name ≡ text
-names_agree test a b name text fails told e f = sym e ∙ same_text a b (same_bytes _ (sym fails ∙ told)) ∙ f
+names_agree test a b name text fails reported e f = sym e ∙ same_text a b (same_bytes _ (sym fails ∙ reported)) ∙ f
 
 -- the name at a place is that of its key
 same_here : (names keys : List (List ℕ)) (n : ℕ) (name key : List ℕ) → n < length keys → ((d : List ℕ) → get_or names n d ≡ name) → key ≡ get_or keys n [] → name ≡ text_of key
@@ -69,22 +69,22 @@ other_count count names keys h = is_false (is_named count names keys) (λ yes. l
 -- ---- the names of a certificate's rows
 
 pub bus_read : (rows : List InputRow) (n : ℕ) (row : InputRow) → n < length rows → row ≡ get_or rows n row
-    → (d : List ℕ) → get_or (map (λ (i : InputClaim). i.bus) (map input_claim rows)) n d ≡ string_bytes row.bus
+    → (d : List ℕ) → get_or (map (λ (i : NamedInput). i.bus) (map named_input rows)) n d ≡ string_bytes row.bus
 bus_read rows n row there is d =
-    get_or-map (λ (i : InputClaim). i.bus) (map input_claim rows) n (input_claim row) d (omega (arith, length-map rows input_claim))
-    ∙ ap (λ (i : InputClaim). i.bus) (get_or-map input_claim rows n row (input_claim row) there)
+    get_or-map (λ (i : NamedInput). i.bus) (map named_input rows) n (named_input row) d (omega (arith, length-map rows named_input))
+    ∙ ap (λ (i : NamedInput). i.bus) (get_or-map named_input rows n row (named_input row) there)
     ∙ ap (λ (r : InputRow). string_bytes r.bus) (sym is)
 
 pub output_read : (rows : List OutputRow) (n : ℕ) (row : OutputRow) → n < length rows → row ≡ get_or rows n row
-    → (d : List ℕ) → get_or (map (λ (o : OutputClaim). o.output) (map output_claim rows)) n d ≡ string_bytes row.output
+    → (d : List ℕ) → get_or (map (λ (o : NamedOutput). o.output) (map named_output rows)) n d ≡ string_bytes row.output
 output_read rows n row there is d =
-    get_or-map (λ (o : OutputClaim). o.output) (map output_claim rows) n (output_claim row) d (omega (arith, length-map rows output_claim))
-    ∙ ap (λ (o : OutputClaim). o.output) (get_or-map output_claim rows n row (output_claim row) there)
+    get_or-map (λ (o : NamedOutput). o.output) (map named_output rows) n (named_output row) d (omega (arith, length-map rows named_output))
+    ∙ ap (λ (o : NamedOutput). o.output) (get_or-map named_output rows n row (named_output row) there)
     ∙ ap (λ (r : OutputRow). string_bytes r.output) (sym is)
 
 pub label_read : (rows : List LabelRow) (n : ℕ) (row : LabelRow) → n < length rows → row ≡ get_or rows n row
-    → (d : List ℕ) → get_or (map (λ (l : LabelClaim). l.label) (map label_claim rows)) n d ≡ string_bytes row.label
+    → (d : List ℕ) → get_or (map (λ (l : NamedLabel). l.label) (map named_label rows)) n d ≡ string_bytes row.label
 label_read rows n row there is d =
-    get_or-map (λ (l : LabelClaim). l.label) (map label_claim rows) n (label_claim row) d (omega (arith, length-map rows label_claim))
-    ∙ ap (λ (l : LabelClaim). l.label) (get_or-map label_claim rows n row (label_claim row) there)
+    get_or-map (λ (l : NamedLabel). l.label) (map named_label rows) n (named_label row) d (omega (arith, length-map rows named_label))
+    ∙ ap (λ (l : NamedLabel). l.label) (get_or-map named_label rows n row (named_label row) there)
     ∙ ap (λ (r : LabelRow). string_bytes r.label) (sym is)

@@ -27,7 +27,7 @@ use Rattle.dc_check.proofs.OutputMoves.{come_in, Sees, AreOutputMoves, CountsDue
 use Rattle.dc_check.proofs.OutputMoves.Sees.{ended, turned, idle}
 use Rattle.dc_check.proofs.Timely.{timely}
 use Rattle.dc_check.specs.Accepts.{AcceptsOutput}
-use Rattle.dc_event.specs.Outputs.{due_tick, sent, entry_in, output_move_of, output_moves, due_by, due_in}
+use Rattle.dc_event.specs.Outputs.{due_tick, sent, entry_in, output_move_of, output_moves, due_by, entries_due}
 use Rattle.dc_event.specs.Time.{ends, tick_after, send_of, send_ticks}
 use Rattle.dc_event.specs.declared.event.Event.{Event}
 use Rattle.dc_event.specs.declared.event.Event.TheVariants.{Tick, Arrive, Route, Send}
@@ -197,12 +197,12 @@ counts_dues t v o h =
 output_moves-push : (t : TableRows) (o : ℕ) (past : List Event) (e : Event) → output_moves t o (past ++ e ∷ []) ≡ output_moves t o past ++ output_move_of t o past e
 unfolding output_moves
 output_moves-push t o past e =
-    ap (λ z. due_in t o 0 ++ z) (each_joined-push (output_move_of t o) past e)
-    ∙ sym (append_assoc (due_in t o 0) (flat_map (λ z. z) (each_place (output_move_of t o) past)) (output_move_of t o past e))
+    ap (λ z. entries_due t o 0 ++ z) (each_joined-push (output_move_of t o) past e)
+    ∙ sym (append_assoc (entries_due t o 0) (flat_map (λ z. z) (each_place (output_move_of t o) past)) (output_move_of t o past e))
 
 output_moves-nil : (t : TableRows) (o : ℕ) → output_moves t o [] ≡ come_in (dues t o 0)
 unfolding output_moves each_place
-output_moves-nil t o = append-nil (due_in t o 0) ∙ ins_at (0 % (output_row t o).frame) (output_row t o).entries
+output_moves-nil t o = append-nil (entries_due t o 0) ∙ ins_at (0 % (output_row t o).frame) (output_row t o).entries
 
 output_sees : (t : TableRows) (o : ℕ) (past : List Event) (e : Event) → Sees (dues t o) (ticks ends past) (ends e) (one_if (send_of o e)) (output_move_of t o past e)
 output_sees t o past Tick =

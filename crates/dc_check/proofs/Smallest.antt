@@ -197,10 +197,10 @@ small_rows = numbers_of (small_claims 24)
 small_label : AcceptsLabel small_tables 0 small_rows
 small_label = record {
   gaps = record {
-    not_soon = subst (All (λ g. (label_row small_tables 0).least + label_delay small_tables small_rows 0 ≤ g)) (sym small_gaps)
-        (only_one (λ g. (label_row small_tables 0).least + label_delay small_tables small_rows 0 ≤ g) 15 (lit≤ tt));
-    not_late = subst (All (λ g. g + label_delay small_tables small_rows 0 ≤ (label_row small_tables 0).greatest)) (sym small_gaps)
-        (only_one (λ g. g + label_delay small_tables small_rows 0 ≤ (label_row small_tables 0).greatest) 15 (lit≤ tt));
+    not_soon = subst (All (λ g. (label_row small_tables 0).minimum + label_delay small_tables small_rows 0 ≤ g)) (sym small_gaps)
+        (only_one (λ g. (label_row small_tables 0).minimum + label_delay small_tables small_rows 0 ≤ g) 15 (lit≤ tt));
+    not_late = subst (All (λ g. g + label_delay small_tables small_rows 0 ≤ (label_row small_tables 0).maximum)) (sym small_gaps)
+        (only_one (λ g. g + label_delay small_tables small_rows 0 ≤ (label_row small_tables 0).maximum) 15 (lit≤ tt));
   };
   age = record {
     aged = only_one (λ s. (label_row small_tables 0).stale + source_delay small_tables small_rows s ≤ slice_index small_rows.ages 0) 0 (lit≤ tt);

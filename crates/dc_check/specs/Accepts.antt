@@ -3,7 +3,7 @@ use Rattle.std.specs.Prelude.{◌≡◌, ℕ, ◌+◌, ◌≤◌, ◌<◌, List,
 use Rattle.std.specs.List.{All}
 use Rattle.dc_busy.specs.BusyWindow.{Closes, BacklogBounded, DelayBounded}
 use Rattle.dc_cert.specs.Bounds.{InputBound, OutputBound, CertificateRows, input_bound, output_bound, numbers_of}
-use Rattle.dc_cert.specs.Claims.{Claims}
+use Rattle.dc_cert.specs.NamedRows.{NamedRows}
 use Rattle.dc_parts.specs.Names.{text_of}
 use Rattle.dc_tables.specs.TableRows.{TableRows, bus_row, stream_row, label_row, bus_cap, bus_floor, output_cap, output_floor}
 use Rattle.dc_transmit.specs.Schedule.{schedule_of, label_gaps}
@@ -50,13 +50,13 @@ gaps_of t x = label_gaps (schedule_of t (label_row t x).output) x
 
 -- the gaps between the label's entries keep its intervals, however its output delays them
 pub record GapsFit (t : TableRows) (x : ℕ) (c : CertificateRows) : Type 0 where
-  pub not_soon : All (λ g. (label_row t x).least + label_delay t c x ≤ g) (gaps_of t x)
-  pub not_late : All (λ g. g + label_delay t c x ≤ (label_row t x).greatest) (gaps_of t x)
+  pub not_soon : All (λ g. (label_row t x).minimum + label_delay t c x ≤ g) (gaps_of t x)
+  pub not_late : All (λ g. g + label_delay t c x ≤ (label_row t x).maximum) (gaps_of t x)
 
 -- the age is long enough for the oldest word that is still copied, and within the label's limit
 pub record AgeHolds (t : TableRows) (x : ℕ) (c : CertificateRows) : Type 0 where
   pub aged : All (λ s. (label_row t x).stale + source_delay t c s ≤ slice_index c.ages x) (label_row t x).sources
-  pub limited : slice_index c.ages x ≤ (label_row t x).oldest
+  pub limited : slice_index c.ages x ≤ (label_row t x).age_limit
 
 -- a source that keeps sending is never stale
 abbrev pub SourcesStayFresh : TableRows → ℕ → CertificateRows → Type 0
@@ -81,12 +81,12 @@ pub record IsNamed (count : ℕ) (names keys : List (List ℕ)) : Type 0 where
   pub same : names ≡ map text_of keys
 
 -- the certificate's parts are the tables' buses, outputs and labels
-pub record AreNamed (t : TableRows) (claims : Claims) : Type 0 where
+pub record AreNamed (t : TableRows) (claims : NamedRows) : Type 0 where
   pub inputs : IsNamed (length t.buses) (map (λ i. i.bus) claims.inputs) t.keys.buses
   pub outputs : IsNamed (length t.outputs) (map (λ o. o.output) claims.outputs) t.keys.outputs
   pub labels : IsNamed (length t.labels) (map (λ l. l.label) claims.labels) t.keys.labels
 
 -- the certificate is accepted for the tables
-pub record Accepts (t : TableRows) (claims : Claims) : Type 0 where
+pub record Accepts (t : TableRows) (claims : NamedRows) : Type 0 where
   pub named : AreNamed t claims
   pub numbers : AcceptsNumbers t (numbers_of claims)

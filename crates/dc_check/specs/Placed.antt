@@ -2,12 +2,12 @@
 use Rattle.std.specs.Prelude.{◌≢◌, ℕ, ◌<◌, length}
 use Rattle.dc_check.specs.declared.fault.CheckFault.{CheckFault}
 use Rattle.dc_check.specs.declared.fault.Condition.TheVariants.{NamesDiffer}
-use Rattle.dc_check.specs.declared.fault.Part.{Part}
-use Rattle.dc_check.specs.declared.fault.Part.TheVariants.{Inputs, Outputs, Labels}
+use Rattle.dc_check.specs.declared.fault.CertificateList.{CertificateList}
+use Rattle.dc_check.specs.declared.fault.CertificateList.TheVariants.{Inputs, Outputs, Labels}
 use Rattle.dc_tables.specs.TableRows.{TableRows}
 
 -- how many inputs, outputs or labels there are
-abbrev pub part_count : TableRows → Part → ℕ
+abbrev pub part_count : TableRows → CertificateList → ℕ
 part_count t Inputs = length t.buses
 part_count t Outputs = length t.outputs
 part_count t Labels = length t.labels

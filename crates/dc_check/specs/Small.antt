@@ -1,6 +1,6 @@
 -- Small tables, a certificate for them and a run: what shows that the certification theorem speaks of something.
 use Rattle.std.specs.Prelude.{false, ◌≡◌, ℕ, None, Some, List, [], ◌∷◌, ◌++◌}
-use Rattle.dc_cert.specs.Claims.{Claims}
+use Rattle.dc_cert.specs.NamedRows.{NamedRows}
 use Rattle.dc_event.specs.Choice.{chosen_source}
 use Rattle.dc_event.specs.Emissions.{emission}
 use Rattle.dc_event.specs.declared.event.Event.{Event}
@@ -49,7 +49,7 @@ abbrev pub small_output : Output
 small_output = record { steps = 1; within = 2; gap = 1; frame = 15; entries = record { offset = 0; label = 0 } ∷ [] }
 
 abbrev pub small_label : OutputLabel
-small_label = record { output = 0; label = 131; sdi = 0; format = Bnr; sources = 0 ∷ []; stale = 22; oldest = 30; least = 11; greatest = 19 }
+small_label = record { output = 0; label = 131; sdi = 0; format = Bnr; sources = 0 ∷ []; stale = 22; age_limit = 30; minimum = 11; maximum = 19 }
 
 -- bus A brings labels 203 and 204 (octal) to router R; output O sends label x from the first
 abbrev pub small_tables : TableRows
@@ -64,7 +64,7 @@ small_tables = record {
 }
 
 -- their certificate, with this age of label x
-abbrev pub small_claims : ℕ → Claims
+abbrev pub small_claims : ℕ → NamedRows
 small_claims age = record {
   inputs = record { bus = 65 ∷ []; window = 3; backlog = 2; delay = 2 } ∷ [];
   outputs = record { output = 79 ∷ []; window = 3; delay = 2 } ∷ [];

@@ -6,20 +6,20 @@ use Rattle.std.specs.Option.{option_or}
 use Rattle.std.specs.Str.{bytes_eq}
 use Rattle.dc_bound.specs.Places.{when, or_else}
 use Rattle.dc_cert.specs.Bounds.{InputBound, OutputBound, CertificateRows, input_bound, output_bound, numbers_of}
-use Rattle.dc_cert.specs.Claims.{Claims}
+use Rattle.dc_cert.specs.NamedRows.{NamedRows}
 use Rattle.dc_check.specs.Accepts.{gaps_of, label_delay, source_delay}
 use Rattle.dc_check.specs.declared.fault.CheckFault.{CheckFault}
 use Rattle.dc_check.specs.declared.fault.Condition.{Condition}
 use Rattle.dc_check.specs.declared.fault.Condition.TheVariants.{NamesDiffer, WindowOutOfRange, WindowDoesNotClose, BacklogTooSmall, QueueTooShort, DelayTooSmall, DelayOutOfRange, SentTooSoon, SentTooLate, AgeTooSmall, AgeOverLimit, SourceGoesStale}
-use Rattle.dc_check.specs.declared.fault.Part.{Part}
-use Rattle.dc_check.specs.declared.fault.Part.TheVariants.{Inputs, Outputs, Labels}
+use Rattle.dc_check.specs.declared.fault.CertificateList.{CertificateList}
+use Rattle.dc_check.specs.declared.fault.CertificateList.TheVariants.{Inputs, Outputs, Labels}
 use Rattle.dc_parts.specs.Names.{text_of}
 use Rattle.dc_tables.specs.TableRows.{TableRows, bus_row, stream_row, label_row, bus_cap, bus_floor, output_cap, output_floor}
 
 -- ---- faults
 
 -- a fault at a part of the certificate
-abbrev pub fault_at : Part → ℕ → Condition → ℕ → CheckFault
+abbrev pub fault_at : CertificateList → ℕ → Condition → ℕ → CheckFault
 fault_at part index condition window = record { condition = condition; part = part; index = index; window = window }
 
 -- a rule that names no window: this fault, unless the test holds
@@ -27,7 +27,7 @@ unfoldable pub unless : Bool → CheckFault → Option CheckFault
 unless holds fault = if holds then None else Some fault
 
 -- a rule that names the first window that fails, if any does
-unfoldable pub at_window : Part → ℕ → Condition → Option ℕ → Option CheckFault
+unfoldable pub at_window : CertificateList → ℕ → Condition → Option ℕ → Option CheckFault
 at_window part index condition None = None
 at_window part index condition (Some w) = Some (fault_at part index condition w)
 
@@ -68,7 +68,7 @@ abbrev pub is_named : ℕ → List (List ℕ) → List (List ℕ) → Bool
 is_named count names keys = length names == count && pointwise bytes_eq names (map text_of keys)
 
 -- the rules on names
-abbrev pub name_rules : TableRows → Claims → List (Option CheckFault)
+abbrev pub name_rules : TableRows → NamedRows → List (Option CheckFault)
 name_rules t claims =
     unless (is_named (length t.buses) (map (λ i. i.bus) claims.inputs) t.keys.buses) (fault_at Inputs 0 NamesDiffer 0)
     ∷ unless (is_named (length t.outputs) (map (λ o. o.output) claims.outputs) t.keys.outputs) (fault_at Outputs 0 NamesDiffer 0)
@@ -76,7 +76,7 @@ name_rules t claims =
     ∷ []
 
 -- the fault of the names, if any
-abbrev pub misnaming : TableRows → Claims → Option CheckFault
+abbrev pub misnaming : TableRows → NamedRows → Option CheckFault
 misnaming t claims = first_of (name_rules t claims)
 
 -- as many of each part as the tables have
@@ -88,7 +88,7 @@ pub record IsSized (t : TableRows) (c : CertificateRows) : Type 0 where
 -- ---- an input, an output, a label
 
 -- the rules on ranges
-abbrev pub range_rules : Part → ℕ → (window delay : ℕ) → List (Option CheckFault)
+abbrev pub range_rules : CertificateList → ℕ → (window delay : ℕ) → List (Option CheckFault)
 range_rules part index window delay =
     unless (is_window window) (fault_at part index WindowOutOfRange 0)
     ∷ unless (is_delay delay) (fault_at part index DelayOutOfRange 0)
@@ -121,10 +121,10 @@ output_rules t o c =
 
 abbrev pub label_rules : TableRows → ℕ → CertificateRows → List (Option CheckFault)
 label_rules t x c =
-    unless (list_all (λ g. nat_le ((label_row t x).least + label_delay t c x) g) (gaps_of t x)) (fault_at Labels x SentTooSoon 0)
-    ∷ unless (list_all (λ g. nat_le (g + label_delay t c x) (label_row t x).greatest) (gaps_of t x)) (fault_at Labels x SentTooLate 0)
+    unless (list_all (λ g. nat_le ((label_row t x).minimum + label_delay t c x) g) (gaps_of t x)) (fault_at Labels x SentTooSoon 0)
+    ∷ unless (list_all (λ g. nat_le (g + label_delay t c x) (label_row t x).maximum) (gaps_of t x)) (fault_at Labels x SentTooLate 0)
     ∷ unless (list_all (λ s. nat_le ((label_row t x).stale + source_delay t c s) (slice_index c.ages x)) (label_row t x).sources) (fault_at Labels x AgeTooSmall 0)
-    ∷ unless (nat_le (slice_index c.ages x) (label_row t x).oldest) (fault_at Labels x AgeOverLimit 0)
+    ∷ unless (nat_le (slice_index c.ages x) (label_row t x).age_limit) (fault_at Labels x AgeOverLimit 0)
     ∷ unless (list_all (λ s. nat_le (source_delay t c s + (stream_row t s).maximum) (label_row t x).stale) (label_row t x).sources) (fault_at Labels x SourceGoesStale 0)
     ∷ []
 
@@ -174,5 +174,5 @@ first_job_fault verdict zero = None
 first_job_fault verdict (suc n) = option_or (first_job_fault verdict n) (verdict n)
 
 -- the first fault of a certificate for the tables: of its names, then of its jobs in their order
-unfoldable pub verdict_of : TableRows → Claims → Option CheckFault
+unfoldable pub verdict_of : TableRows → NamedRows → Option CheckFault
 verdict_of t claims = option_or (misnaming t claims) (first_job_fault (job_verdict t (numbers_of claims)) (job_count t))

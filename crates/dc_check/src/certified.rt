@@ -2,7 +2,7 @@
 
 ghost use Rattle.std.specs.Prelude.{◌≡◌};
 ghost use Rattle.std.specs.Arc.{arc_value};
-ghost use Rattle.dc_cert.specs.Claims.{claims_of};
+ghost use Rattle.dc_cert.specs.NamedRows.{named_rows};
 ghost use Rattle.dc_check.specs.Accepts.{Accepts};
 ghost use Rattle.dc_check.specs.Certified.{KeepsItsClaims};
 
@@ -16,7 +16,7 @@ use std::sync::Arc;
 pub struct Certified {
     tables: Arc<Tables>,
     certificate: Certificate,
-    ghost accepted: { Accepts (arc_value tables) (claims_of certificate) },
+    ghost accepted: { Accepts (arc_value tables) (named_rows certificate) },
 }
 
 impl Certified {
@@ -24,7 +24,7 @@ impl Certified {
 
     /// Tables and a certificate that is accepted for them.
     pub(crate) fn new(tables: Arc<Tables>, certificate: Certificate) -> Certified
-        requires { Accepts (arc_value tables) (claims_of certificate) }
+        requires { Accepts (arc_value tables) (named_rows certificate) }
         ensures tables { tables_of result ≡ arc_value tables }
         ensures certificate { certificate_of result ≡ certificate }
     {
@@ -50,8 +50,8 @@ impl Certified {
 
     /// What the certificate claims holds in every admissible run of the tables. The call does nothing.
     pub fn keeps_its_claims(&self)
-        ensures accepted { Accepts (tables_of self.now) (claims_of (certificate_of self.now)) }
-        ensures claims { KeepsItsClaims (tables_of self.now) (claims_of (certificate_of self.now)) }
+        ensures accepted { Accepts (tables_of self.now) (named_rows (certificate_of self.now)) }
+        ensures claims { KeepsItsClaims (tables_of self.now) (named_rows (certificate_of self.now)) }
     {
         self.tables.valid();
     }

@@ -70,7 +70,7 @@ impl Condition {
 
 /// The list of a certificate that a fault is in.
 #[derive(Clone, Copy, Debug, PartialEq, Eq, Error)]
-pub enum Part {
+pub enum CertificateList {
     /// The input buses.
     #[error("inputs")]
     Inputs,
@@ -89,7 +89,7 @@ pub struct CheckFault {
     /// The condition that fails.
     pub condition: Condition,
     /// The list in which it fails.
-    pub part: Part,
+    pub part: CertificateList,
     /// The number of the input, output or label in its list; 0 for `NamesDiffer`, which is of the list as a whole.
     pub index: usize,
     /// The first window of 1 tick or more that fails, for `BacklogTooSmall` and `DelayTooSmall`; 0 for the others.

@@ -2,7 +2,7 @@
 
 ghost use Rattle.std.specs.Prelude.{◌≡◌, ℕ, ◌+◌, ◌<◌, length, None, Some, IfErr, MatchResult};
 ghost use Rattle.dc_cert.specs.Bounds.{certificate_rows};
-ghost use Rattle.dc_cert.specs.Claims.{claims_of};
+ghost use Rattle.dc_cert.specs.NamedRows.{named_rows};
 ghost use Rattle.dc_check.specs.Placed.{IsPlaced};
 ghost use Rattle.dc_check.specs.Verdict.{IsSized, job_count, job_ranges, job_verdict, job_backlog_failure, job_delay_failure, first_job_fault, verdict_of};
 
@@ -107,7 +107,7 @@ pub(crate) fn jobs_fault(tables: &Tables, certificate: &Certificate) -> Option<C
 /// The verdict on a certificate: its first fault, if it has one.
 pub fn verdict(tables: &Tables, certificate: &Certificate) -> Result<(), CheckFault>
     ensures place { IfErr result (λ fault. IsPlaced tables.now fault) }
-    ensures exact { MatchResult result (λ _. verdict_of tables.now (claims_of certificate.now) ≡ None) (λ fault. verdict_of tables.now (claims_of certificate.now) ≡ Some fault) }
+    ensures exact { MatchResult result (λ _. verdict_of tables.now (named_rows certificate.now) ≡ None) (λ fault. verdict_of tables.now (named_rows certificate.now) ≡ Some fault) }
 {
     if let Some(fault) = misnamed(tables, certificate) {
         return Err(fault);

@@ -2,7 +2,7 @@
 
 ghost use Rattle.std.specs.Prelude.{◌≡◌, None, Some, IfErr, IfOk, MatchResult};
 ghost use Rattle.std.specs.Arc.{arc_value};
-ghost use Rattle.dc_cert.specs.Claims.{claims_of};
+ghost use Rattle.dc_cert.specs.NamedRows.{named_rows};
 ghost use Rattle.dc_check.specs.Accepts.{Accepts};
 ghost use Rattle.dc_check.specs.Certified.{KeepsItsClaims};
 ghost use Rattle.dc_check.specs.Lent.{tables_of, certificate_of};
@@ -18,7 +18,7 @@ use std::sync::Arc;
 
 /// Holds tables together with a certificate that is accepted for them.
 pub fn certify(tables: Arc<Tables>, certificate: Certificate) -> Certified
-    requires { Accepts (arc_value tables) (claims_of certificate) }
+    requires { Accepts (arc_value tables) (named_rows certificate) }
     ensures tables { tables_of result ≡ arc_value tables }
     ensures certificate { certificate_of result ≡ certificate }
 {
@@ -29,10 +29,10 @@ pub fn certify(tables: Arc<Tables>, certificate: Certificate) -> Certified
 /// overruns, every word that leaves is no computed data or copies a word at most the label's age old, a live first
 /// source is used, and each label keeps its intervals. Else its first fault.
 pub fn check(tables: Arc<Tables>, certificate: Certificate) -> Result<Certified, CheckFault>
-    ensures claims { IfOk result (λ _. KeepsItsClaims (arc_value tables) (claims_of certificate)) }
+    ensures claims { IfOk result (λ _. KeepsItsClaims (arc_value tables) (named_rows certificate)) }
     ensures lends { IfOk result (λ c. (tables_of c ≡ arc_value tables) × (certificate_of c ≡ certificate)) }
     ensures place { IfErr result (λ fault. IsPlaced (arc_value tables) fault) }
-    ensures exact { MatchResult result (λ _. verdict_of (arc_value tables) (claims_of certificate) ≡ None) (λ fault. verdict_of (arc_value tables) (claims_of certificate) ≡ Some fault) }
+    ensures exact { MatchResult result (λ _. verdict_of (arc_value tables) (named_rows certificate) ≡ None) (λ fault. verdict_of (arc_value tables) (named_rows certificate) ≡ Some fault) }
 {
     match verdict(&tables, &certificate) {
         Err(fault) => Err(fault),

@@ -7,7 +7,7 @@ ghost use Rattle.dc_check.specs.Accepts.{gaps_of, source_delay};
 ghost use Rattle.dc_check.specs.Verdict.{IsSized, first_of, label_rules};
 ghost use Rattle.dc_tables.specs.TableRows.{stream_row, label_row};
 
-use crate::fault::{CheckFault, Condition, Part};
+use crate::fault::{CertificateList, CheckFault, Condition};
 use crate::rules::{fault, fault_unless, first_fault};
 use dc_cert::Certificate;
 use dc_tables::Tables;
@@ -29,23 +29,23 @@ pub(crate) fn label_fault(
     first_fault(&[
         fault_unless(
             are_not_soon(tables, label, delay),
-            fault(Part::Labels, label, Condition::SentTooSoon),
+            fault(CertificateList::Labels, label, Condition::SentTooSoon),
         ),
         fault_unless(
             are_not_late(tables, label, delay),
-            fault(Part::Labels, label, Condition::SentTooLate),
+            fault(CertificateList::Labels, label, Condition::SentTooLate),
         ),
         fault_unless(
             are_within(tables, certificate, label, age),
-            fault(Part::Labels, label, Condition::AgeTooSmall),
+            fault(CertificateList::Labels, label, Condition::AgeTooSmall),
         ),
         fault_unless(
-            age <= tables.label(label).oldest,
-            fault(Part::Labels, label, Condition::AgeOverLimit),
+            age <= tables.label(label).age_limit,
+            fault(CertificateList::Labels, label, Condition::AgeOverLimit),
         ),
         fault_unless(
             stay_fresh(tables, certificate, label),
-            fault(Part::Labels, label, Condition::SourceGoesStale),
+            fault(CertificateList::Labels, label, Condition::SourceGoesStale),
         ),
     ])
 }
@@ -53,23 +53,23 @@ pub(crate) fn label_fault(
 /// Whether neighbouring entries of a label lie at least its least interval and the delay apart, round the frame.
 fn are_not_soon(tables: &Tables, label: usize, delay: u32) -> bool
     requires { label < length tables.now.labels }
-    ensures { result ≡ list_all (λ g. nat_le ((label_row tables.now label).least + delay) g) (gaps_of tables.now label) }
+    ensures { result ≡ list_all (λ g. nat_le ((label_row tables.now label).minimum + delay) g) (gaps_of tables.now label) }
 {
     tables.valid();
     let row = tables.label(label);
     let schedule = Schedule::of(tables, row.output);
-    u64::from(row.least) + u64::from(delay) <= schedule.min_gap(label)
+    u64::from(row.minimum) + u64::from(delay) <= schedule.min_gap(label)
 }
 
 /// Whether they lie, with the delay, at most its greatest interval apart.
 fn are_not_late(tables: &Tables, label: usize, delay: u32) -> bool
     requires { label < length tables.now.labels }
-    ensures { result ≡ list_all (λ g. nat_le (g + delay) (label_row tables.now label).greatest) (gaps_of tables.now label) }
+    ensures { result ≡ list_all (λ g. nat_le (g + delay) (label_row tables.now label).maximum) (gaps_of tables.now label) }
 {
     tables.valid();
     let row = tables.label(label);
     let schedule = Schedule::of(tables, row.output);
-    let greatest = u64::from(row.greatest);
+    let greatest = u64::from(row.maximum);
     let delay = u64::from(delay);
     delay <= greatest && schedule.max_gap(label) <= greatest - delay
 }

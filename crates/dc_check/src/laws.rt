@@ -2,7 +2,7 @@
 //! They do nothing, but for the last, which answers a number.
 
 ghost use Rattle.std.specs.Prelude.{◌≡◌, ℕ, ◌≤◌, ◌↔◌, None};
-ghost use Rattle.dc_cert.specs.Claims.{Claims};
+ghost use Rattle.dc_cert.specs.NamedRows.{NamedRows};
 ghost use Rattle.dc_check.specs.Accepts.{Accepts};
 ghost use Rattle.dc_check.specs.Certified.{AcceptedKeepTheirClaims, PolicedKeepTheirClaims};
 ghost use Rattle.dc_check.specs.Small.{small_tables, small_claims, small_run, SendsCopy};
@@ -30,7 +30,7 @@ pub fn policed_tables_keep_their_claims(tables: &Tables)
 
 /// The verdict on a certificate finds no fault exactly where the certificate is accepted.
 pub fn no_fault_is_acceptance(tables: &Tables)
-    ensures { (claims : Claims) → (verdict_of tables.now claims ≡ None) ↔ Accepts tables.now claims }
+    ensures { (claims : NamedRows) → (verdict_of tables.now claims ≡ None) ↔ Accepts tables.now claims }
 {
     let _buses = tables.bus_count();
 }

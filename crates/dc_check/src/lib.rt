@@ -15,9 +15,8 @@ mod small;
 mod tests;
 
 pub use certified::Certified;
-pub use fault::{CheckFault, Condition, Part};
+pub use fault::{CertificateList, CheckFault, Condition};
 pub use job::{job_fault, job_fault_given, verdict};
 pub use judge::{certify, check};
 pub use names::misnamed;
-pub use rules::LONGEST;
 pub use small::are_small;

@@ -2,10 +2,10 @@
 
 ghost use Rattle.std.specs.Prelude.{◌≡◌, IfNone, length, map};
 ghost use Rattle.dc_cert.specs.Bounds.{certificate_rows};
-ghost use Rattle.dc_cert.specs.Claims.{claims_of, input_claim, output_claim, label_claim};
+ghost use Rattle.dc_cert.specs.NamedRows.{named_rows, named_input, named_output, named_label};
 ghost use Rattle.dc_check.specs.Verdict.{IsSized, is_named, misnaming};
 
-use crate::fault::{CheckFault, Condition, Part};
+use crate::fault::{CertificateList, CheckFault, Condition};
 use crate::rules::{fault, fault_unless, first_fault};
 use dc_cert::{Certificate, InputRow, LabelRow, OutputRow};
 use dc_tables::Tables;
@@ -13,28 +13,28 @@ use dc_tables::Tables;
 /// The fault of a certificate's names, if any: `NamesDiffer` at the inputs, the outputs or the labels. Where there is none, the
 /// certificate has as many rows of each kind as the tables.
 pub fn misnamed(tables: &Tables, certificate: &Certificate) -> Option<CheckFault>
-    ensures exact { result ≡ misnaming tables.now (claims_of certificate.now) }
+    ensures exact { result ≡ misnaming tables.now (named_rows certificate.now) }
     ensures sized { IfNone result (IsSized tables.now (certificate_rows certificate.now)) }
 {
     first_fault(&[
         fault_unless(
             are_buses(tables, &certificate.inputs),
-            fault(Part::Inputs, 0, Condition::NamesDiffer),
+            fault(CertificateList::Inputs, 0, Condition::NamesDiffer),
         ),
         fault_unless(
             are_outputs(tables, &certificate.outputs),
-            fault(Part::Outputs, 0, Condition::NamesDiffer),
+            fault(CertificateList::Outputs, 0, Condition::NamesDiffer),
         ),
         fault_unless(
             are_labels(tables, &certificate.labels),
-            fault(Part::Labels, 0, Condition::NamesDiffer),
+            fault(CertificateList::Labels, 0, Condition::NamesDiffer),
         ),
     ])
 }
 
 /// Whether these are the tables' buses, once each and in their order.
 fn are_buses(tables: &Tables, inputs: &[InputRow]) -> bool
-    ensures { result ≡ is_named (length tables.now.buses) (map (λ i. i.bus) (map input_claim inputs.now)) tables.now.keys.buses }
+    ensures { result ≡ is_named (length tables.now.buses) (map (λ i. i.bus) (map named_input inputs.now)) tables.now.keys.buses }
 {
     tables.keyed();
     if inputs.len() != tables.bus_count() {
@@ -51,7 +51,7 @@ fn are_buses(tables: &Tables, inputs: &[InputRow]) -> bool
 
 /// Whether these are the tables' outputs, once each and in their order.
 fn are_outputs(tables: &Tables, outputs: &[OutputRow]) -> bool
-    ensures { result ≡ is_named (length tables.now.outputs) (map (λ o. o.output) (map output_claim outputs.now)) tables.now.keys.outputs }
+    ensures { result ≡ is_named (length tables.now.outputs) (map (λ o. o.output) (map named_output outputs.now)) tables.now.keys.outputs }
 {
     tables.keyed();
     if outputs.len() != tables.output_count() {
@@ -68,7 +68,7 @@ fn are_outputs(tables: &Tables, outputs: &[OutputRow]) -> bool
 
 /// Whether these are the tables' labels, once each and in their order.
 fn are_labels(tables: &Tables, labels: &[LabelRow]) -> bool
-    ensures { result ≡ is_named (length tables.now.labels) (map (λ l. l.label) (map label_claim labels.now)) tables.now.keys.labels }
+    ensures { result ≡ is_named (length tables.now.labels) (map (λ l. l.label) (map named_label labels.now)) tables.now.keys.labels }
 {
     tables.keyed();
     if labels.len() != tables.label_count() {

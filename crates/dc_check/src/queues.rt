@@ -3,10 +3,10 @@
 ghost use Rattle.std.specs.Prelude.{◌≡◌, ℕ, ◌+◌, ◌<◌, ◌≤◌, length, None};
 ghost use Rattle.dc_cert.specs.Bounds.{certificate_rows, input_bound, output_bound};
 ghost use Rattle.dc_check.specs.Verdict.{IsSized, first_of, range_rules, input_rules, output_rules, input_backlog_failure, input_delay_failure, output_delay_failure, job_verdict};
-ghost use Rattle.dc_check.specs.declared.fault.Part.TheVariants.{Inputs, Outputs};
+ghost use Rattle.dc_check.specs.declared.fault.CertificateList.TheVariants.{Inputs, Outputs};
 ghost use Rattle.dc_tables.specs.TableRows.{bus_cap, bus_floor, output_cap, output_floor};
 
-use crate::fault::{CheckFault, Condition, Part};
+use crate::fault::{CertificateList, CheckFault, Condition};
 use crate::rules::{
     closing_fault, fault, fault_unless, first_failing, first_fault, first_overdue, range_fault,
     window_fault,
@@ -37,13 +37,23 @@ pub(crate) fn input_fault<A: ArrivalBound, S: ServiceBound>(
     let window = certificate.inputs[bus].window;
     let backlog = certificate.inputs[bus].backlog;
     first_fault(&[
-        closing_fault(Part::Inputs, bus, arrivals, service, window),
-        window_fault(Part::Inputs, bus, Condition::BacklogTooSmall, first_backlog),
+        closing_fault(CertificateList::Inputs, bus, arrivals, service, window),
+        window_fault(
+            CertificateList::Inputs,
+            bus,
+            Condition::BacklogTooSmall,
+            first_backlog,
+        ),
         fault_unless(
             backlog <= tables.queue(bus),
-            fault(Part::Inputs, bus, Condition::QueueTooShort),
+            fault(CertificateList::Inputs, bus, Condition::QueueTooShort),
         ),
-        window_fault(Part::Inputs, bus, Condition::DelayTooSmall, first_delay),
+        window_fault(
+            CertificateList::Inputs,
+            bus,
+            Condition::DelayTooSmall,
+            first_delay,
+        ),
     ])
 }
 
@@ -66,8 +76,13 @@ pub(crate) fn output_fault<A: ArrivalBound, S: ServiceBound>(
 {
     let window = certificate.outputs[output].window;
     first_fault(&[
-        closing_fault(Part::Outputs, output, arrivals, service, window),
-        window_fault(Part::Outputs, output, Condition::DelayTooSmall, first_delay),
+        closing_fault(CertificateList::Outputs, output, arrivals, service, window),
+        window_fault(
+            CertificateList::Outputs,
+            output,
+            Condition::DelayTooSmall,
+            first_delay,
+        ),
     ])
 }
 
@@ -88,7 +103,7 @@ pub(crate) fn input_job<A: ArrivalBound, S: ServiceBound>(
     let window = certificate.inputs[bus].window;
     let backlog = certificate.inputs[bus].backlog;
     let delay = certificate.inputs[bus].delay;
-    let ranges = range_fault(Part::Inputs, bus, window, delay);
+    let ranges = range_fault(CertificateList::Inputs, bus, window, delay);
     if ranges.is_some() {
         return ranges;
     }
@@ -120,7 +135,7 @@ pub(crate) fn output_job<A: ArrivalBound, S: ServiceBound>(
 {
     let window = certificate.outputs[output].window;
     let delay = certificate.outputs[output].delay;
-    let ranges = range_fault(Part::Outputs, output, window, delay);
+    let ranges = range_fault(CertificateList::Outputs, output, window, delay);
     if ranges.is_some() {
         return ranges;
     }

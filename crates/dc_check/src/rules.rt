@@ -4,15 +4,12 @@ ghost use Rattle.std.specs.Prelude.{◌≡◌, ℕ, ◌≤◌};
 ghost use Rattle.dc_check.specs.Verdict.{fault_at, unless, at_window, first_of, range_rules, is_closing, backlog_failure, delay_failure};
 ghost use Rattle.dc_check.specs.declared.fault.Condition.TheVariants.{WindowDoesNotClose};
 
-use crate::fault::{CheckFault, Condition, Part};
+use crate::fault::{CertificateList, CheckFault, Condition};
 use dc_bound::{ArrivalBound, ServiceBound};
-use dc_busy::{closes, delay_fails, first_failures};
-
-/// The longest window, and the longest delay, that a certificate may claim, in ticks.
-pub const LONGEST: u32 = 100_000;
+use dc_busy::{LONGEST_WINDOW, closes, delay_fails, first_failures};
 
 /// A fault that names no window.
-pub(crate) fn fault(part: Part, index: usize, condition: Condition) -> CheckFault
+pub(crate) fn fault(part: CertificateList, index: usize, condition: Condition) -> CheckFault
     ensures { result ≡ fault_at part index condition 0 }
 {
     CheckFault {
@@ -34,7 +31,7 @@ pub(crate) fn fault_unless(holds: bool, fault: CheckFault) -> Option<CheckFault>
 /// The fault that names the first window that fails, if there is one.
 #[tactic(auto, unfolding(crate::specs::Verdict::at_window))]
 pub(crate) fn window_fault(
-    part: Part,
+    part: CertificateList,
     index: usize,
     condition: Condition,
     first: Option<u32>,
@@ -65,16 +62,21 @@ pub(crate) fn first_fault(rules: &[Option<CheckFault>]) -> Option<CheckFault>
 }
 
 /// The fault of a window or a delay that is out of range.
-pub(crate) fn range_fault(part: Part, index: usize, window: u32, delay: u32) -> Option<CheckFault>
+pub(crate) fn range_fault(
+    part: CertificateList,
+    index: usize,
+    window: u32,
+    delay: u32,
+) -> Option<CheckFault>
     ensures { result ≡ first_of (range_rules part index window delay) }
 {
     first_fault(&[
         fault_unless(
-            1 <= window && window <= LONGEST,
+            1 <= window && window <= LONGEST_WINDOW,
             fault(part, index, Condition::WindowOutOfRange),
         ),
         fault_unless(
-            delay <= LONGEST,
+            delay <= LONGEST_WINDOW,
             fault(part, index, Condition::DelayOutOfRange),
         ),
     ])
@@ -82,7 +84,7 @@ pub(crate) fn range_fault(part: Part, index: usize, window: u32, delay: u32) -> 
 
 /// The fault of a window, 1 to 100,000, that does not close.
 pub(crate) fn closing_fault<A: ArrivalBound, S: ServiceBound>(
-    part: Part,
+    part: CertificateList,
     index: usize,
     arrivals: &A,
     service: &S,

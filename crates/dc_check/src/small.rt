@@ -1,4 +1,4 @@
-//! The small tables of which the worked law speaks, told from others.
+//! The small tables of which the worked law speaks, reported from others.
 ghost use Rattle.std.specs.Prelude.{◌≡◌, true, length};
 ghost use Rattle.dc_parts.specs.Names.{padded};
 ghost use Rattle.dc_check.specs.Small.{small_tables, small_keys, small_stream, small_router, small_output, small_label};
@@ -108,9 +108,9 @@ fn is_small_label(row: &OutputLabel) -> bool
         && row.format == Format::Bnr
         && matches!(row.sources.as_slice(), [0])
         && row.stale == 22
-        && row.oldest == 30
-        && row.least == 11
-        && row.greatest == 19
+        && row.age_limit == 30
+        && row.minimum == 11
+        && row.maximum == 19
 }
 
 fn are_small_labels(tables: &Tables) -> bool

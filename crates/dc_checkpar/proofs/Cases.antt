@@ -5,11 +5,11 @@ use Rattle.dc_cert.specs.Bounds.{CertificateRows, input_bound, output_bound, cer
 use Rattle.dc_cert.specs.declared.certificate.Certificate.{Certificate}
 use Rattle.dc_check.specs.Verdict.{unless, first_of, range_rules, input_backlog_failure, input_delay_failure, output_delay_failure, job_count, job_ranges, job_backlog_failure, job_delay_failure, job_verdict, first_job_fault}
 use Rattle.dc_check.specs.declared.fault.CheckFault.{CheckFault}
-use Rattle.dc_check.specs.declared.fault.Part.{Part}
-use Rattle.dc_check.specs.declared.fault.Part.TheVariants.{Inputs, Outputs}
+use Rattle.dc_check.specs.declared.fault.CertificateList.{CertificateList}
+use Rattle.dc_check.specs.declared.fault.CertificateList.TheVariants.{Inputs, Outputs}
 use Rattle.dc_tables.specs.TableRows.{TableRows}
 
-ranges-met : (part : Part) (index window delay : ℕ) → 1 ≤ window → window ≤ 100000 → delay ≤ 100000 → first_of (range_rules part index window delay) ≡ None
+ranges-met : (part : CertificateList) (index window delay : ℕ) → 1 ≤ window → window ≤ 100000 → delay ≤ 100000 → first_of (range_rules part index window delay) ≡ None
 unfolding unless
 ranges-met part index window delay least most short = rw (le-leb 1 window least, le-leb window 100000 most, le-leb delay 100000 short) refl
 

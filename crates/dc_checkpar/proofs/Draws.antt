@@ -5,7 +5,7 @@ use Rattle.std.proofs.lemmas.List.{get_or-set_same, get_or-set_other, length-set
 use Rattle.std.proofs.lemmas.Bool.Decides.{nat_tests}
 use Rattle.atomic_table.proofs.Lists.{at_set, at_snoc}
 use Rattle.atomic_table.specs.Table.{Me, step, keeps, Allows, Splits}
-use Rattle.dc_checkpar.specs.Claims.{follower, led, with_drawn, times, past, total, once_below, Given, Draws}
+use Rattle.dc_checkpar.specs.Drawing.{follower, led, with_drawn, times, past, total, once_below, Given, Draws}
 use Rattle.dc_checkpar.specs.declared.view.View.{View}
 use mathlib.Core.Option.{none, some, some-injective, some-ne-none}
 use lib.ListN.{get_elem?}

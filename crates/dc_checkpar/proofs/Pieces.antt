@@ -30,7 +30,7 @@ option_or-none (Some w) = refl
 pub both-one : (x : Option ℕ × Option ℕ) → IsFirstOfBoth (x ∷ []) x
 both-one x = (option_or-none x.0, option_or-none x.1)
 
--- pieces behind others
+-- pieces after others
 pub both-join : (xs ys : List (Option ℕ × Option ℕ)) (a b r : Option ℕ × Option ℕ) → IsFirstOfBoth xs a → IsFirstOfBoth ys b → (r.0 ≡ option_or a.0 b.0) × (r.1 ≡ option_or a.1 b.1) → IsFirstOfBoth (xs ++ ys) r
 both-join xs ys a b r left right step = (
   step.0 ∙ ap (λ o. option_or o b.0) left.0 ∙ ap (option_or (first_some (map (λ x. x.0) xs))) right.0
@@ -87,8 +87,8 @@ enough-pieces window = omega arith
 pub found-least : {X : Type 0} (P : ℕ → Type 0) (window : ℕ) (Q : ℕ → X → Type 0) (part : X → Option ℕ) → ((k : ℕ) (x : X) → Q k x → IsOfPiece P window k (part x))
     → (ks : List ℕ) (xs : List X) → ks ≡ range_with_len 0 (div_ceil window 2048) → AllZip Q ks xs
     → (r : Option ℕ) → r ≡ first_some (map part xs) → MatchOption r (EachWindow P window) (λ w. IsLeastFailing P window w)
-found-least P window Q part told ks xs places all r is =
+found-least P window Q part reported ks xs places all r is =
     let pieces : AllZip (IsOfPiece P window) (range_with_len 0 (div_ceil window 2048)) (map part xs) =
-    subst (λ l. AllZip (IsOfPiece P window) l (map part xs)) places (zip-part Q (IsOfPiece P window) part told ks xs all) in
+    subst (λ l. AllZip (IsOfPiece P window) l (map part xs)) places (zip-part Q (IsOfPiece P window) part reported ks xs all) in
     subst (λ o. MatchOption o (EachWindow P window) (λ w. IsLeastFailing P window w)) (sym is)
     (pieces-least P window (div_ceil window 2048) 0 (map part xs) pieces (enough-pieces window) (λ v low high. absurd (omega arith)))

@@ -1,6 +1,6 @@
 -- The faults of a parallel check.
 use Rattle.std.specs.Prelude.{◌≡◌, Some}
-use Rattle.dc_cert.specs.Claims.{Claims}
+use Rattle.dc_cert.specs.NamedRows.{NamedRows}
 use Rattle.dc_check.specs.Placed.{IsPlaced}
 use Rattle.dc_check.specs.Verdict.{verdict_of}
 use Rattle.dc_checkpar.specs.declared.fault.ParFault.{ParFault}
@@ -10,7 +10,7 @@ use Rattle.dc_checkpar.specs.declared.worker.Halt.TheVariants as halt
 use Rattle.dc_tables.specs.TableRows.{TableRows}
 
 -- a refusal is the verdict
-abbrev pub IsOfVerdict : TableRows → Claims → ParFault → Type 0
+abbrev pub IsOfVerdict : TableRows → NamedRows → ParFault → Type 0
 IsOfVerdict t claims (fault.Refused f) = (verdict_of t claims ≡ Some f) × IsPlaced t f
 IsOfVerdict t claims fault.Spawn = Unit {0}
 IsOfVerdict t claims fault.Memory = Unit {0}

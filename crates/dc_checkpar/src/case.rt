@@ -9,8 +9,9 @@ ghost use Rattle.dc_tables.specs.TableRows.{bus_cap, bus_floor, output_cap, outp
 use crate::jobs::Jobs;
 use crate::long::{LONG, first_failures};
 use dc_bound::{ArrivalBound, ServiceBound};
+use dc_busy::LONGEST_WINDOW;
 use dc_cert::Certificate;
-use dc_check::{CheckFault, LONGEST, job_fault, job_fault_given};
+use dc_check::{CheckFault, job_fault, job_fault_given};
 use dc_tables::Tables;
 use std::marker::Sync;
 use std::thread::Threads;
@@ -66,7 +67,7 @@ impl<'a, R: Threads + Sync> Jobs for Case<'a, R> {
 fn is_long(window: u32, delay: u32) -> bool
     ensures { result ≡ true → (1 ≤ window) × (window ≤ 100000) × (delay ≤ 100000) }
 {
-    LONG < window && window <= LONGEST && delay <= LONGEST
+    LONG < window && window <= LONGEST_WINDOW && delay <= LONGEST_WINDOW
 }
 
 // Whether a window is to be searched in pieces.

@@ -1,4 +1,4 @@
-//! What is told of each job that a worker begins and ends.
+//! What is reported of each job that a worker begins and ends.
 
 ghost use Rattle.std.specs.Prelude.{ℕ, IfErr};
 

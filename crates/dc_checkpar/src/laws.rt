@@ -3,7 +3,7 @@
 ghost use Rattle.std.specs.Prelude.{◌≡◌, ℕ, ◌+◌, ◌^◌, ◌<◌, ◌++◌, [], ◌∷◌, true, IfOk};
 ghost use Rattle.atomic_table.specs.Seated.{TableId};
 ghost use Rattle.dc_checkpar.specs.declared.view.View.{View};
-ghost use Rattle.dc_checkpar.specs.Claims.{Draws, Given, follower, leader, led, past, with_drawn};
+ghost use Rattle.dc_checkpar.specs.Drawing.{Draws, Given, follower, leader, led, past, with_drawn};
 
 use crate::view::View;
 use atomic_table::{Play, Seat, Split, Table, TableRule};

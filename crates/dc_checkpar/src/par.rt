@@ -2,7 +2,7 @@
 
 ghost use Rattle.std.specs.Prelude.{◌≡◌, ℕ, ◌≤◌, None, Some, Err, IfOk, IfErr, MatchResult};
 ghost use Rattle.std.specs.Arc.{arc_value};
-ghost use Rattle.dc_cert.specs.Claims.{claims_of};
+ghost use Rattle.dc_cert.specs.NamedRows.{named_rows};
 ghost use Rattle.dc_check.specs.Certified.{KeepsItsClaims};
 ghost use Rattle.dc_check.specs.Lent.{tables_of, certificate_of};
 ghost use Rattle.dc_check.specs.Placed.{IsPlaced};
@@ -36,9 +36,9 @@ pub fn check_par<G: Gate, R: Threads + Wait + Sync>(
     gate: &G,
 ) -> Result<Certified, ParFault>
     requires { (1 ≤ workers) × (workers ≤ 64) }
-    ensures claims { IfOk result (λ _. KeepsItsClaims (arc_value tables) (claims_of certificate)) }
+    ensures claims { IfOk result (λ _. KeepsItsClaims (arc_value tables) (named_rows certificate)) }
     ensures lends { IfOk result (λ c. (tables_of c ≡ arc_value tables) × (certificate_of c ≡ certificate)) }
-    ensures exact { MatchResult result (λ _. verdict_of (arc_value tables) (claims_of certificate) ≡ None) (λ fault. IsOfVerdict (arc_value tables) (claims_of certificate) fault) }
+    ensures exact { MatchResult result (λ _. verdict_of (arc_value tables) (named_rows certificate) ≡ None) (λ fault. IsOfVerdict (arc_value tables) (named_rows certificate) fault) }
     ensures stuck { IfErr result (λ fault. fault ≡ GateStuck → MayStick (job_count (arc_value tables)) (G.may_stick gate.now)) }
 {
     match verdict_by(rt, alloc, &tables, &certificate, workers, gate) {
@@ -61,7 +61,7 @@ fn verdict_by<G: Gate, R: Threads + Wait + Sync>(
     gate: &G,
 ) -> Result<(), ParFault>
     requires { (1 ≤ workers) × (workers ≤ 64) }
-    ensures exact { MatchResult result (λ _. verdict_of tables.now (claims_of certificate.now) ≡ None) (λ fault. IsOfVerdict tables.now (claims_of certificate.now) fault) }
+    ensures exact { MatchResult result (λ _. verdict_of tables.now (named_rows certificate.now) ≡ None) (λ fault. IsOfVerdict tables.now (named_rows certificate.now) fault) }
     ensures stuck { IfErr result (λ fault. fault ≡ GateStuck → MayStick (job_count tables.now) (G.may_stick gate.now)) }
 {
     tables.valid();

@@ -3,7 +3,7 @@
 ghost use Rattle.std.specs.Prelude.{◌≡◌, ℕ, ◌+◌, ◌^◌, ◌<◌, ◌≤◌, ◌≢◌, ◌⊎◌, Option, true, Err, IfOk, IfErr, vec_len, vec_capacity};
 ghost use Rattle.dc_check.specs.Verdict.{first_job_fault};
 ghost use Rattle.dc_check.specs.declared.fault.CheckFault.{CheckFault};
-ghost use Rattle.dc_checkpar.specs.Claims.{leader as leader_of, past};
+ghost use Rattle.dc_checkpar.specs.Drawing.{leader as leader_of, past};
 ghost use Rattle.dc_checkpar.specs.Reports.{AreJudged, AreKnown, ArePromised, IsReport, MayStick};
 ghost use Rattle.dc_checkpar.specs.declared.worker.Halt.TheVariants.{GateStuck};
 

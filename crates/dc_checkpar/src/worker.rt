@@ -1,7 +1,7 @@
 //! A worker: it draws jobs and judges them.
 
 ghost use Rattle.std.specs.Prelude.{◌≡◌, ℕ, ◌<◌, Err, IfOk, IfErr};
-ghost use Rattle.dc_checkpar.specs.Claims.{past};
+ghost use Rattle.dc_checkpar.specs.Drawing.{past};
 ghost use Rattle.dc_checkpar.specs.Reports.{AreJudged, IsReport, MayStick};
 ghost use Rattle.dc_checkpar.specs.declared.worker.Halt.TheVariants.{GateStuck};
 

@@ -30,7 +30,7 @@ pub record IsSized (t : TableRows) (s : State) : Type 0 where
 abbrev pub StandsFor : TableRows → State → List Event → Type 0
 StandsFor t s run = Standing t s.tick (bus_at s.queues.items s.latched.items) s.latest s.routers.items s.outputs.items run × HoldsPaces t s.paces.items run
 
--- Ok just where the event may follow; then the state stands for the run with it, and the reply is the one that the run calls for. Else the fault is the run's
+-- Ok exactly where the event may follow; then the state stands for the run with it, and the reply is the one that the run calls for. Else the fault is the run's
 abbrev pub StepsTo : TableRows → State → List Event → Event → Result Reply StepFault → Type 0
 StepsTo t new run e (Ok r) = MayFollow t run e × StandsFor t new (run ++ e ∷ []) × (r ≡ reply t run e)
 StepsTo t new run e (Err f) = (¬ MayFollow t run e) × IsFault t run e f

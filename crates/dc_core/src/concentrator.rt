@@ -36,7 +36,7 @@ impl Core {
     /// Applies one event. Takes no memory.
     ///
     /// # Errors
-    /// Just where the event may not follow the run: its number is not in the tables, the tick would pass 2^40, or the run
+    /// Exactly where the event may not follow the run: its number is not in the tables, the tick would pass 2^40, or the run
     /// with it would break a budget. The core is unchanged then.
     pub fn apply(&mut self, event: Event) -> Result<Reply, StepFault>
         ensures tables { rows_of self.new ≡ rows_of self.old }

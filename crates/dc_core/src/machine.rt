@@ -170,7 +170,7 @@ impl State {
     /// Applies one event.
     ///
     /// # Errors
-    /// Just where the event's number is not in the tables, the tick would pass 2^40, or the run with the event would break
+    /// Exactly where the event's number is not in the tables, the tick would pass 2^40, or the run with the event would break
     /// a budget. The state is unchanged then.
     pub fn apply(&mut self, tables: &Tables, event: Event) -> Result<Reply, StepFault>
         requires sized { IsSized tables.now self.old }

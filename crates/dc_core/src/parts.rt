@@ -134,7 +134,7 @@ mod tests {
     }
 
     #[test]
-    fn visits_are_told_with_their_bus(rt: HostRuntime) {
+    fn visits_are_reported_with_their_bus(rt: HostRuntime) {
         assert_eq!(rt; visit_reply(3, Some(Word(7))), Reply::Took(3, Word(7)));
         assert_eq!(rt; visit_reply(3, None), Reply::Empty(3));
     }

@@ -110,7 +110,7 @@ fn a_full_queue_loses_a_word_and_latches(rt: HostRuntime) -> Result<(), Fail> {
 }
 
 #[test]
-fn even_parity_is_told_before_the_label(rt: HostRuntime) -> Result<(), Fail> {
+fn even_parity_is_reported_before_the_label(rt: HostRuntime) -> Result<(), Fail> {
     let mut core = small_core(rt.alloc(), SMALL, &[0])?;
     answers(
         &rt,

@@ -26,7 +26,7 @@ pub const SMALL: Small = Small {
     second_bus: false,
 };
 
-/// The tables of the examples with a bus B behind A, of lower priority.
+/// The tables of the examples with a bus B after A, of lower priority.
 pub const TWO_BUSES: Small = Small {
     queue: 2,
     stale: 22,

@@ -32,7 +32,7 @@ fn next_of<S: Source + Drop>(
     reader.next()
 }
 
-/// What is told next of the lines that come from a source.
+/// What is reported next of the lines that come from a source.
 fn next_line_of(
     rt: &impl Abort,
     lines: &mut TraceLines,
@@ -40,8 +40,8 @@ fn next_line_of(
 ) -> Option<Result<Event, TraceStop>> {
     let nothing = LineWriter::new();
     for _ in 0..100 {
-        if let Some(told) = lines.advance() {
-            return Some(told);
+        if let Some(reported) = lines.advance() {
+            return Some(reported);
         }
         assert!(rt; source.failures() < 1000);
         lines.pull(source, &nothing, &Nowhere);
@@ -49,7 +49,7 @@ fn next_line_of(
     None
 }
 
-/// Reads a text of at most `limit` bytes in pieces of several sizes: first these events are told, then again and again
+/// Reads a text of at most `limit` bytes in pieces of several sizes: first these events are reported, then again and again
 /// why there is no more.
 fn reads(
     rt: &impl Abort,
@@ -89,12 +89,12 @@ fn reads_lines(
         let mut source = MemSource::new(text, piece.max(1), 0);
         let mut lines = TraceLines::new(tables, u64::from(limit));
         for event in events {
-            let told = next_line_of(rt, &mut lines, &mut source);
-            assert_eq!(rt; told, Some(Ok(*event)), "in pieces of {piece}");
+            let reported = next_line_of(rt, &mut lines, &mut source);
+            assert_eq!(rt; reported, Some(Ok(*event)), "in pieces of {piece}");
         }
         for _ in 0..3 {
-            let told = next_line_of(rt, &mut lines, &mut source);
-            assert_eq!(rt; told, Some(Err(stop)), "in pieces of {piece}");
+            let reported = next_line_of(rt, &mut lines, &mut source);
+            assert_eq!(rt; reported, Some(Err(stop)), "in pieces of {piece}");
         }
         assert_eq!(rt; source.failures(), 0);
     }
@@ -128,7 +128,7 @@ fn refuses(rt: &impl Abort, tables: &Tables, text: &str, rule: LineRule) {
     reads_lines(rt, tables, text.as_bytes(), 1000, &events, stop);
 }
 
-/// The same for each of these lines, with this behind it.
+/// The same for each of these lines, with this after it.
 fn refuses_each(
     rt: &impl Abort,
     alloc: Global,
@@ -208,24 +208,24 @@ fn a_line_names_what_is_there_and_a_word(rt: HostRuntime) -> Result<(), Fail> {
 fn a_text_past_its_limit_is_refused_where_it_passes_it(rt: HostRuntime) -> Result<(), Fail> {
     let tables = small_tables(rt.alloc(), SMALL, &[0])?;
     let ticks = [Event::Tick; 3];
-    for (limit, told, stop) in [
+    for (limit, reported, stop) in [
         (6, 3, TraceStop::End),
         (5, 2, refused(LineRule::LineTooLong, 3)),
         (4, 2, refused(LineRule::LineTooLong, 3)),
         (3, 1, refused(LineRule::LineTooLong, 2)),
         (0, 0, refused(LineRule::LineTooLong, 1)),
     ] {
-        let (events, _) = ticks.split_at(told.min(3));
+        let (events, _) = ticks.split_at(reported.min(3));
         reads(&rt, &tables, b"T\nT\nT\n", limit, events, stop);
         reads_lines(&rt, &tables, b"T\nT\nT\n", limit, events, stop);
     }
     Ok(())
 }
 
-/// Reads the trace in pieces of four bytes from a source whose pull of this number fails, behind these events.
-fn breaks(rt: &impl Abort, tables: &Tables, fails_at: u64, told: &[Event]) {
+/// Reads the trace in pieces of four bytes from a source whose pull of this number fails, after these events.
+fn breaks(rt: &impl Abort, tables: &Tables, fails_at: u64, reported: &[Event]) {
     let mut reader = TraceReader::new(tables, MemSource::new(TRACE, 4, fails_at));
-    for event in told {
+    for event in reported {
         assert_eq!(rt; next_of(rt, &mut reader), Ok(*event), "pull {fails_at}");
     }
     for _ in 0..2 {
@@ -236,10 +236,10 @@ fn breaks(rt: &impl Abort, tables: &Tables, fails_at: u64, told: &[Event]) {
 }
 
 /// The same by the lines of the trace, whose owner pulls.
-fn breaks_lines(rt: &impl Abort, tables: &Tables, fails_at: u64, told: &[Event]) {
+fn breaks_lines(rt: &impl Abort, tables: &Tables, fails_at: u64, reported: &[Event]) {
     let mut source = MemSource::new(TRACE, 4, fails_at);
     let mut lines = TraceLines::new(tables, 24);
-    for event in told {
+    for event in reported {
         let next = next_line_of(rt, &mut lines, &mut source);
         assert_eq!(rt; next, Some(Ok(*event)), "pull {fails_at}");
     }
@@ -254,10 +254,10 @@ fn breaks_lines(rt: &impl Abort, tables: &Tables, fails_at: u64, told: &[Event])
 fn a_source_may_fail_at_any_pull(rt: HostRuntime) -> Result<(), Fail> {
     let tables = small_tables(rt.alloc(), SMALL, &[0])?;
     let all = events();
-    for (fails_at, told) in [(1, 0), (2, 0), (3, 0), (4, 0), (5, 1), (6, 2), (7, 4)] {
-        let (told, _) = all.split_at(told.min(4));
-        breaks(&rt, &tables, fails_at, told);
-        breaks_lines(&rt, &tables, fails_at, told);
+    for (fails_at, reported) in [(1, 0), (2, 0), (3, 0), (4, 0), (5, 1), (6, 2), (7, 4)] {
+        let (reported, _) = all.split_at(reported.min(4));
+        breaks(&rt, &tables, fails_at, reported);
+        breaks_lines(&rt, &tables, fails_at, reported);
     }
     Ok(())
 }

@@ -13,8 +13,8 @@ fn the_tables_have_their_quantities_in_ticks(rt: HostRuntime) -> Result<(), Fail
     assert_eq!(rt; tables.label_count(), 1);
     assert_eq!(rt; tables.stream(0).minimum, 10);
     assert_eq!(rt; tables.stream(0).maximum, 20);
-    assert_eq!(rt; tables.label(0).least, 11);
-    assert_eq!(rt; tables.label(0).greatest, 19);
+    assert_eq!(rt; tables.label(0).minimum, 11);
+    assert_eq!(rt; tables.label(0).maximum, 19);
     assert_eq!(rt; tables.output(0).gap, 1);
     Ok(())
 }

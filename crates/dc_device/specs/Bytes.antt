@@ -11,11 +11,11 @@ abbrev pub Writes : {T E : Type 0} → Option (List ℕ) → Option (List ℕ) �
 Writes old new bytes (Ok x) = Appends old new bytes
 Writes old new bytes (Err e) = AppendsFront old new bytes
 
--- The bytes were put behind those that waited: a front of all of these was pushed, and the rest waits now.
+-- The bytes were put after those that waited: a front of all of these was pushed, and the rest waits now.
 abbrev pub Gathered : Option (List ℕ) → List ℕ → Option (List ℕ) → List ℕ → List ℕ → Type 0
 Gathered old waiting new waiting' bytes = (front : List ℕ) × Appends old new front × (front ++ waiting' ≡ waiting ++ bytes)
 
--- The bytes were put behind those that waited; or, where the sink failed, it has a front of them, and nothing waits.
+-- The bytes were put after those that waited; or, where the sink failed, it has a front of them, and nothing waits.
 abbrev pub Gathers : {T E : Type 0} → Option (List ℕ) → List ℕ → Option (List ℕ) → List ℕ → List ℕ → Result T E → Type 0
 Gathers old waiting new waiting' bytes (Ok x) = Gathered old waiting new waiting' bytes
 Gathers old waiting new waiting' bytes (Err e) = AppendsFront old new (waiting ++ bytes) × (waiting' ≡ [])

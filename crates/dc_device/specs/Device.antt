@@ -16,7 +16,7 @@ is_failure (Err e) = true
 abbrev pub count_on : ℕ → ℕ
 count_on n = min (n + 1) (2 ^ 64 - 1)
 
--- how many pulls gave no byte, behind one that answered so
+-- how many pulls gave no byte, after one that answered so
 abbrev pub dry_after : {E : Type 0} → ℕ → Result ℕ E → ℕ
 dry_after dry (Ok given) = if given == 0 then count_on dry else dry
 dry_after dry (Err e) = count_on dry
@@ -26,7 +26,7 @@ abbrev pub PushAppends : {E : Type 0} → Option (List ℕ) → Option (List ℕ
 PushAppends old new r bytes =
     MatchResult r (λ n. Appends old new (take n bytes) × (n ≤ length bytes) × (0 < length bytes → 0 < n)) (λ _. Keeps old new)
 
--- Behind calls of a sink that end in a flush: where they went well, nothing is hidden; where one failed, it was the last.
+-- After calls of a sink that end in a flush: where they went well, nothing is hidden; where one failed, it was the last.
 abbrev pub Settles : {T E : Type 0} → Result T E → Bool → Bool → Type 0
 Settles (Ok x) last_failed hidden = hidden ≡ false
 Settles (Err e) last_failed hidden = last_failed ≡ true
@@ -37,6 +37,6 @@ stops_in (Ok true) = 0
 stops_in (Ok false) = 1
 stops_in (Err e) = 1
 
--- A source that may give so many bytes was pulled at most once more than that, and not again behind a pull that gave none.
+-- A source that may give so many bytes was pulled at most once more than that, and not again after a pull that gave none.
 abbrev pub AsksUpTo : ℕ → ℕ → ℕ → ℕ → ℕ → Type 0
 AsksUpTo limit asked asked' dry dry' = (asked' ≤ asked + limit + 1) × (dry' ≤ dry + 1)

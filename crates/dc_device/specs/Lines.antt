@@ -1,8 +1,8 @@
 -- A text by its lines, and how a reader comes by them.
 use Rattle.std.specs.Prelude.{◌≡◌, ◌≢◌, ℕ, ◌+◌, ◌==◌, ◌<◌, ◌≤◌, if◌then◌else◌, List, [], ◌∷◌, ◌++◌, length, Option, Some, None, Result, Ok, Err, Bool, true, false, ◌⊎◌}
 use Rattle.std.specs.Io.KnownBytes.{Consumes, IsAtEnd, Keeps}
-use Rattle.dc_device.specs.declared.reader.Part.{Part}
-use Rattle.dc_device.specs.declared.reader.Part.TheVariants.{Whole, Long}
+use Rattle.dc_device.specs.declared.reader.LineEnd.{LineEnd}
+use Rattle.dc_device.specs.declared.reader.LineEnd.TheVariants.{Whole, Long}
 
 -- the whole lines of a text, without their line feeds, and what stands after the last line feed
 abbrev pub Lines : Type 0
@@ -46,7 +46,7 @@ HasNoLine held = (line : List ℕ) → HoldsLine held line → ⊥
 
 -- How far the held bytes bring a line: all of them belong to it and it goes on (None); its line feed stands among
 -- them (Whole); or one of them is past the limit of the text or of a line (Long).
-abbrev pub ReadsOn : Held → Held → List ℕ → List ℕ → Option Part → Type 0
+abbrev pub ReadsOn : Held → Held → List ℕ → List ℕ → Option LineEnd → Type 0
 ReadsOn old new line line' None =
     (line' ≡ line ++ old.bytes) × NoFeed old.bytes × (new.bytes ≡ []) × (length old.bytes + new.room ≡ old.room)
 ReadsOn old new line line' (Some Whole) =

@@ -12,7 +12,7 @@ mod writer;
 
 pub use device::{Broken, Sink, Source};
 pub use memory::{MemSink, MemSource};
-pub use reader::{BLOCK, LINE_LIMIT, Line, LineReader, Part};
+pub use reader::{BLOCK, LINE_LIMIT, Line, LineEnd, LineReader};
 pub use whole::{Unread, read_at_most};
 pub use wrappers::{Nowhere, ReadSource, WriteSink};
 pub use writer::LineWriter;

@@ -19,7 +19,7 @@ pub type Line = ArrayVec<u8, LINE_LIMIT>;
 
 /// How a line that was read stands.
 #[derive(Clone, Copy, Debug, PartialEq, Eq)]
-pub enum Part {
+pub enum LineEnd {
     /// Its line feed was read.
     Whole,
     /// A byte was read that is past the limit of the text, or of a line.
@@ -28,7 +28,7 @@ pub enum Part {
 
 /// Reads the lines of a source, each of at most 64 bytes, within a limit on the bytes of the whole text.
 ///
-/// It reads on in the bytes that it holds, and pulls where it is told to: so its owner knows when the source is
+/// It reads on in the bytes that it holds, and pulls where it is reported to: so its owner knows when the source is
 /// asked, and can first show what was answered so far.
 #[derive(Drop)]
 pub struct LineReader {
@@ -118,20 +118,20 @@ impl LineReader {
 
     /// Reads on in the line, as far as the held bytes go. None where they end before the line does: then pull more,
     /// and call again with the same line. After `Long` neither reader nor line is of use.
-    pub fn read_on(&mut self, line: &mut Line) -> Option<Part>
+    pub fn read_on(&mut self, line: &mut Line) -> Option<LineEnd>
         ensures { ReadsOn self.old self.new line.old.items line.new.items result }
     {
         loop {
             let byte = self.held_byte()?;
             if self.room == 0 {
-                return Some(Part::Long);
+                return Some(LineEnd::Long);
             }
             self.room -= 1;
             if byte == b'\n' {
-                return Some(Part::Whole);
+                return Some(LineEnd::Whole);
             }
             if line.is_full() {
-                return Some(Part::Long);
+                return Some(LineEnd::Long);
             }
             line.push(byte);
         }

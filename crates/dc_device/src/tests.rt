@@ -61,11 +61,11 @@ fn copy(alloc: Global, text: &[u8], piece: usize, limit: u64) -> Result<MemSink,
     let mut line = Line::new();
     for _ in 0..1000 {
         match reader.read_on(&mut line) {
-            Some(Part::Whole) => {
+            Some(LineEnd::Whole) => {
                 writer.line(&mut sink, line.as_slice())?;
                 line.clear();
             }
-            Some(Part::Long) => {
+            Some(LineEnd::Long) => {
                 writer.line(&mut sink, b"long")?;
                 break;
             }

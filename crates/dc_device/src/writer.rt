@@ -8,7 +8,7 @@ use crate::reader::BLOCK;
 use arrayvec::ArrayVec;
 use std::marker::Model;
 
-/// Gathers lines for a sink, and pushes them where the buffer is full and where it is told to.
+/// Gathers lines for a sink, and pushes them where the buffer is full and where it is reported to.
 #[derive(Drop)]
 pub struct LineWriter {
     waiting: ArrayVec<u8, BLOCK>,
@@ -68,14 +68,14 @@ impl LineWriter {
         sink.flush()
     }
 
-    // Puts the bytes behind those that wait, where there is room, and says whether there was.
+    // Puts the bytes after those that wait, where there is room, and says whether there was.
     fn hold(&mut self, bytes: &[u8]) -> bool
         ensures { MatchBool result (self.new ≡ self.old ++ bytes.now) (self.new ≡ self.old) }
     {
         self.waiting.try_extend_from_slice(bytes).is_ok()
     }
 
-    // Puts the bytes behind those that wait, which first go out where there is no room. It is called twice a line.
+    // Puts the bytes after those that wait, which first go out where there is no room. It is called twice a line.
     #[inline]
     fn put<K: Sink>(&mut self, sink: &mut K, bytes: &[u8]) -> Result<(), Broken>
         requires { K.failed sink.old + 1 < 2 ^ 64 }
@@ -94,7 +94,7 @@ impl LineWriter {
         push_all(sink, bytes)
     }
 
-    /// Writes the line and a line feed, behind what waits.
+    /// Writes the line and a line feed, after what waits.
     pub fn line<K: Sink>(&mut self, sink: &mut K, line: &[u8]) -> Result<(), Broken>
         requires { K.failed sink.old + 1 < 2 ^ 64 }
         ensures bytes { Gathers (K.contents sink.old) self.old (K.contents sink.new) self.new

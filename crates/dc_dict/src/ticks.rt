@@ -56,7 +56,7 @@ pub fn out_maximum(max_us: u32, tick_us: u32) -> u32
 /// no word comes sooner or later than the interval says.
 ///
 /// # Errors
-/// `NoTicks` just where the least interval is below a tick.
+/// `NoTicks` exactly where the least interval is below a tick.
 #[tactic(auto, unfolding(crate::specs::Ticks::in_interval))]
 pub fn in_ticks(row: &Parameter, tick_us: u32) -> Result<Interval, DictFault>
     requires { 0 < tick_us }
@@ -77,7 +77,7 @@ pub fn in_ticks(row: &Parameter, tick_us: u32) -> Result<Interval, DictFault>
 /// side: words that are emitted at any time within the ticks of this interval keep the parameter's.
 ///
 /// # Errors
-/// `NoTicks` just where no interval is left.
+/// `NoTicks` exactly where no interval is left.
 #[tactic(auto, unfolding(crate::specs::Ticks::out_interval))]
 pub fn out_ticks(row: &Parameter, tick_us: u32) -> Result<Interval, DictFault>
     requires { 0 < tick_us }

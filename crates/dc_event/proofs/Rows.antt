@@ -32,7 +32,7 @@ small queue = record {
   streams = record { bus = 0; label = 131; sdi = None; minimum = 10; maximum = 20; jitter = 0 } ∷ record { bus = 0; label = 132; sdi = None; minimum = 10; maximum = 20; jitter = 0 } ∷ [];
   routers = record { steps = 1; within = 1; most = 2; visits = 0 ∷ [] } ∷ [];
   outputs = record { steps = 1; within = 2; gap = 1; frame = 15; entries = record { offset = 0; label = 0 } ∷ [] } ∷ [];
-  labels = record { output = 0; label = 131; sdi = 0; format = Bnr; sources = 0 ∷ []; stale = 22; oldest = 30; least = 11; greatest = 19 } ∷ [];
+  labels = record { output = 0; label = 131; sdi = 0; format = Bnr; sources = 0 ∷ []; stale = 22; age_limit = 30; minimum = 11; maximum = 19 } ∷ [];
   keys = no_keys;
 }
 
@@ -44,7 +44,7 @@ twice = record {
   streams = record { bus = 0; label = 131; sdi = None; minimum = 10; maximum = 20; jitter = 0 } ∷ record { bus = 0; label = 132; sdi = None; minimum = 10; maximum = 20; jitter = 0 } ∷ [];
   routers = record { steps = 1; within = 1; most = 2; visits = 0 ∷ [] } ∷ [];
   outputs = record { steps = 1; within = 2; gap = 1; frame = 15; entries = record { offset = 0; label = 0 } ∷ record { offset = 1; label = 0 } ∷ [] } ∷ [];
-  labels = record { output = 0; label = 131; sdi = 0; format = Bnr; sources = 0 ∷ []; stale = 22; oldest = 30; least = 11; greatest = 19 } ∷ [];
+  labels = record { output = 0; label = 131; sdi = 0; format = Bnr; sources = 0 ∷ []; stale = 22; age_limit = 30; minimum = 11; maximum = 19 } ∷ [];
   keys = no_keys;
 }
 
@@ -56,7 +56,7 @@ two_buses = record {
   streams = record { bus = 0; label = 131; sdi = None; minimum = 10; maximum = 20; jitter = 0 } ∷ record { bus = 0; label = 132; sdi = None; minimum = 10; maximum = 20; jitter = 0 } ∷ record { bus = 1; label = 131; sdi = None; minimum = 10; maximum = 20; jitter = 0 } ∷ [];
   routers = record { steps = 1; within = 1; most = 2; visits = 0 ∷ 1 ∷ [] } ∷ [];
   outputs = record { steps = 1; within = 2; gap = 1; frame = 15; entries = record { offset = 0; label = 0 } ∷ [] } ∷ [];
-  labels = record { output = 0; label = 131; sdi = 0; format = Bnr; sources = 0 ∷ 2 ∷ []; stale = 22; oldest = 30; least = 11; greatest = 19 } ∷ [];
+  labels = record { output = 0; label = 131; sdi = 0; format = Bnr; sources = 0 ∷ 2 ∷ []; stale = 22; age_limit = 30; minimum = 11; maximum = 19 } ∷ [];
   keys = no_keys;
 }
 

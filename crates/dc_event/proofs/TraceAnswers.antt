@@ -32,7 +32,7 @@ pub trace_whole : (t : TableRows) (room number : ℕ) (line rest : List ℕ) →
 trace_whole t room number line rest plain short fits =
     rw (lines_of_whole line rest plain, not_long room (length line) (length line + 1) short fits) refl
 
--- the text ends inside a line within the limits, or behind the last one
+-- the text ends inside a line within the limits, or after the last one
 pub trace_cut : (t : TableRows) (room number : ℕ) (line : List ℕ) → NoFeed line → length line ≤ 64 → length line ≤ room
     → trace_from t room number line ≡ ended_by number line
 trace_cut t room number line plain short fits =

@@ -32,14 +32,14 @@ over_after None b fault p q = tt
 over_after (Some t) None fault p q = absurd (cc)
 over_after (Some t) (Some u) fault p q = cc
 
--- what is told of a trace that stayed is told of it
-pub tells_after : (a b c : Option Trace) (told : Result Event TraceStop) → Stays a b → Tells b c told → Tells a c told
+-- what is reported of a trace that stayed is reported of it
+pub tells_after : (a b c : Option Trace) (reported : Result Event TraceStop) → Stays a b → Tells b c reported → Tells a c reported
 tells_after a b c (Ok e) p q = event_after a b c e p q
 tells_after a b c (Err End) p q = over_after a b None p q
 tells_after a b c (Err (Fault f)) p q = over_after a b (Some f) p q
 tells_after a b c (Err Broken) p q = Stays-trans a b c p q
 
--- a pull comes nearer to what is told
+-- a pull comes nearer to what is reported
 pub steps_fall : (stopped : Option TraceStop) (held mid : List ℕ) (room left : ℕ) → length held + left ≡ room → (stopped ≡ None → mid ≢ [])
     → steps stopped (2 * left + waits mid) < steps None (2 * room + waits held)
 steps_fall (Some stop) held mid room left e some = omega arith
@@ -49,11 +49,11 @@ steps_fall None [] (x ∷ xs) room left e some = omega arith
 steps_fall None (b ∷ bs) (x ∷ xs) room left e some = omega arith
 
 -- the held bytes tell of no failure that a pull did not count
-pub same_failures : (old was now : Option TraceStop) (told : Result Event TraceStop) → now ≡ stop_of told → (was ≡ None → IsOfLine told) → ((stop : TraceStop) → was ≡ Some stop → now ≡ was)
+pub same_failures : (old was now : Option TraceStop) (reported : Result Event TraceStop) → now ≡ stop_of reported → (was ≡ None → IsOfLine reported) → ((stop : TraceStop) → was ≡ Some stop → now ≡ was)
     → new_failures old now ≡ new_failures old was
 same_failures None None now (Ok e) is line same = ap failures_at is
 same_failures None None now (Err End) is line same = absurd (line refl)
 same_failures None None now (Err (Fault f)) is line same = ap failures_at is
 same_failures None None now (Err Broken) is line same = absurd (line refl)
-same_failures None (Some stop) now told is line same = ap failures_at (same stop refl)
-same_failures (Some stop) was now told is line same = refl
+same_failures None (Some stop) now reported is line same = ap failures_at (same stop refl)
+same_failures (Some stop) was now reported is line same = refl

@@ -3,12 +3,12 @@ use Rattle.std.proofs.Common.{◌≡◌, ◌≢◌, ℕ, ◌+◌, ◌-◌, ◌^�
 use Rattle.std.proofs.Math.Seq.{drop-append-add}
 use Rattle.std.specs.Io.KnownBytes.{IsAtEnd, Keeps}
 use Rattle.dc_device.specs.Lines.{Held, HoldsLine, NoFeed, ReadsOn}
-use Rattle.dc_device.specs.declared.reader.Part.TheVariants.{Long, Whole}
+use Rattle.dc_device.specs.declared.reader.LineEnd.TheVariants.{Long, Whole}
 use Rattle.dc_device.specs.lemmas.LineLemmas.{NoFeed-append}
 use Rattle.dc_tables.specs.TableRows.{TableRows}
 use Rattle.dc_event.specs.TraceText.{Trace, ended_by, in_front, line_event}
 use Rattle.dc_event.specs.ReadingFits.{Fits}
-use Rattle.dc_event.specs.Reading.{IsOver, Reading, ReadsNext, Stays, Tells, TellsEvent, ahead, no_more, stop_behind, told_from, trace_from}
+use Rattle.dc_event.specs.Reading.{IsOver, Reading, ReadsNext, Stays, Tells, TellsEvent, ahead, no_more, stop_behind, reported_from, trace_from}
 use Rattle.dc_event.specs.declared.event.Event.{Event}
 use Rattle.dc_event.specs.declared.trace.LineRule.{LineRule}
 use Rattle.dc_event.specs.declared.trace.LineRule.TheVariants.{LineTooLong}
@@ -38,7 +38,7 @@ pub long_tells : (stopped : Option TraceStop) (t : TableRows) (line line' : List
 long_tells stopped t line line' old new number None runs plain reads = tt
 long_tells stopped t line line' old new number (Some xs) runs plain reads = rw runs (long_text t line line' old new number xs plain reads)
 
--- a whole line: its event, and what is left behind it
+-- a whole line: its event, and what is left after it
 whole_text : (t : TableRows) (line line' : List ℕ) (old new : Held) (number : ℕ) (xs : List ℕ) → NoFeed line → ReadsOn old new line line' (Some Whole) → length line' ≤ 64
     → trace_from t (old.room + length line) number ((line ++ old.bytes) ++ xs) ≡ in_front number (line_event t line') (trace_from t new.room (number + 1) (new.bytes ++ xs))
 whole_text t line line' old new number xs plain (front, e, f, more, room) short =
@@ -68,8 +68,8 @@ event_tells stopped t line line' empty old new number event (Some xs) runs plain
     let later = trace_from t new.room (number + 1) (new.bytes ++ xs) in
     rw (runs, none, add-zero) (later, refl, whole_text t line line' old new number xs plain reads short ∙ ap (λ e. in_front number e later) is)
 
--- the text ended behind the bytes of a line
-ended_text : (t : TableRows) (line : List ℕ) (number room : ℕ) (text rest : List ℕ) → ended_by number line ≡ told_from (Some (stop_behind number line)) t room number rest
+-- the text ended after the bytes of a line
+ended_text : (t : TableRows) (line : List ℕ) (number room : ℕ) (text rest : List ℕ) → ended_by number line ≡ reported_from (Some (stop_behind number line)) t room number rest
 ended_text t [] number room text rest = refl
 ended_text t (c ∷ cs) number room text rest = refl
 
@@ -84,7 +84,7 @@ end_keeps t line held held' number room room' stopped stopped' (Some xs) (Some y
     let nothing : xs ≡ [] = sym kept ∙ end in
     let whole : (line ++ held) ++ xs ≡ line = ap (λ l. (line ++ l) ++ xs) none ∙ ap (λ l. (line ++ []) ++ l) nothing ∙ append-nil (line ++ []) ∙ append-nil line in
     let fits : length line ≤ room + length line = omega arith in
-    let e : trace_from t (room + length line) number ((line ++ held) ++ xs) ≡ told_from (Some (stop_behind number line)) t (room' + length line) number ((line ++ held') ++ ys) =
+    let e : trace_from t (room + length line) number ((line ++ held) ++ xs) ≡ reported_from (Some (stop_behind number line)) t (room' + length line) number ((line ++ held') ++ ys) =
     ap (trace_from t (room + length line) number) whole ∙ trace_cut t (room + length line) number line plain short fits
     ∙ ended_text t line number (room' + length line) [] ((line ++ held') ++ ys) in
     rw (runs, stops) (ap Some (sym e))
@@ -94,46 +94,46 @@ end_keeps t line held held' number room room' stopped stopped' (Some xs) (Some y
 abbrev parts : TableRows → List ℕ → Held → ℕ → Option TraceStop → Reading
 parts t line held number stopped = record { tables = t; line = line; held = held.bytes; room = held.room; number = number; stopped = stopped }
 
-pub long_told : (now : Reading) (stopped : Option TraceStop) (t : TableRows) (line line' : List ℕ) (old new : Held) (number : ℕ) (coming : Option (List ℕ)) (later : Option Trace) (stop : TraceStop)
+pub long_reported : (now : Reading) (stopped : Option TraceStop) (t : TableRows) (line line' : List ℕ) (old new : Held) (number : ℕ) (coming : Option (List ℕ)) (later : Option Trace) (stop : TraceStop)
     → parts t line old number stopped ≡ now → stop ≡ Fault (record { rule = LineTooLong; line = number }) → stopped ≡ None → Fits stopped line old.room number
     → ReadsOn old new line line' (Some Long) → Tells (ahead now coming) later (Err stop)
-long_told now stopped t line line' old new number coming later stop view is runs fits reads =
+long_reported now stopped t line line' old new number coming later stop view is runs fits reads =
     let (plain, small) = rw runs at fits in
     rw (is, ← view) (long_tells stopped t line line' old new number coming runs plain reads)
 
-pub refused_told : (now : Reading) (stopped : Option TraceStop) (t : TableRows) (line line' : List ℕ) (old new : Held) (number : ℕ) (rule : LineRule) (coming : Option (List ℕ)) (later : Option Trace) (stop : TraceStop)
+pub refused_reported : (now : Reading) (stopped : Option TraceStop) (t : TableRows) (line line' : List ℕ) (old new : Held) (number : ℕ) (rule : LineRule) (coming : Option (List ℕ)) (later : Option Trace) (stop : TraceStop)
     → parts t line old number stopped ≡ now → stop ≡ Fault (record { rule = rule; line = number }) → stopped ≡ None → Fits stopped line old.room number
     → ReadsOn old new line line' (Some Whole) → length line' ≤ 64 → line_event t line' ≡ Err rule → Tells (ahead now coming) later (Err stop)
-refused_told now stopped t line line' old new number rule coming later stop view is runs fits reads short event =
+refused_reported now stopped t line line' old new number rule coming later stop view is runs fits reads short event =
     let (plain, small) = rw runs at fits in
     rw (is, ← view) (refused_tells stopped t line line' old new number rule coming runs plain reads short event)
 
-pub event_told : (now : Reading) (stopped : Option TraceStop) (t : TableRows) (line line' empty : List ℕ) (old new : Held) (number : ℕ) (event : Event) (coming : Option (List ℕ))
+pub event_reported : (now : Reading) (stopped : Option TraceStop) (t : TableRows) (line line' empty : List ℕ) (old new : Held) (number : ℕ) (event : Event) (coming : Option (List ℕ))
     → parts t line old number stopped ≡ now → stopped ≡ None → Fits stopped line old.room number
     → ReadsOn old new line line' (Some Whole) → length line' ≤ 64 → line_event t line' ≡ Ok event → empty ≡ []
     → TellsEvent (ahead now coming) (ahead (parts t empty new (number + 1) stopped) coming) event
-event_told now stopped t line line' empty old new number event coming view runs fits reads short is none =
+event_reported now stopped t line line' empty old new number event coming view runs fits reads short is none =
     let (plain, small) = rw runs at fits in
     rw (← view) (event_tells stopped t line line' empty old new number event coming runs plain reads short is none)
 
 -- ---- the same, by what the next line says
 
-pub next_event_told : (now : Reading) (stopped : Option TraceStop) (t : TableRows) (line line' : List ℕ) (old new : Held) (number : ℕ) (event : Event) (read : Result Event LineRule) (coming : Option (List ℕ))
+pub next_event_reported : (now : Reading) (stopped : Option TraceStop) (t : TableRows) (line line' : List ℕ) (old new : Held) (number : ℕ) (event : Event) (read : Result Event LineRule) (coming : Option (List ℕ))
     → parts t line old number stopped ≡ now → stopped ≡ None → Fits stopped line old.room number
     → ReadsNext t old new line line' (Some read) → read ≡ Ok event
     → TellsEvent (ahead now coming) (ahead (parts t line' new (number + 1) stopped) coming) event
-next_event_told now stopped t line line' old new number event read coming view runs fits (inl (reads, long)) is = absurd (cc)
-next_event_told now stopped t line line' old new number event read coming view runs fits (inr (whole, reads, short, says, none)) is =
-    event_told now stopped t line whole line' old new number event coming view runs fits reads short (sym says ∙ is) none
+next_event_reported now stopped t line line' old new number event read coming view runs fits (inl (reads, long)) is = absurd (cc)
+next_event_reported now stopped t line line' old new number event read coming view runs fits (inr (whole, reads, short, says, none)) is =
+    event_reported now stopped t line whole line' old new number event coming view runs fits reads short (sym says ∙ is) none
 
-pub next_refused_told : (now : Reading) (stopped : Option TraceStop) (t : TableRows) (line line' : List ℕ) (old new : Held) (number : ℕ) (rule : LineRule) (read : Result Event LineRule) (coming : Option (List ℕ)) (later : Option Trace) (stop : TraceStop)
+pub next_refused_reported : (now : Reading) (stopped : Option TraceStop) (t : TableRows) (line line' : List ℕ) (old new : Held) (number : ℕ) (rule : LineRule) (read : Result Event LineRule) (coming : Option (List ℕ)) (later : Option Trace) (stop : TraceStop)
     → parts t line old number stopped ≡ now → stop ≡ Fault (record { rule = rule; line = number }) → stopped ≡ None → Fits stopped line old.room number
     → ReadsNext t old new line line' (Some read) → read ≡ Err rule → Tells (ahead now coming) later (Err stop)
-next_refused_told now stopped t line line' old new number rule read coming later stop view stops runs fits (inl (reads, long)) is =
+next_refused_reported now stopped t line line' old new number rule read coming later stop view stops runs fits (inl (reads, long)) is =
     let same : rule ≡ LineTooLong = cc in
-    long_told now stopped t line line' old new number coming later stop view (stops ∙ ap (λ (x : LineRule). Fault (record { rule = x; line = number })) same) runs fits reads
-next_refused_told now stopped t line line' old new number rule read coming later stop view stops runs fits (inr (whole, reads, short, says, none)) is =
-    refused_told now stopped t line whole old new number rule coming later stop view stops runs fits reads short (sym says ∙ is)
+    long_reported now stopped t line line' old new number coming later stop view (stops ∙ ap (λ (x : LineRule). Fault (record { rule = x; line = number })) same) runs fits reads
+next_refused_reported now stopped t line line' old new number rule read coming later stop view stops runs fits (inr (whole, reads, short, says, none)) is =
+    refused_reported now stopped t line whole old new number rule coming later stop view stops runs fits reads short (sym says ∙ is)
 
 -- a line that stands among the held bytes
 pub held_read : (t : TableRows) (old new : Held) (line whole : List ℕ) (read : Result Event LineRule) → line ≡ [] → HoldsLine old whole

@@ -50,11 +50,11 @@ UsesLive t past e = IfSome (emission t past e) (λ x. UsesFirst t x (past ++ e �
 
 -- 4: the last emission of each label is not too long ago
 abbrev pub IsInTime : TableRows → List Event → Event → Type 0
-IsInTime t past e = (x : ℕ) → x < length t.labels → tick_after past ≤ last_or_zero (emission_ticks t x past) + (label_row t x).greatest
+IsInTime t past e = (x : ℕ) → x < length t.labels → tick_after past ≤ last_or_zero (emission_ticks t x past) + (label_row t x).maximum
 
 -- 4: and, at an emission with an earlier one, not too short ago
 abbrev pub IsSpaced : TableRows → List Event → Event → Type 0
-IsSpaced t past e = IfSome (emission t past e) (λ x. 1 ≤ length (emission_ticks t x past) → last_or_zero (emission_ticks t x past) + (label_row t x).least ≤ tick_after past)
+IsSpaced t past e = IfSome (emission t past e) (λ x. 1 ≤ length (emission_ticks t x past) → last_or_zero (emission_ticks t x past) + (label_row t x).minimum ≤ tick_after past)
 
 -- all of them
 pub record Claims (t : TableRows) (ages : List ℕ) (past : List Event) (e : Event) : Type 0 where

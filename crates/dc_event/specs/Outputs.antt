@@ -36,16 +36,16 @@ abbrev pub entry_in : ℕ → Entry → List Move
 entry_in at e = cond (e.offset == at) (In (e.label, at) ∷ []) []
 
 -- the entries that are due in a tick
-abbrev pub due_in : TableRows → ℕ → ℕ → List Move
-due_in t o tick = flat_map (entry_in (tick % (output_row t o).frame)) (output_row t o).entries
+abbrev pub entries_due : TableRows → ℕ → ℕ → List Move
+entries_due t o tick = flat_map (entry_in (tick % (output_row t o).frame)) (output_row t o).entries
 
 -- what an event is to the output, after the events of past
 abbrev pub output_move_of : TableRows → ℕ → List Event → Event → List Move
-output_move_of t o past Tick = TickMove ∷ due_in t o (tick_after past + 1)
+output_move_of t o past Tick = TickMove ∷ entries_due t o (tick_after past + 1)
 output_move_of t o past (Arrive b w) = []
 output_move_of t o past (Route r) = []
 output_move_of t o past (Send q) = cond (q == o) (Visit ∷ []) []
 
 -- the moves of an output in a run: what passes of them is what is sent
 unfoldable pub output_moves : TableRows → ℕ → List Event → List Move
-output_moves t o run = due_in t o 0 ++ flat_map (λ ms. ms) (each_place (output_move_of t o) run)
+output_moves t o run = entries_due t o 0 ++ flat_map (λ ms. ms) (each_place (output_move_of t o) run)

@@ -2,7 +2,7 @@
 use Rattle.std.specs.Prelude.{◌≡◌, ℕ, ◌+◌, List, [], ◌∷◌, ◌++◌, length, Option, Some, None, option_map, Result, Ok, Err, ◌≤◌, ◌⊎◌}
 use Rattle.std.specs.Io.KnownBytes.{prepend_known}
 use Rattle.dc_device.specs.Lines.{Held, ReadsOn, lines_of}
-use Rattle.dc_device.specs.declared.reader.Part.TheVariants.{Long, Whole}
+use Rattle.dc_device.specs.declared.reader.LineEnd.TheVariants.{Long, Whole}
 use Rattle.dc_tables.specs.TableRows.{TableRows}
 use Rattle.dc_event.specs.TraceText.{Trace, line_event, trace_lines}
 use Rattle.dc_event.specs.declared.event.Event.{Event}
@@ -13,7 +13,7 @@ use Rattle.dc_event.specs.declared.trace.TraceStop.{TraceStop}
 use Rattle.dc_event.specs.declared.trace.TraceStop.TheVariants.{End, Fault, Broken}
 
 -- The lines of a trace, as far as they were pulled: the bytes read of the running line, which has this number; the
--- bytes held behind them; how many more bytes the text may have behind the running line's; and why the reader stopped.
+-- bytes held after them; how many more bytes the text may have after the running line's; and why the reader stopped.
 pub record Reading : Type 0 where
   pub tables : TableRows
   pub line : List ℕ
@@ -39,22 +39,22 @@ abbrev pub trace_from : TableRows → ℕ → ℕ → List ℕ → Trace
 trace_from t room number text = trace_lines t room number (lines_of text).0 (lines_of text).1
 
 -- the trace that is still to tell, by why the reader stopped: nothing is lost where the source failed
-abbrev pub told_from : Option TraceStop → TableRows → ℕ → ℕ → List ℕ → Trace
-told_from None t room number text = trace_from t room number text
-told_from (Some End) t room number text = no_more None
-told_from (Some (Fault f)) t room number text = no_more (Some f)
-told_from (Some Broken) t room number text = trace_from t room number text
+abbrev pub reported_from : Option TraceStop → TableRows → ℕ → ℕ → List ℕ → Trace
+reported_from None t room number text = trace_from t room number text
+reported_from (Some End) t room number text = no_more None
+reported_from (Some (Fault f)) t room number text = no_more (Some f)
+reported_from (Some Broken) t room number text = trace_from t room number text
 
 -- the trace that is still to tell, where the bytes are known that the source has still to give
 abbrev pub ahead : Reading → Option (List ℕ) → Option Trace
-ahead r coming = option_map (λ text. told_from r.stopped r.tables (r.room + length r.line) r.number text) (prepend_known (r.line ++ r.held) coming)
+ahead r coming = option_map (λ text. reported_from r.stopped r.tables (r.room + length r.line) r.number text) (prepend_known (r.line ++ r.held) coming)
 
 -- the trace ahead is as it was, where it was known
 abbrev pub Stays : Option Trace → Option Trace → Type 0
 Stays None new = Unit {0}
 Stays (Some t) new = new ≡ Some t
 
--- the trace ahead began with this event, which was told
+-- the trace ahead began with this event, which was reported
 abbrev pub TellsEvent : Option Trace → Option Trace → Event → Type 0
 TellsEvent None new e = Unit {0}
 TellsEvent (Some t) new e = (rest : Trace) × (new ≡ Some rest) × (t ≡ event_in_front e rest)
@@ -75,8 +75,8 @@ Tells old new (Err Broken) = Stays old new
 abbrev pub NeedsMore : Reading → Reading → Type 0
 NeedsMore old new = (old.stopped ≡ None) × (new.stopped ≡ None) × (new.held ≡ []) × (length old.held + new.room ≡ old.room)
 
--- What the next line says, with the bytes of it that were read before and those that are held: it goes on behind them
--- (None); it is past a limit; or it is whole, and nothing is read yet of the line behind it.
+-- What the next line says, with the bytes of it that were read before and those that are held: it goes on after them
+-- (None); it is past a limit; or it is whole, and nothing is read yet of the line after it.
 abbrev pub ReadsNext : TableRows → Held → Held → List ℕ → List ℕ → Option (Result Event LineRule) → Type 0
 ReadsNext t old new line line' None = ReadsOn old new line line' None
 ReadsNext t old new line line' (Some read) =
@@ -90,12 +90,12 @@ IsOfLine (Err End) = ⊥
 IsOfLine (Err (Fault f)) = Unit {0}
 IsOfLine (Err Broken) = ⊥
 
--- why a reader stopped that told this
+-- why a reader stopped that reported this
 abbrev pub stop_of : Result Event TraceStop → Option TraceStop
 stop_of (Ok e) = None
 stop_of (Err stop) = Some stop
 
--- why a reader stops where the text ends behind these bytes of a line
+-- why a reader stops where the text ends after these bytes of a line
 abbrev pub stop_behind : ℕ → List ℕ → TraceStop
 stop_behind number [] = End
 stop_behind number (c ∷ cs) = Fault (record { rule = LineNotEnded; line = number })
@@ -139,7 +139,7 @@ abbrev pub dry_left : Option TraceStop → ℕ
 dry_left None = 1
 dry_left (Some stop) = 0
 
--- A source was pulled no more often than the reader has less to pull, and behind a pull that gave no byte not again.
+-- A source was pulled no more often than the reader has less to pull, and after a pull that gave no byte not again.
 abbrev pub AsksFor : Reading → Reading → ℕ → ℕ → ℕ → ℕ → Type 0
 AsksFor old new asked asked' dry dry' =
     (asked' + pulls_left new.stopped new.room new.held ≤ asked + pulls_left old.stopped old.room old.held)

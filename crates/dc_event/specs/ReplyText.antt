@@ -17,20 +17,20 @@ abbrev pub name_at : List (List ℕ) → ℕ → List ℕ
 name_at names n = text_of (slice_index_or names n [])
 
 -- whether a reply is printed without --all
-abbrev pub is_told : Reply → Bool
-is_told (Queued n) = false
-is_told BadParity = true
-is_told Undeclared = true
-is_told TooEarly = true
-is_told Overrun = true
-is_told Latched = true
-is_told (Took b w) = false
-is_told (Empty b) = false
-is_told (Sent l w) = true
-is_told Idle = false
-is_told (Now n) = false
+abbrev pub is_reported : Reply → Bool
+is_reported (Queued n) = false
+is_reported BadParity = true
+is_reported Undeclared = true
+is_reported TooEarly = true
+is_reported Overrun = true
+is_reported Latched = true
+is_reported (Took b w) = false
+is_reported (Empty b) = false
+is_reported (Sent l w) = true
+is_reported Idle = false
+is_reported (Now n) = false
 
--- what is printed of an arrival's reply behind the bus
+-- what is printed of an arrival's reply after the bus
 abbrev pub arrival_text : ℕ → Reply → List ℕ
 arrival_text w (Queued n) = codes " queued " ++ decimal n
 arrival_text w BadParity = codes " parity " ++ eight_hex w
@@ -40,13 +40,13 @@ arrival_text w Overrun = codes " overrun " ++ eight_hex w
 arrival_text w Latched = codes " latched " ++ eight_hex w
 arrival_text w _ = []
 
--- of a routing step's reply behind the router
+-- of a routing step's reply after the router
 abbrev pub routing_text : TableRows → Reply → List ℕ
 routing_text t (Took b w) = codes " took " ++ name_at t.keys.buses b ++ codes " " ++ eight_hex w
 routing_text t (Empty b) = codes " empty " ++ name_at t.keys.buses b
 routing_text t _ = []
 
--- of a send's reply behind the output
+-- of a send's reply after the output
 abbrev pub sending_text : Reply → List ℕ
 sending_text (Sent l w) = codes " " ++ eight_hex w
 sending_text Idle = codes " idle"
@@ -61,7 +61,7 @@ reply_line t tick (Send o) r = decimal tick ++ codes " " ++ name_at t.keys.outpu
 
 -- the lines that an event prints, after the events of past, with --all or without
 abbrev pub event_lines : TableRows → Bool → List Event → Event → List (List ℕ)
-event_lines t all past e = cond (all || is_told (reply t past e)) (reply_line t (tick_after (past ++ e ∷ [])) e (reply t past e) ∷ []) []
+event_lines t all past e = cond (all || is_reported (reply t past e)) (reply_line t (tick_after (past ++ e ∷ [])) e (reply t past e) ∷ []) []
 
 -- the lines that a run prints
 unfoldable pub run_lines : TableRows → Bool → List Event → List (List ℕ)

@@ -39,26 +39,26 @@ arrival None word = Err NameUnknown
 arrival (Some b) None = Err NotAWord
 arrival (Some b) (Some w) = Ok (Arrive b w)
 
--- the fields behind A: a bus and a word
+-- the fields after A: a bus and a word
 abbrev pub arrive_fields : TableRows → List (List ℕ) → Result Event LineRule
 arrive_fields t [] = Err FieldCountWrong
 arrive_fields t (bus ∷ []) = Err FieldCountWrong
 arrive_fields t (bus ∷ word ∷ []) = arrival (number_named t.keys.buses bus) (word_of word)
 arrive_fields t (bus ∷ word ∷ more ∷ rest) = Err FieldCountWrong
 
--- behind R: a router
+-- after R: a router
 abbrev pub route_fields : TableRows → List (List ℕ) → Result Event LineRule
 route_fields t [] = Err FieldCountWrong
 route_fields t (router ∷ []) = or_fault NameUnknown (option_map (λ r. Route r) (number_named t.keys.routers router))
 route_fields t (router ∷ more ∷ rest) = Err FieldCountWrong
 
--- behind S: an output
+-- after S: an output
 abbrev pub send_fields : TableRows → List (List ℕ) → Result Event LineRule
 send_fields t [] = Err FieldCountWrong
 send_fields t (output ∷ []) = or_fault NameUnknown (option_map (λ o. Send o) (number_named t.keys.outputs output))
 send_fields t (output ∷ more ∷ rest) = Err FieldCountWrong
 
--- behind T: nothing
+-- after T: nothing
 abbrev pub tick_fields : List (List ℕ) → Result Event LineRule
 tick_fields [] = Ok Tick
 tick_fields (more ∷ rest) = Err FieldCountWrong
@@ -97,7 +97,7 @@ in_front number (Err rule) rest = faulty rule number
 abbrev pub too_long : ℕ → ℕ → ℕ → Bool
 too_long room line text = nat_lt 64 line || nat_lt room text
 
--- where the text ends behind these bytes of a line
+-- where the text ends after these bytes of a line
 abbrev pub ended_by : ℕ → List ℕ → Trace
 ended_by number [] = record { events = []; fault = None }
 ended_by number (c ∷ cs) = faulty LineNotEnded number

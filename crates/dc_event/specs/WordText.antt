@@ -19,7 +19,7 @@ hex_value c =
     else if nat_le 97 c && nat_le c 102 then Some (c - 87)
     else None
 
--- the number that the digits write, behind n
+-- the number that the digits write, after n
 abbrev pub number_behind : ℕ → List ℕ → Option ℕ
 number_behind n [] = Some n
 number_behind n (c ∷ cs) = option_and_then (λ d. number_behind (n * 16 + d) cs) (hex_value c)

@@ -70,7 +70,7 @@ fn output_named(tables: &Tables, text: &[u8]) -> Option<usize>
     tables.output_named(&name)
 }
 
-// Behind A: a bus and a word.
+// After A: a bus and a word.
 fn read_arrive(tables: &Tables, fields: &mut Fields) -> Result<Event, LineRule>
     ensures { result ≡ arrive_fields tables.now fields.old }
 {
@@ -92,7 +92,7 @@ fn read_arrive(tables: &Tables, fields: &mut Fields) -> Result<Event, LineRule>
     Ok(Event::Arrive(bus, word))
 }
 
-// Behind R: a router.
+// After R: a router.
 fn read_route(tables: &Tables, fields: &mut Fields) -> Result<Event, LineRule>
     ensures { result ≡ route_fields tables.now fields.old }
 {
@@ -108,7 +108,7 @@ fn read_route(tables: &Tables, fields: &mut Fields) -> Result<Event, LineRule>
     Ok(Event::Route(router))
 }
 
-// Behind S: an output.
+// After S: an output.
 fn read_send(tables: &Tables, fields: &mut Fields) -> Result<Event, LineRule>
     ensures { result ≡ send_fields tables.now fields.old }
 {
@@ -124,7 +124,7 @@ fn read_send(tables: &Tables, fields: &mut Fields) -> Result<Event, LineRule>
     Ok(Event::Send(output))
 }
 
-// Behind T: nothing.
+// After T: nothing.
 fn read_tick(fields: &mut Fields) -> Result<Event, LineRule>
     ensures { result ≡ tick_fields fields.old }
 {

@@ -56,7 +56,7 @@ pub struct TraceFault {
 /// Why a reader of a trace tells no more events.
 #[derive(Clone, Copy, Debug, PartialEq, Eq)]
 pub enum TraceStop {
-    /// The text ended behind its last line.
+    /// The text ended after its last line.
     End,
     /// A line is refused.
     Fault(TraceFault),

@@ -6,7 +6,7 @@ ghost use Rattle.dc_event.specs.Reading.{AsksFor, IsOfLine, NeedsMore, ReadsNext
 use crate::event::Event;
 use crate::line::read_line;
 use crate::trace::{LineRule, TraceFault, TraceStop};
-use dc_device::{Line, LineReader, LineWriter, Part, Sink, Source};
+use dc_device::{Line, LineEnd, LineReader, LineWriter, Sink, Source};
 use dc_tables::Tables;
 use std::marker::Model;
 
@@ -17,7 +17,7 @@ fn fault(rule: LineRule, line: u64) -> TraceStop
     TraceStop::Fault(TraceFault { rule, line })
 }
 
-// A text ended behind these bytes of a line.
+// A text ended after these bytes of a line.
 fn end_inside(line: &[u8], number: u64) -> TraceStop
     ensures { result ≡ stop_behind number line.now }
 {
@@ -45,8 +45,8 @@ fn read_next(
         }
     }
     match reader.read_on(line)? {
-        Part::Long => Some(Err(LineRule::LineTooLong)),
-        Part::Whole => {
+        LineEnd::Long => Some(Err(LineRule::LineTooLong)),
+        LineEnd::Whole => {
             let read = read_line(tables, line.as_slice());
             line.clear();
             Some(read)
@@ -54,7 +54,7 @@ fn read_next(
     }
 }
 
-/// Reads the lines of a trace in the bytes that it holds, and pulls where it is told to: so its owner knows when the
+/// Reads the lines of a trace in the bytes that it holds, and pulls where it is reported to: so its owner knows when the
 /// source is asked, and can first show what was answered so far. It takes no memory.
 #[derive(Drop)]
 pub struct TraceLines<'t> {
@@ -95,14 +95,14 @@ impl<'t> TraceLines<'t> {
     }
 
     /// Tells the next event, or why there is none, as far as the held bytes go. None where they end before the line
-    /// does: then pull, and call again. Once it told why there is none, it tells that same from then on.
+    /// does: then pull, and call again. Once it reported why there is none, it tells that same from then on.
     pub fn advance(&mut self) -> Option<Result<Event, TraceStop>>
-        ensures told { (coming : Option (List ℕ)) →
-            MatchOption result (Stays (ahead self.old coming) (ahead self.new coming)) (λ told. Tells (ahead self.old coming) (ahead self.new coming) told) }
-        ensures more { MatchOption result (NeedsMore self.old self.new) (λ told. self.new.stopped ≡ stop_of told) }
+        ensures reported { (coming : Option (List ℕ)) →
+            MatchOption result (Stays (ahead self.old coming) (ahead self.new coming)) (λ reported. Tells (ahead self.old coming) (ahead self.new coming) reported) }
+        ensures more { MatchOption result (NeedsMore self.old self.new) (λ reported. self.new.stopped ≡ stop_of reported) }
         ensures again { IfSome self.old.stopped (λ stop. (result ≡ Some (Err stop)) × (self.new ≡ self.old)) }
-        ensures shorter { IfSome result (λ told. IfOk told (λ e. self.new.room < self.old.room)) }
-        ensures line { self.old.stopped ≡ None → IfSome result (λ told. IsOfLine told) }
+        ensures shorter { IfSome result (λ reported. IfOk reported (λ e. self.new.room < self.old.room)) }
+        ensures line { self.old.stopped ≡ None → IfSome result (λ reported. IsOfLine reported) }
         ensures tables { self.new.tables ≡ self.old.tables }
     {
         if let Some(stop) = self.stopped {

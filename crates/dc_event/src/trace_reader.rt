@@ -71,12 +71,12 @@ impl<'t, S: Source + Drop> TraceReader<'t, S> {
         }
     }
 
-    /// Tells the next event, or why there is none: the text ended, a line is refused, or the source failed. Once it told
+    /// Tells the next event, or why there is none: the text ended, a line is refused, or the source failed. Once it reported
     /// why there is none, it tells that same from then on. It pulls only where the held bytes end before the line does: in
-    /// all its calls at most once more than the trace may have bytes, and not again behind a pull that gave none.
+    /// all its calls at most once more than the trace may have bytes, and not again after a pull that gave none.
     pub fn next(&mut self) -> Result<Event, TraceStop>
         requires { self.old.failed + 1 < 2 ^ 64 }
-        ensures told { Tells (left self.old) (left self.new) result }
+        ensures reported { Tells (left self.old) (left self.new) result }
         ensures again { IfSome self.old.lines.stopped (λ stop. (result ≡ Err stop) × (self.new ≡ self.old)) }
         ensures stopped { self.new.lines.stopped ≡ stop_of result }
         ensures count { self.new.failed ≡ self.old.failed + new_failures self.old.lines.stopped self.new.lines.stopped }
@@ -85,7 +85,7 @@ impl<'t, S: Source + Drop> TraceReader<'t, S> {
     {
         loop {
             match self.lines.advance() {
-                Some(told) => return told,
+                Some(reported) => return reported,
                 None => pull_unwatched(&mut self.lines, &mut self.source),
             }
         }

@@ -5,10 +5,10 @@ use Rattle.std.specs.List.{All, list_all}
 use Rattle.std.proofs.lemmas.Bool.{cases_lt, le-leb, leb-true}
 use Rattle.std.proofs.lemmas.List.{get_or_default}
 use Rattle.dc_cert.specs.Bounds.{CertificateRows, output_bound, numbers_of}
-use Rattle.dc_cert.specs.Claims.{Claims}
+use Rattle.dc_cert.specs.NamedRows.{NamedRows}
 use Rattle.dc_check.specs.Accepts.{AcceptsLabel, gaps_of, label_delay, source_delay}
 use Rattle.dc_check.specs.Verdict.{fault_at, unless, first_of, label_rules, job_verdict}
-use Rattle.dc_check.specs.declared.fault.Part.TheVariants.{Labels}
+use Rattle.dc_check.specs.declared.fault.CertificateList.TheVariants.{Labels}
 use Rattle.dc_check.specs.declared.fault.CheckFault.{CheckFault}
 use Rattle.dc_check.specs.declared.fault.Condition.{Condition}
 use Rattle.dc_check.specs.declared.fault.Condition.TheVariants.{NamesDiffer, WindowOutOfRange, WindowDoesNotClose, BacklogTooSmall, QueueTooShort, DelayTooSmall, DelayOutOfRange, SentTooSoon, SentTooLate, AgeTooSmall, AgeOverLimit, SourceGoesStale}
@@ -24,7 +24,7 @@ use Rattle.dc_tables.specs.TableRows.{TableRows, AreValid, stream_row, label_row
 
 -- ---- greater delays keep no more rules
 
-module _ (t : TableRows) (v : AreValid t) (claims : Claims) (inputs : AreInputRows t claims.inputs) (outputs : AreOutputRows t claims.outputs) (other : CertificateRows) (queues : AcceptsQueues t other) where
+module _ (t : TableRows) (v : AreValid t) (claims : NamedRows) (inputs : AreInputRows t claims.inputs) (outputs : AreOutputRows t claims.outputs) (other : CertificateRows) (queues : AcceptsQueues t other) where
   label_delay-least : (x : ℕ) → x < length t.labels → label_delay t (numbers_of claims) x ≤ label_delay t other x
   label_delay-least x there =
       let o = v.labels_on_outputs x there in
@@ -60,7 +60,7 @@ module _ (t : TableRows) (v : AreValid t) (claims : Claims) (inputs : AreInputRo
 
 -- ---- the first rule that is broken
 
--- a rule of the list, and those behind it
+-- a rule of the list, and those after it
 front : (holds : Bool) (fault f : CheckFault) (rest : List (Option CheckFault)) → first_of (unless holds fault ∷ rest) ≡ Some f → ((holds ≡ false) × (f ≡ fault)) ⊎ ((holds ≡ true) × (first_of rest ≡ Some f))
 unfolding unless
 front true fault f rest h = inr (refl, h)
@@ -99,7 +99,7 @@ module _ (t : TableRows) (x : ℕ) (c : CertificateRows) where
   broken-at : (condition own : Condition) → own ≡ condition → IsBroken t x c condition → IsBroken t x c own
   broken-at condition own is h = subst (IsBroken t x c) (sym is) h
 
-  -- the rules behind the first one, the second ..
+  -- the rules after the first one, the second ..
   abbrev behind_fresh : List (Option CheckFault)
   behind_fresh = []
 
@@ -107,40 +107,40 @@ module _ (t : TableRows) (x : ℕ) (c : CertificateRows) where
   behind_limit = unless (list_all (λ s. nat_le (source_delay t c s + (stream_row t s).maximum) (label_row t x).stale) (label_row t x).sources) (fault_at Labels x SourceGoesStale 0) ∷ behind_fresh
 
   abbrev behind_aged : List (Option CheckFault)
-  behind_aged = unless (nat_le (slice_index c.ages x) (label_row t x).oldest) (fault_at Labels x AgeOverLimit 0) ∷ behind_limit
+  behind_aged = unless (nat_le (slice_index c.ages x) (label_row t x).age_limit) (fault_at Labels x AgeOverLimit 0) ∷ behind_limit
 
   abbrev behind_late : List (Option CheckFault)
   behind_late = unless (list_all (λ s. nat_le ((label_row t x).stale + source_delay t c s) (slice_index c.ages x)) (label_row t x).sources) (fault_at Labels x AgeTooSmall 0) ∷ behind_aged
 
   abbrev behind_soon : List (Option CheckFault)
-  behind_soon = unless (list_all (λ g. nat_le (g + label_delay t c x) (label_row t x).greatest) (gaps_of t x)) (fault_at Labels x SentTooLate 0) ∷ behind_late
+  behind_soon = unless (list_all (λ g. nat_le (g + label_delay t c x) (label_row t x).maximum) (gaps_of t x)) (fault_at Labels x SentTooLate 0) ∷ behind_late
 
   -- the first fault of a label, whose age is long enough
   pub broken-first : (f : CheckFault) → IsOldEnough t x c (slice_index c.ages x) → first_of (label_rules t x c) ≡ Some f → IsBroken t x c f.condition
   broken-first f aged h =
-      elim (front (list_all (λ g. nat_le ((label_row t x).least + label_delay t c x) g) (gaps_of t x)) (fault_at Labels x SentTooSoon 0) f behind_soon h) [
+      elim (front (list_all (λ g. nat_le ((label_row t x).minimum + label_delay t c x) g) (gaps_of t x)) (fault_at Labels x SentTooSoon 0) f behind_soon h) [
         | inl e ↦ broken-at SentTooSoon f.condition (ap (λ (e : CheckFault). e.condition) e.1) (record {
-          breaks = one-fails (λ g. (label_row t x).least + label_delay t c x) (λ g. g) (gaps_of t x) e.0;
+          breaks = one-fails (λ g. (label_row t x).minimum + label_delay t c x) (λ g. g) (gaps_of t x) e.0;
           earlier = lower-rules 1 (λ l. absurd (omega (arith, l))) (λ l. absurd (omega (arith, l))) (λ l. absurd (omega (arith, l))) (λ l. absurd (omega (arith, l)));
         })
-        | inr soon ↦ elim (front (list_all (λ g. nat_le (g + label_delay t c x) (label_row t x).greatest) (gaps_of t x)) (fault_at Labels x SentTooLate 0) f behind_late soon.1) [
+        | inr soon ↦ elim (front (list_all (λ g. nat_le (g + label_delay t c x) (label_row t x).maximum) (gaps_of t x)) (fault_at Labels x SentTooLate 0) f behind_late soon.1) [
           | inl e ↦ broken-at SentTooLate f.condition (ap (λ (e : CheckFault). e.condition) e.1) (record {
-            breaks = one-fails (λ g. g + label_delay t c x) (λ g. (label_row t x).greatest) (gaps_of t x) e.0;
-            earlier = lower-rules 2 (λ l. all-le (λ g. (label_row t x).least + label_delay t c x) (λ g. g) (gaps_of t x) soon.0) (λ l. absurd (omega (arith, l))) (λ l. absurd (omega (arith, l))) (λ l. absurd (omega (arith, l)));
+            breaks = one-fails (λ g. g + label_delay t c x) (λ g. (label_row t x).maximum) (gaps_of t x) e.0;
+            earlier = lower-rules 2 (λ l. all-le (λ g. (label_row t x).minimum + label_delay t c x) (λ g. g) (gaps_of t x) soon.0) (λ l. absurd (omega (arith, l))) (λ l. absurd (omega (arith, l))) (λ l. absurd (omega (arith, l)));
           })
           | inr late ↦ elim (front (list_all (λ s. nat_le ((label_row t x).stale + source_delay t c s) (slice_index c.ages x)) (label_row t x).sources) (fault_at Labels x AgeTooSmall 0) f behind_aged late.1) [
             | inl e ↦ absurd (one-fails (λ s. (label_row t x).stale + source_delay t c s) (λ s. slice_index c.ages x) (label_row t x).sources e.0 aged)
-            | inr old ↦ elim (front (nat_le (slice_index c.ages x) (label_row t x).oldest) (fault_at Labels x AgeOverLimit 0) f behind_limit old.1) [
+            | inr old ↦ elim (front (nat_le (slice_index c.ages x) (label_row t x).age_limit) (fault_at Labels x AgeOverLimit 0) f behind_limit old.1) [
               | inl e ↦ broken-at AgeOverLimit f.condition (ap (λ (e : CheckFault). e.condition) e.1) (record {
                 breaks = λ kept. over _ _ e.0 kept.limited;
-                earlier = lower-rules 3 (λ l. all-le (λ g. (label_row t x).least + label_delay t c x) (λ g. g) (gaps_of t x) soon.0)
-                    (λ l. all-le (λ g. g + label_delay t c x) (λ g. (label_row t x).greatest) (gaps_of t x) late.0) (λ l. absurd (omega (arith, l))) (λ l. absurd (omega (arith, l)));
+                earlier = lower-rules 3 (λ l. all-le (λ g. (label_row t x).minimum + label_delay t c x) (λ g. g) (gaps_of t x) soon.0)
+                    (λ l. all-le (λ g. g + label_delay t c x) (λ g. (label_row t x).maximum) (gaps_of t x) late.0) (λ l. absurd (omega (arith, l))) (λ l. absurd (omega (arith, l)));
               })
               | inr limit ↦ elim (front (list_all (λ s. nat_le (source_delay t c s + (stream_row t s).maximum) (label_row t x).stale) (label_row t x).sources) (fault_at Labels x SourceGoesStale 0) f behind_fresh limit.1) [
                 | inl e ↦ broken-at SourceGoesStale f.condition (ap (λ (e : CheckFault). e.condition) e.1) (record {
                   breaks = one-fails (λ s. source_delay t c s + (stream_row t s).maximum) (λ s. (label_row t x).stale) (label_row t x).sources e.0;
-                  earlier = lower-rules 4 (λ l. all-le (λ g. (label_row t x).least + label_delay t c x) (λ g. g) (gaps_of t x) soon.0)
-                      (λ l. all-le (λ g. g + label_delay t c x) (λ g. (label_row t x).greatest) (gaps_of t x) late.0)
+                  earlier = lower-rules 4 (λ l. all-le (λ g. (label_row t x).minimum + label_delay t c x) (λ g. g) (gaps_of t x) soon.0)
+                      (λ l. all-le (λ g. g + label_delay t c x) (λ g. (label_row t x).maximum) (gaps_of t x) late.0)
                       (λ l. record { aged = aged; limited = leb-true _ _ limit.0 }) (λ l. absurd (omega (arith, l)));
                 })
                 | inr none ↦ absurd (let bad : None ≡ Some f = none.1 in cc)
@@ -152,7 +152,7 @@ module _ (t : TableRows) (x : ℕ) (c : CertificateRows) where
 
 -- ---- a label of the least rows
 
-module _ (t : TableRows) (v : AreValid t) (claims : Claims) (inputs : AreInputRows t claims.inputs) (outputs : AreOutputRows t claims.outputs) (labels : AreLabelRows t claims.inputs claims.labels) where
+module _ (t : TableRows) (v : AreValid t) (claims : NamedRows) (inputs : AreInputRows t claims.inputs) (outputs : AreOutputRows t claims.outputs) (labels : AreLabelRows t claims.inputs claims.labels) where
   -- a rule that it breaks stands in the way, and none before it
   broken-of_part : (x : ℕ) → x < length t.labels → (condition : Condition) → IsBroken t x (numbers_of claims) condition → IsFirstOfPart t (length t.buses + length t.outputs + x) (LabelRule x condition)
   broken-of_part x there condition broken = record {
@@ -181,9 +181,9 @@ module _ (t : TableRows) (v : AreValid t) (claims : Claims) (inputs : AreInputRo
 
   pub label-broken : (x : ℕ) → x < length t.labels → ((y : ℕ) → y < x → AcceptsLabel t y (numbers_of claims)) → (f : CheckFault) →
       job_verdict t (numbers_of claims) (length t.buses + length t.outputs + x) ≡ Some f → IsFirstInTheWay t (LabelRule x f.condition)
-  label-broken x there kept f told =
+  label-broken x there kept f reported =
       first-of_all t (length t.buses + length t.outputs + x) (LabelRule x f.condition) (labels-clear x (omega arith) kept)
-      (broken-of_part x there f.condition (broken-first t x (numbers_of claims) f (label-row t claims labels x there).0 (sym (job-label t (numbers_of claims) x) ∙ told)))
+      (broken-of_part x there f.condition (broken-first t x (numbers_of claims) f (label-row t claims labels x there).0 (sym (job-label t (numbers_of claims) x) ∙ reported)))
 
   pub label-kept : (x : ℕ) → job_verdict t (numbers_of claims) (length t.buses + length t.outputs + x) ≡ None → AcceptsLabel t x (numbers_of claims)
-  label-kept x told = label-none t (numbers_of claims) x (sym (job-label t (numbers_of claims) x) ∙ told)
+  label-kept x reported = label-none t (numbers_of claims) x (sym (job-label t (numbers_of claims) x) ∙ reported)

@@ -5,7 +5,7 @@ use Rattle.std.specs.Prelude.{slice_index}
 use Rattle.std.proofs.lemmas.List.{get_or-map, get_or_default, length-map, same_lists}
 use Rattle.dc_busy.specs.Least.{IsLeast}
 use Rattle.dc_cert.specs.Bounds.{InputBound, CertificateRows, input_bound, output_bound, input_numbers, output_numbers, numbers_of}
-use Rattle.dc_cert.specs.Claims.{InputClaim, OutputClaim, LabelClaim, Claims, input_claim}
+use Rattle.dc_cert.specs.NamedRows.{NamedInput, NamedOutput, NamedLabel, NamedRows, named_input}
 use Rattle.dc_cert.specs.declared.certificate.InputRow.{InputRow}
 use Rattle.dc_check.specs.Accepts.{AcceptsLabel, IsNamed, Accepts, source_delay}
 use Rattle.dc_find.proofs.Lists.{AreRows}
@@ -17,22 +17,22 @@ use Rattle.dc_parts.specs.Names.{text_of}
 use Rattle.dc_tables.specs.Keyed.{AreKeyed}
 use Rattle.dc_tables.specs.TableRows.{TableRows, label_row}
 
-abbrev no_input : InputClaim
+abbrev no_input : NamedInput
 no_input = record { bus = []; window = 0; backlog = 0; delay = 0 }
 
-abbrev no_output : OutputClaim
+abbrev no_output : NamedOutput
 no_output = record { output = []; window = 0; delay = 0 }
 
-abbrev no_label : LabelClaim
+abbrev no_label : NamedLabel
 no_label = record { label = []; age = 0 }
 
 -- ---- nothing stands in the way of rows that are accepted
 
-pub inputs-clear : (t : TableRows) (n : ℕ) (inputs : List InputClaim) → n ≤ length t.buses → AreRows (IsInputRow t) n inputs → IsClearBelow t n
+pub inputs-clear : (t : TableRows) (n : ℕ) (inputs : List NamedInput) → n ≤ length t.buses → AreRows (IsInputRow t) n inputs → IsClearBelow t n
 inputs-clear t n inputs few rows part below =
     input-clear t part (omega arith) _ (rows.each part no_input (omega (arith, rows.count))).least.accepted
 
-pub outputs-clear : (t : TableRows) (n : ℕ) (outputs : List OutputClaim) → n ≤ length t.outputs → IsClearBelow t (length t.buses) → AreRows (IsOutputRow t) n outputs → IsClearBelow t (length t.buses + n)
+pub outputs-clear : (t : TableRows) (n : ℕ) (outputs : List NamedOutput) → n ≤ length t.outputs → IsClearBelow t (length t.buses) → AreRows (IsOutputRow t) n outputs → IsClearBelow t (length t.buses + n)
 outputs-clear t n outputs few clear rows part below other at =
     elim (cases_lt part (length t.buses)) [
       | inl l ↦ clear part l other at
@@ -43,7 +43,7 @@ outputs-clear t n outputs few clear rows part below other at =
 
 -- ---- the numbers of claims
 
-module _ (t : TableRows) (claims : Claims) where
+module _ (t : TableRows) (claims : NamedRows) where
   pub input-row : AreInputRows t claims.inputs → (b : ℕ) → b < length t.buses → IsLeastInput t b (input_bound (numbers_of claims) b)
   input-row rows b there =
       let inside : b < length claims.inputs = omega (arith, rows.count) in
@@ -57,7 +57,7 @@ module _ (t : TableRows) (claims : Claims) where
   pub label-row : AreLabelRows t claims.inputs claims.labels → (x : ℕ) → x < length t.labels → IsLeast (IsOldEnough t x (numbers_of claims)) (slice_index (numbers_of claims).ages x)
   label-row rows x there =
       let inside : x < length claims.labels = omega (arith, rows.count) in
-      subst (IsLeast (IsOldEnough t x (numbers_of claims))) (sym (get_or-map (λ (l : LabelClaim). l.age) claims.labels x no_label 0 inside)) (rows.each x no_label inside).least
+      subst (IsLeast (IsOldEnough t x (numbers_of claims))) (sym (get_or-map (λ (l : NamedLabel). l.age) claims.labels x no_label 0 inside)) (rows.each x no_label inside).least
 
   pub queues-accepted : AreInputRows t claims.inputs → AreOutputRows t claims.outputs → AcceptsQueues t (numbers_of claims)
   queues-accepted inputs outputs = record { inputs = λ b l. (input-row inputs b l).accepted; outputs = λ o l. (output-row outputs o l).accepted }
@@ -65,11 +65,11 @@ module _ (t : TableRows) (claims : Claims) where
 -- ---- an age
 
 -- what was read of a row is its delay
-pub delay-read : (rows : List InputRow) (b : ℕ) (row : InputRow) → b < length rows → row ≡ get_or rows b row → (input_bound (inputs_alone (map input_claim rows)) b).delay ≡ row.delay
+pub delay-read : (rows : List InputRow) (b : ℕ) (row : InputRow) → b < length rows → row ≡ get_or rows b row → (input_bound (inputs_alone (map named_input rows)) b).delay ≡ row.delay
 delay-read rows b row there is =
-    ap (λ (r : InputBound). r.delay) (get_or-map input_numbers (map input_claim rows) b (input_claim row) (record { window = 0; backlog = 0; delay = 0 }) (omega (arith, length-map rows input_claim))
-    ∙ ap input_numbers (get_or-map input_claim rows b row (input_claim row) there)
-    ∙ ap (λ (r : InputRow). input_numbers (input_claim r)) (sym is))
+    ap (λ (r : InputBound). r.delay) (get_or-map input_numbers (map named_input rows) b (named_input row) (record { window = 0; backlog = 0; delay = 0 }) (omega (arith, length-map rows named_input))
+    ∙ ap input_numbers (get_or-map named_input rows b row (named_input row) there)
+    ∙ ap (λ (r : InputRow). input_numbers (named_input r)) (sym is))
 
 -- the stale limit and the greatest delay of a source are the least age
 pub age-least : (t : TableRows) (x : ℕ) (c : CertificateRows) (sources : List ℕ) → sources ≡ (label_row t x).sources → 1 ≤ length (label_row t x).sources →
@@ -98,19 +98,19 @@ named t names keys count sized keyed each = record {
       each k (omega (arith, sized)) d ∙ sym (get_or-map text_of keys k [] d (omega (arith, sized, keyed))));
 }
 
-pub least-accepted : (t : TableRows) (claims : Claims) → AreKeyed t → AreInputRows t claims.inputs → AreOutputRows t claims.outputs → AreLabelRows t claims.inputs claims.labels →
+pub least-accepted : (t : TableRows) (claims : NamedRows) → AreKeyed t → AreInputRows t claims.inputs → AreOutputRows t claims.outputs → AreLabelRows t claims.inputs claims.labels →
     ((x : ℕ) → x < length t.labels → AcceptsLabel t x (numbers_of claims)) →
-    ((other : Claims) → Accepts t other → (x : ℕ) → x < length t.labels → IsOldEnough t x (numbers_of claims) (slice_index (numbers_of other).ages x)) →
+    ((other : NamedRows) → Accepts t other → (x : ℕ) → x < length t.labels → IsOldEnough t x (numbers_of claims) (slice_index (numbers_of other).ages x)) →
     IsLeastAccepted t claims
 least-accepted t claims keyed inputs outputs labels kept older = record {
   accepted = record {
     named = record {
-      inputs = named t (map (λ (i : InputClaim). i.bus) claims.inputs) t.keys.buses (length t.buses) (length-map claims.inputs (λ (i : InputClaim). i.bus) ∙ inputs.count) keyed.buses
-          (λ k l d. get_or-map (λ (i : InputClaim). i.bus) claims.inputs k no_input d (omega (arith, inputs.count)) ∙ (inputs.each k no_input (omega (arith, inputs.count))).named);
-      outputs = named t (map (λ (o : OutputClaim). o.output) claims.outputs) t.keys.outputs (length t.outputs) (length-map claims.outputs (λ (o : OutputClaim). o.output) ∙ outputs.count) keyed.outputs
-          (λ k l d. get_or-map (λ (o : OutputClaim). o.output) claims.outputs k no_output d (omega (arith, outputs.count)) ∙ (outputs.each k no_output (omega (arith, outputs.count))).named);
-      labels = named t (map (λ (x : LabelClaim). x.label) claims.labels) t.keys.labels (length t.labels) (length-map claims.labels (λ (x : LabelClaim). x.label) ∙ labels.count) keyed.labels
-          (λ k l d. get_or-map (λ (x : LabelClaim). x.label) claims.labels k no_label d (omega (arith, labels.count)) ∙ (labels.each k no_label (omega (arith, labels.count))).named);
+      inputs = named t (map (λ (i : NamedInput). i.bus) claims.inputs) t.keys.buses (length t.buses) (length-map claims.inputs (λ (i : NamedInput). i.bus) ∙ inputs.count) keyed.buses
+          (λ k l d. get_or-map (λ (i : NamedInput). i.bus) claims.inputs k no_input d (omega (arith, inputs.count)) ∙ (inputs.each k no_input (omega (arith, inputs.count))).named);
+      outputs = named t (map (λ (o : NamedOutput). o.output) claims.outputs) t.keys.outputs (length t.outputs) (length-map claims.outputs (λ (o : NamedOutput). o.output) ∙ outputs.count) keyed.outputs
+          (λ k l d. get_or-map (λ (o : NamedOutput). o.output) claims.outputs k no_output d (omega (arith, outputs.count)) ∙ (outputs.each k no_output (omega (arith, outputs.count))).named);
+      labels = named t (map (λ (x : NamedLabel). x.label) claims.labels) t.keys.labels (length t.labels) (length-map claims.labels (λ (x : NamedLabel). x.label) ∙ labels.count) keyed.labels
+          (λ k l d. get_or-map (λ (x : NamedLabel). x.label) claims.labels k no_label d (omega (arith, labels.count)) ∙ (labels.each k no_label (omega (arith, labels.count))).named);
     };
     numbers = record {
       inputs = λ b l. (input-row t claims inputs b l).accepted;

@@ -1,7 +1,7 @@
 -- The least certificate that is accepted for tables.
 use Rattle.std.specs.Prelude.{ℕ, ◌≤◌, ◌<◌, length, slice_index}
 use Rattle.dc_cert.specs.Bounds.{InputBound, OutputBound, CertificateRows, input_bound, output_bound, numbers_of}
-use Rattle.dc_cert.specs.Claims.{Claims}
+use Rattle.dc_cert.specs.NamedRows.{NamedRows}
 use Rattle.dc_check.specs.Accepts.{Accepts}
 use Rattle.dc_tables.specs.TableRows.{TableRows}
 
@@ -22,10 +22,10 @@ pub record IsAtMost (t : TableRows) (c other : CertificateRows) : Type 0 where
   pub ages : (x : ℕ) → x < length t.labels → slice_index c.ages x ≤ slice_index other.ages x
 
 -- accepted, and no accepted one has a smaller number anywhere
-pub record IsLeastAccepted (t : TableRows) (claims : Claims) : Type 0 where
+pub record IsLeastAccepted (t : TableRows) (claims : NamedRows) : Type 0 where
   pub accepted : Accepts t claims
-  pub least : (other : Claims) → Accepts t other → IsAtMost t (numbers_of claims) (numbers_of other)
+  pub least : (other : NamedRows) → Accepts t other → IsAtMost t (numbers_of claims) (numbers_of other)
 
 -- no certificate is accepted
 abbrev pub NoneAccepted : TableRows → Type 0
-NoneAccepted t = (claims : Claims) → ¬ Accepts t claims
+NoneAccepted t = (claims : NamedRows) → ¬ Accepts t claims

@@ -3,7 +3,7 @@ use Rattle.std.specs.Prelude.{◌≡◌, ℕ, ◌+◌, ◌≤◌, ◌<◌, List,
 use Rattle.std.specs.List.{All}
 use Rattle.dc_busy.specs.Least.{IsLeast}
 use Rattle.dc_cert.specs.Bounds.{InputBound, OutputBound, CertificateRows, input_numbers, output_numbers, numbers_of}
-use Rattle.dc_cert.specs.Claims.{InputClaim, OutputClaim, LabelClaim}
+use Rattle.dc_cert.specs.NamedRows.{NamedInput, NamedOutput, NamedLabel}
 use Rattle.dc_check.specs.Accepts.{WindowCloses, DelayHolds, AcceptsInput, AcceptsOutput, source_delay}
 use Rattle.dc_find.specs.Least.{IsInputAtMost, IsOutputAtMost}
 use Rattle.dc_parts.specs.Names.{text_of}
@@ -30,35 +30,35 @@ pub record IsLeastOutput (t : TableRows) (o : ℕ) (c : OutputBound) : Type 0 wh
   pub least : (other : OutputBound) → AcceptsOutput t o other → IsOutputAtMost c other
 
 -- the same with the name of its row
-pub record IsInputRow (t : TableRows) (b : ℕ) (claim : InputClaim) : Type 0 where
+pub record IsInputRow (t : TableRows) (b : ℕ) (claim : NamedInput) : Type 0 where
   pub named : claim.bus ≡ text_of (slice_index_or t.keys.buses b [])
   pub least : IsLeastInput t b (input_numbers claim)
 
-pub record IsOutputRow (t : TableRows) (o : ℕ) (claim : OutputClaim) : Type 0 where
+pub record IsOutputRow (t : TableRows) (o : ℕ) (claim : NamedOutput) : Type 0 where
   pub named : claim.output ≡ text_of (slice_index_or t.keys.outputs o [])
   pub least : IsLeastOutput t o (output_numbers claim)
 
 -- numbers of inputs alone
-abbrev pub inputs_alone : List InputClaim → CertificateRows
+abbrev pub inputs_alone : List NamedInput → CertificateRows
 inputs_alone inputs = numbers_of (record { inputs = inputs; outputs = []; labels = [] })
 
 -- long enough for the oldest word that the label still copies, from each of its sources
 abbrev pub IsOldEnough : TableRows → ℕ → CertificateRows → ℕ → Type 0
 IsOldEnough t x c age = All (λ s. (label_row t x).stale + source_delay t c s ≤ age) (label_row t x).sources
 
-pub record IsLabelRow (t : TableRows) (inputs : List InputClaim) (x : ℕ) (claim : LabelClaim) : Type 0 where
+pub record IsLabelRow (t : TableRows) (inputs : List NamedInput) (x : ℕ) (claim : NamedLabel) : Type 0 where
   pub named : claim.label ≡ text_of (slice_index_or t.keys.labels x [])
   pub least : IsLeast (IsOldEnough t x (inputs_alone inputs)) claim.age
 
 -- a row for each
-pub record AreInputRows (t : TableRows) (inputs : List InputClaim) : Type 0 where
+pub record AreInputRows (t : TableRows) (inputs : List NamedInput) : Type 0 where
   pub count : length inputs ≡ length t.buses
   pub each : EachAt (IsInputRow t) inputs
 
-pub record AreOutputRows (t : TableRows) (outputs : List OutputClaim) : Type 0 where
+pub record AreOutputRows (t : TableRows) (outputs : List NamedOutput) : Type 0 where
   pub count : length outputs ≡ length t.outputs
   pub each : EachAt (IsOutputRow t) outputs
 
-pub record AreLabelRows (t : TableRows) (inputs : List InputClaim) (labels : List LabelClaim) : Type 0 where
+pub record AreLabelRows (t : TableRows) (inputs : List NamedInput) (labels : List NamedLabel) : Type 0 where
   pub count : length labels ≡ length t.labels
   pub each : EachAt (IsLabelRow t inputs) labels

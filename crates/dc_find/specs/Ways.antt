@@ -27,8 +27,8 @@ pub record AcceptsQueues (t : TableRows) (c : CertificateRows) : Type 0 where
 
 -- what a rule asks of a label
 abbrev pub KeepsRule : TableRows → ℕ → CertificateRows → Condition → Type 0
-KeepsRule t x c SentTooSoon = All (λ g. (label_row t x).least + label_delay t c x ≤ g) (gaps_of t x)
-KeepsRule t x c SentTooLate = All (λ g. g + label_delay t c x ≤ (label_row t x).greatest) (gaps_of t x)
+KeepsRule t x c SentTooSoon = All (λ g. (label_row t x).minimum + label_delay t c x ≤ g) (gaps_of t x)
+KeepsRule t x c SentTooLate = All (λ g. g + label_delay t c x ≤ (label_row t x).maximum) (gaps_of t x)
 KeepsRule t x c AgeOverLimit = AgeHolds t x c
 KeepsRule t x c SourceGoesStale = SourcesStayFresh t x c
 KeepsRule t x c _ = Unit {0}

@@ -2,7 +2,7 @@
 
 ghost use Rattle.std.specs.Prelude.{◌≢◌, ℕ, ◌<◌, length, IfOk, IfErr, MatchOption};
 ghost use Rattle.dc_cert.specs.Bounds.{certificate_rows};
-ghost use Rattle.dc_cert.specs.Claims.{claims_of};
+ghost use Rattle.dc_cert.specs.NamedRows.{named_rows};
 ghost use Rattle.dc_check.specs.Accepts.{AcceptsLabel};
 ghost use Rattle.dc_find.specs.Least.{IsLeastAccepted, NoneAccepted};
 ghost use Rattle.dc_find.specs.Rows.{AreInputRows, AreOutputRows, AreLabelRows};
@@ -18,9 +18,9 @@ use std::alloc::Global;
 
 /// The first rule on a label that the least numbers break: then no certificate keeps it.
 fn broken_rule(tables: &Tables, certificate: &Certificate) -> Option<FindFault>
-    requires inputs { AreInputRows tables.now (claims_of certificate.now).inputs }
-    requires outputs { AreOutputRows tables.now (claims_of certificate.now).outputs }
-    requires labels { AreLabelRows tables.now (claims_of certificate.now).inputs (claims_of certificate.now).labels }
+    requires inputs { AreInputRows tables.now (named_rows certificate.now).inputs }
+    requires outputs { AreOutputRows tables.now (named_rows certificate.now).outputs }
+    requires labels { AreLabelRows tables.now (named_rows certificate.now).inputs (named_rows certificate.now).labels }
     ensures { MatchOption result ((x : ℕ) → x < length tables.now.labels → AcceptsLabel tables.now x (certificate_rows certificate.now)) (λ fault. IsFirstInTheWay tables.now fault) }
 {
     tables.valid();
@@ -37,7 +37,7 @@ fn broken_rule(tables: &Tables, certificate: &Certificate) -> Option<FindFault>
 /// anywhere. Where none is accepted, the first thing that stands in the way, in the order of inputs, outputs and labels,
 /// and for one of these in the order of its rules.
 pub fn find(alloc: Global, tables: &Tables) -> Result<Certificate, FindFault>
-    ensures least { IfOk result (λ c. IsLeastAccepted tables.now (claims_of c)) }
+    ensures least { IfOk result (λ c. IsLeastAccepted tables.now (named_rows c)) }
     ensures none { IfErr result (λ fault. fault ≢ Memory → NoneAccepted tables.now) }
     ensures first { IfErr result (λ fault. fault ≢ Memory → IsFirstInTheWay tables.now fault) }
 {

@@ -2,7 +2,7 @@
 
 ghost use Rattle.std.specs.Prelude.{◌≡◌, ◌≢◌, ℕ, ◌+◌, ◌<◌, length, map, string_bytes, IfOk, IfErr};
 ghost use Rattle.dc_busy.specs.Least.{IsLeast};
-ghost use Rattle.dc_cert.specs.Claims.{input_claim, output_claim, label_claim};
+ghost use Rattle.dc_cert.specs.NamedRows.{named_input, named_output, named_label};
 ghost use Rattle.dc_find.specs.Rows.{IsInputRow, IsOutputRow, IsLabelRow, AreInputRows, AreOutputRows, AreLabelRows, IsOldEnough, inputs_alone};
 ghost use Rattle.dc_find.specs.Ways.{IsFirstOfPart, IsFirstInTheWay, IsClearBelow};
 ghost use Rattle.dc_find.specs.declared.fault.FindFault.TheVariants.{Memory};
@@ -26,7 +26,7 @@ fn name_text(alloc: Global, name: &Name) -> Result<String, AllocError>
 
 fn input_row(alloc: Global, tables: &Tables, bus: usize) -> Result<InputRow, FindFault>
     requires { bus < length tables.now.buses }
-    ensures row { IfOk result (λ row. IsInputRow tables.now bus (input_claim row)) }
+    ensures row { IfOk result (λ row. IsInputRow tables.now bus (named_input row)) }
     ensures fault { IfErr result (λ fault. fault ≢ Memory → IsFirstOfPart tables.now bus fault) }
 {
     let numbers = input_numbers(
@@ -45,7 +45,7 @@ fn input_row(alloc: Global, tables: &Tables, bus: usize) -> Result<InputRow, Fin
 
 fn output_row(alloc: Global, tables: &Tables, output: usize) -> Result<OutputRow, FindFault>
     requires { output < length tables.now.outputs }
-    ensures row { IfOk result (λ row. IsOutputRow tables.now output (output_claim row)) }
+    ensures row { IfOk result (λ row. IsOutputRow tables.now output (named_output row)) }
     ensures fault { IfErr result (λ fault. fault ≢ Memory → IsFirstOfPart tables.now (length tables.now.buses + output) fault) }
 {
     let times = output_numbers(
@@ -64,8 +64,8 @@ fn output_row(alloc: Global, tables: &Tables, output: usize) -> Result<OutputRow
 /// The age of the oldest word that a label still copies: its stale limit, and the greatest delay of its sources' buses.
 fn least_age(tables: &Tables, inputs: &[InputRow], label: usize) -> u32
     requires there { label < length tables.now.labels }
-    requires inputs { AreInputRows tables.now (map input_claim inputs.now) }
-    ensures { IsLeast (IsOldEnough tables.now label (inputs_alone (map input_claim inputs.now))) result }
+    requires inputs { AreInputRows tables.now (map named_input inputs.now) }
+    ensures { IsLeast (IsOldEnough tables.now label (inputs_alone (map named_input inputs.now))) result }
 {
     tables.valid();
     let row = tables.label(label);
@@ -85,8 +85,8 @@ fn label_row(
     label: usize,
 ) -> Result<LabelRow, AllocError>
     requires there { label < length tables.now.labels }
-    requires inputs { AreInputRows tables.now (map input_claim inputs.now) }
-    ensures { IfOk result (λ row. IsLabelRow tables.now (map input_claim inputs.now) label (label_claim row)) }
+    requires inputs { AreInputRows tables.now (map named_input inputs.now) }
+    ensures { IfOk result (λ row. IsLabelRow tables.now (map named_input inputs.now) label (named_label row)) }
 {
     let age = least_age(tables, inputs, label);
     Ok(LabelRow {
@@ -97,7 +97,7 @@ fn label_row(
 
 /// The rows of the inputs, or the first thing that stands in their way.
 pub(crate) fn input_rows(alloc: Global, tables: &Tables) -> Result<Vec<InputRow>, FindFault>
-    ensures rows { IfOk result (λ v. AreInputRows tables.now (map input_claim v.items)) }
+    ensures rows { IfOk result (λ v. AreInputRows tables.now (map named_input v.items)) }
     ensures fault { IfErr result (λ fault. fault ≢ Memory → IsFirstInTheWay tables.now fault) }
 {
     let mut rows = Vec::new(alloc);
@@ -113,7 +113,7 @@ pub(crate) fn input_rows(alloc: Global, tables: &Tables) -> Result<Vec<InputRow>
 /// The rows of the outputs, where nothing stands in the way of the inputs, or the first thing that stands in theirs.
 pub(crate) fn output_rows(alloc: Global, tables: &Tables) -> Result<Vec<OutputRow>, FindFault>
     requires { IsClearBelow tables.now (length tables.now.buses) }
-    ensures rows { IfOk result (λ v. AreOutputRows tables.now (map output_claim v.items)) }
+    ensures rows { IfOk result (λ v. AreOutputRows tables.now (map named_output v.items)) }
     ensures fault { IfErr result (λ fault. fault ≢ Memory → IsFirstInTheWay tables.now fault) }
 {
     let mut rows = Vec::new(alloc);
@@ -132,8 +132,8 @@ pub(crate) fn label_rows(
     tables: &Tables,
     inputs: &[InputRow],
 ) -> Result<Vec<LabelRow>, AllocError>
-    requires { AreInputRows tables.now (map input_claim inputs.now) }
-    ensures { IfOk result (λ v. AreLabelRows tables.now (map input_claim inputs.now) (map label_claim v.items)) }
+    requires { AreInputRows tables.now (map named_input inputs.now) }
+    ensures { IfOk result (λ v. AreLabelRows tables.now (map named_input inputs.now) (map named_label v.items)) }
 {
     let mut rows = Vec::new(alloc);
     for label in 0..tables.label_count() {

@@ -272,10 +272,10 @@ here t run b w odd o odd_is o_is =
     ∙ ap (λ z. let_in t b run (cond odd z None)) o_is
 
 -- the reply's two last choices tell an arrival
-told_in : (latched full : Bool) (n : ℕ) → is_arrival (cond latched Latched (cond full Overrun (Queued n))) ≡ true
-told_in true full n = refl
-told_in false true n = refl
-told_in false false n = refl
+reported_in : (latched full : Bool) (n : ℕ) → is_arrival (cond latched Latched (cond full Overrun (Queued n))) ≡ true
+reported_in true full n = refl
+reported_in false true n = refl
+reported_in false false n = refl
 
 arrives-word : (t : TableRows) (run : List Event) (b w : ℕ) (odd refused : Bool) (o : Option ℕ) → is_odd w ≡ odd → stream_of t b w ≡ o → refuses t b run o ≡ refused
     → (is_arrival (reply t run (Arrive b w)) ≡ true → Arrives t run b w o) × (is_arrival (reply t run (Arrive b w)) ≡ false → Arrives t run b w None)
@@ -296,7 +296,7 @@ arrives-word t run b w true false (Some s) odd_is o_is refused_is =
     let own = stream_of-there t b w s o_is in (
       λ h. record { there = own.0; bus = own.1; here = here t run b w true (Some s) odd_is o_is ∙ ap (λ v. cond v None (Some s)) refused_is; elsewhere = λ a other. elsewhere t run b w a other },
       λ h. absurd (
-          let yes' : is_arrival (reply t run (Arrive b w)) ≡ true = rw (odd_is, o_is, refused_is) (told_in (is_latched t b run) (is_latched t b (run ++ Arrive b w ∷ [])) (backlog t b (run ++ Arrive b w ∷ []))) in
+          let yes' : is_arrival (reply t run (Arrive b w)) ≡ true = rw (odd_is, o_is, refused_is) (reported_in (is_latched t b run) (is_latched t b (run ++ Arrive b w ∷ [])) (backlog t b (run ++ Arrive b w ∷ []))) in
           let both : true ≡ false = sym yes' ∙ h in cc),
     )
 
@@ -317,9 +317,9 @@ abbrev pub TakesAs : TableRows → List Event → ℕ → Option ℕ → Type 0
 TakesAs t run r None = bus_taken t (visited_bus t r run) (run ++ Route r ∷ []) ≤ bus_taken t (visited_bus t r run) run
 TakesAs t run r (Some b) = TookFrom t run r b
 
-pub takes-as : (t : TableRows) (run : List Event) (r : ℕ) (told : Reply) → told ≡ reply t run (Route r) → TakesAs t run r (taken_bus told)
+pub takes-as : (t : TableRows) (run : List Event) (r : ℕ) (reported : Reply) → reported ≡ reply t run (Route r) → TakesAs t run r (taken_bus reported)
 unfolding reply
-takes-as t run r told is =
+takes-as t run r reported is =
     let b = visited_bus t r run in
     let P : Reply → Type 0 = λ x. TakesAs t run r (taken_bus x) in
     subst P (sym is) (elim (cases_lt (bus_taken t (visited_bus t r run) run) (bus_taken t (visited_bus t r run) (run ++ Route r ∷ []))) [

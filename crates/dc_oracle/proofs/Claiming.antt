@@ -18,24 +18,24 @@ use Rattle.dc_oracle.specs.Claims.{fits, first_of, Judged}
 
 -- ---- an overrun
 
-fits-told : (r : Reply) → MatchBool (fits r) (r ≢ Overrun) (r ≢ Overrun → ⊥)
-fits-told (Queued n) = λ e. absurd cc
-fits-told BadParity = λ e. absurd cc
-fits-told Undeclared = λ e. absurd cc
-fits-told TooEarly = λ e. absurd cc
-fits-told Overrun = λ h. h refl
-fits-told Latched = λ e. absurd cc
-fits-told (Took b w) = λ e. absurd cc
-fits-told (Empty b) = λ e. absurd cc
-fits-told (Sent l w) = λ e. absurd cc
-fits-told Idle = λ e. absurd cc
-fits-told (Now n) = λ e. absurd cc
+fits-reported : (r : Reply) → MatchBool (fits r) (r ≢ Overrun) (r ≢ Overrun → ⊥)
+fits-reported (Queued n) = λ e. absurd cc
+fits-reported BadParity = λ e. absurd cc
+fits-reported Undeclared = λ e. absurd cc
+fits-reported TooEarly = λ e. absurd cc
+fits-reported Overrun = λ h. h refl
+fits-reported Latched = λ e. absurd cc
+fits-reported (Took b w) = λ e. absurd cc
+fits-reported (Empty b) = λ e. absurd cc
+fits-reported (Sent l w) = λ e. absurd cc
+fits-reported Idle = λ e. absurd cc
+fits-reported (Now n) = λ e. absurd cc
 
-pub no_overrun-told : (t : TableRows) (run : List Event) (e : Event) (r : Reply) (answer : Bool) → answer ≡ fits r → r ≡ reply t run e → MatchBool answer (NoOverrun t run e) (NoOverrun t run e → ⊥)
-no_overrun-told t run e r answer is told =
+pub no_overrun-reported : (t : TableRows) (run : List Event) (e : Event) (r : Reply) (answer : Bool) → answer ≡ fits r → r ≡ reply t run e → MatchBool answer (NoOverrun t run e) (NoOverrun t run e → ⊥)
+no_overrun-reported t run e r answer is reported =
     let P : Reply → Type 0 = λ r. MatchBool (fits r) (r ≢ Overrun) (r ≢ Overrun → ⊥) in
     let Q : Bool → Type 0 = λ b. MatchBool b (NoOverrun t run e) (NoOverrun t run e → ⊥) in
-    subst Q (sym (is ∙ ap fits told)) (fits-told (reply t run e))
+    subst Q (sym (is ∙ ap fits reported)) (fits-reported (reply t run e))
 
 -- ---- the least claim
 

@@ -107,7 +107,7 @@ emits-one t old new run e y one there lasts limit own h = record {
 
 -- ---- overdue, and spaced
 
-pub in_time-yes : (t : TableRows) (w : EmissionWatch) (run : List Event) (e : Event) (limit : ℕ) → ((x : ℕ) → x < length t.labels → limit ≤ tick_of (get_or w.last.items x None) + (label_row t x).greatest) → tick_after run ≤ limit → Emits t w run → IsInTime t run e
+pub in_time-yes : (t : TableRows) (w : EmissionWatch) (run : List Event) (e : Event) (limit : ℕ) → ((x : ℕ) → x < length t.labels → limit ≤ tick_of (get_or w.last.items x None) + (label_row t x).maximum) → tick_after run ≤ limit → Emits t w run → IsInTime t run e
 in_time-yes t w run e limit lower soon h = λ x l. omega (arith, lower x l, soon, last-tick _ _ (h.last x l))
 
 pub in_time-no : (t : TableRows) (w : EmissionWatch) (run : List Event) (e : Event) (limit : ℕ) → IsLimit t w.last.items (length t.labels) limit → tick_after run < 2 ^ 64 → limit < tick_after run → Emits t w run → IsInTime t run e → ⊥
@@ -115,9 +115,9 @@ in_time-no t w run e limit is short late h all =
     let m = is.met (omega arith) in
     omega (arith, all m.0 m.1, m.2, late, last-tick _ _ (h.last m.0 m.1))
 
-pub in_time-told : (t : TableRows) (w : EmissionWatch) (run : List Event) (e : Event) (tick limit : ℕ) → IsLimit t w.last.items (length t.labels) limit → tick < 2 ^ 64 → Emits t w run → tick ≡ tick_after run
+pub in_time-reported : (t : TableRows) (w : EmissionWatch) (run : List Event) (e : Event) (tick limit : ℕ) → IsLimit t w.last.items (length t.labels) limit → tick < 2 ^ 64 → Emits t w run → tick ≡ tick_after run
     → MatchBool (leb tick limit) (IsInTime t run e) (IsInTime t run e → ⊥)
-in_time-told t w run e tick limit is short h clock =
+in_time-reported t w run e tick limit is short h clock =
     let P : Bool → Type 0 = λ b. MatchBool b (IsInTime t run e) (IsInTime t run e → ⊥) in
     elim (cases_lt limit tick) [
       | inl late ↦ subst P (sym (lt-leb tick limit late)) (in_time-no t w run e limit is (omega (arith, clock, short)) (omega (arith, clock, late)) h)
@@ -129,7 +129,7 @@ pub limit-more : (t : TableRows) (last : List (Option ℕ)) (n first own least :
 limit-more t last n first own least h own_is least_is = record {
   lower = λ x l. elim (cases_eq n x) [
     | inl same ↦
-        let P : ℕ → Type 0 = λ x. least ≤ tick_of (get_or last x None) + (label_row t x).greatest in
+        let P : ℕ → Type 0 = λ x. least ≤ tick_of (get_or last x None) + (label_row t x).maximum in
         let here : least ≤ tick_of (get_or last n None) + (label_row t n).greatest = omega (arith, own_is, least_is) in
         subst P same here
     | inr other ↦ omega (arith, h.lower x (omega (arith, l, other)), least_is)
@@ -152,7 +152,7 @@ emits-limit t old new run same is h = record {
 
 -- the spacing of an emission, by the last tick of its label
 abbrev SpacedAt : TableRows → List Event → ℕ → Type 0
-SpacedAt t run x = 1 ≤ length (emission_ticks t x run) → last_or_zero (emission_ticks t x run) + (label_row t x).least ≤ tick_after run
+SpacedAt t run x = 1 ≤ length (emission_ticks t x run) → last_or_zero (emission_ticks t x run) + (label_row t x).minimum ≤ tick_after run
 
 pub spaced-none : (t : TableRows) (run : List Event) (e : Event) → None ≡ emission t run e → IsSpaced t run e
 spaced-none t run e is = let P : Option ℕ → Type 0 = λ o. IfSome o (SpacedAt t run) in subst P is tt
@@ -169,13 +169,13 @@ module _ (t : TableRows) (w : EmissionWatch) (run : List Event) (e : Event) (x k
   one : (1 ≤ length (emission_ticks t x run)) × (last_or_zero (emission_ticks t x run) ≡ k)
   one = let Q : Option ℕ → Type 0 = λ o. IsLast (emission_ticks t x run) o in subst Q some (h.last x l)
 
-  pub spaced-yes : k + (label_row t x).least ≤ tick_after run → IsSpaced t run e
+  pub spaced-yes : k + (label_row t x).minimum ≤ tick_after run → IsSpaced t run e
   spaced-yes long =
       let P : Option ℕ → Type 0 = λ o. IfSome o (SpacedAt t run) in
       let spaced : SpacedAt t run x = λ had. omega (arith, one.1, long) in
       subst P is spaced
 
-  pub spaced-no : tick_after run < k + (label_row t x).least → IsSpaced t run e → ⊥
+  pub spaced-no : tick_after run < k + (label_row t x).minimum → IsSpaced t run e → ⊥
   spaced-no short all =
       let P : Option ℕ → Type 0 = λ o. IfSome o (SpacedAt t run) in
       let spaced : SpacedAt t run x = subst P (sym is) all in

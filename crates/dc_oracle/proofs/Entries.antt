@@ -26,9 +26,9 @@ map_ok (Err e) P Q f h = h
 
 -- ---- one more place
 
-pub none-told : (t : TableRows) → [] ≡ outputs_of t []
+pub none-reported : (t : TableRows) → [] ≡ outputs_of t []
 unfolding outputs_of each_place
-none-told t = refl
+none-reported t = refl
 
 up_to : (run : List Event) (i : ℕ) (e : Event) → i < length run → e ≡ get_or run i e → take (i + 1) run ≡ take i run ++ e ∷ []
 up_to run i e l is = take_more run i e l ∙ ap (λ x. take i run ++ x ∷ []) (sym is)
@@ -36,6 +36,6 @@ up_to run i e l is = take_more run i e l ∙ ap (λ x. take i run ++ x ∷ []) (
 pub holds-more : (P : List Event → Type 0) (run : List Event) (i : ℕ) (e : Event) → i < length run → e ≡ get_or run i e → P (take i run ++ e ∷ []) → P (take (i + 1) run)
 holds-more P run i e l is h = subst P (sym (up_to run i e l is)) h
 
-pub told-more : (t : TableRows) (run : List Event) (i : ℕ) (e : Event) (told : List Reply) (r : Reply) → i < length run → e ≡ get_or run i e → told ≡ outputs_of t (take i run) → r ≡ reply t (take i run) e → told ++ r ∷ [] ≡ outputs_of t (take (i + 1) run)
-told-more t run i e told r l is so_far next =
+pub reported-more : (t : TableRows) (run : List Event) (i : ℕ) (e : Event) (reported : List Reply) (r : Reply) → i < length run → e ≡ get_or run i e → reported ≡ outputs_of t (take i run) → r ≡ reply t (take i run) e → reported ++ r ∷ [] ≡ outputs_of t (take (i + 1) run)
+reported-more t run i e reported r l is so_far next =
     ap (λ xs. xs ++ r ∷ []) so_far ∙ ap (λ x. outputs_of t (take i run) ++ x ∷ []) next ∙ sym (outputs_of-push t (take i run) e) ∙ ap (outputs_of t) (sym (up_to run i e l is))

@@ -100,9 +100,9 @@ module _ (t : TableRows) (v : AreValid t) (w : ArrivalWatch) (x age : ℕ) (now 
       let at : latest_arrived t a.0 now ≡ Some k = subst P (sym same) c.arrived in
       omega (arith, c.aged, old k (sym some ∙ came-of ∙ at))
 
-  pub young-told : (k tick limit : ℕ) → get_or w.latest.items a.0 None ≡ Some k → limit ≡ min (k + age) (2 ^ 64 - 1) → tick < 2 ^ 64 → tick ≡ tick_after now → (word_for t x (Some a) ≡ word_for t x None → ⊥)
+  pub young-reported : (k tick limit : ℕ) → get_or w.latest.items a.0 None ≡ Some k → limit ≡ min (k + age) (2 ^ 64 - 1) → tick < 2 ^ 64 → tick ≡ tick_after now → (word_for t x (Some a) ≡ word_for t x None → ⊥)
       → MatchBool (leb tick limit) (IsYoung t x age now) (IsYoung t x age now → ⊥)
-  young-told k tick limit some is_limit short clock other =
+  young-reported k tick limit some is_limit short clock other =
       let P : Bool → Type 0 = λ b. MatchBool b (IsYoung t x age now) (IsYoung t x age now → ⊥) in
       elim (cases_lt limit tick) [
         | inl late ↦ subst P (sym (lt-leb tick limit late)) (young-no (Some k) some (λ j e. (let same : k ≡ j = cc in omega (arith, same, late, is_limit, short, clock))) other)
@@ -163,13 +163,13 @@ any-left t x now o is useless good uses =
     cc
 
 -- the word is not usable: what is said of the sources turns round
-pub any-told : (t : TableRows) (x : ℕ) (now : List Event) (o : Option (ℕ × ℕ)) (good : Bool) → o ≡ chosen_source t x now → is_usable (label_row t x).format (word_for t x o) ≡ false → IsAnyGood t x now good → MatchBool (not good) (UsesAny t x now) (UsesAny t x now → ⊥)
-any-told t x now o true is useless h = any-left t x now o is useless h
-any-told t x now o false is useless h = any-idle t x now h
+pub any-reported : (t : TableRows) (x : ℕ) (now : List Event) (o : Option (ℕ × ℕ)) (good : Bool) → o ≡ chosen_source t x now → is_usable (label_row t x).format (word_for t x o) ≡ false → IsAnyGood t x now good → MatchBool (not good) (UsesAny t x now) (UsesAny t x now → ⊥)
+any-reported t x now o true is useless h = any-left t x now o is useless h
+any-reported t x now o false is useless h = any-idle t x now h
 
 -- by the number of the stream that is copied
-pub first-told : (t : TableRows) (x s : ℕ) (now : List Event) (a : ℕ × ℕ) → s ≡ slice_index (label_row t x).sources 0 → Some a ≡ chosen_source t x now → IsAlive t x s now × AreUsable t x s now → MatchBool (a.0 == s) (UsesFirst t x now) (UsesFirst t x now → ⊥)
-first-told t x s now a is copied good =
+pub first-reported : (t : TableRows) (x s : ℕ) (now : List Event) (a : ℕ × ℕ) → s ≡ slice_index (label_row t x).sources 0 → Some a ≡ chosen_source t x now → IsAlive t x s now × AreUsable t x s now → MatchBool (a.0 == s) (UsesFirst t x now) (UsesFirst t x now → ⊥)
+first-reported t x s now a is copied good =
     let P : Bool → Type 0 = λ b. MatchBool b (UsesFirst t x now) (UsesFirst t x now → ⊥) in
     elim (cases_eq a.0 s) [
       | inl same ↦ subst P (sym (eq-eqb a.0 s same)) (first-copied t x s now a is copied same)
@@ -178,6 +178,6 @@ first-told t x s now a is copied good =
 
 -- ---- two answers are one
 
-pub second-told : (b : Bool) (P Q : Type 0) → P → MatchBool b Q (Q → ⊥) → MatchBool b (P × Q) (P × Q → ⊥)
-second-told true P Q h k = (h, k)
-second-told false P Q h k = λ z. k z.1
+pub second-reported : (b : Bool) (P Q : Type 0) → P → MatchBool b Q (Q → ⊥) → MatchBool b (P × Q) (P × Q → ⊥)
+second-reported true P Q h k = (h, k)
+second-reported false P Q h k = λ z. k z.1

@@ -34,7 +34,7 @@ use Rattle.dc_oracle.proofs.Wires.{load-same, load-tick, load-push, free-start, 
 pub pace-same : (m k n : ℕ) (ts us : List ℕ) (p : Pace) → k ≤ n → us ≡ ts → IsPaceOf m k ts p → IsPaceOf m n us p
 pace-same m k n ts us p le same h = record { past = omega (arith, h.past); number = ap (pace_of m) same ∙ h.number }
 
--- by it, a word is early just where it is by the pace's number
+-- by it, a word is early exactly where it is by the pace's number
 pub pace-test : (m j k : ℕ) (ts : List ℕ) (p : Pace) → IsPaceOf m k ts p → is_early_at j k p ≡ ltb (k + j) (pace_of m ts)
 pace-test m j k ts p h =
     elim (cases_lt (k + j) (pace_of m ts)) [

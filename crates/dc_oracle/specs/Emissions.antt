@@ -22,11 +22,11 @@ IsSized t w = length w.last.items ≡ length t.labels
 
 -- the tick is the least up to which some of the first n labels is not overdue, or none ends before 2^64 - 1
 pub record IsLimit (t : TableRows) (last : List (Option ℕ)) (n limit : ℕ) : Type 0 where
-  pub lower : (x : ℕ) → x < n → limit ≤ tick_of (slice_index_or last x None) + (label_row t x).greatest
-  pub met : limit < 2 ^ 64 - 1 → (x : ℕ) × (x < n) × (tick_of (slice_index_or last x None) + (label_row t x).greatest ≤ limit)
+  pub lower : (x : ℕ) → x < n → limit ≤ tick_of (slice_index_or last x None) + (label_row t x).maximum
+  pub met : limit < 2 ^ 64 - 1 → (x : ℕ) × (x < n) × (tick_of (slice_index_or last x None) + (label_row t x).maximum ≤ limit)
 
 -- the last ticks are those of the run, and the limit is not after that of any label
 pub record Emits (t : TableRows) (w : EmissionWatch) (run : List Event) : Type 0 where
   pub last : (x : ℕ) → x < length t.labels → IsLast (emission_ticks t x run) (slice_index_or w.last.items x None)
   pub by_now : (x : ℕ) → x < length t.labels → tick_of (slice_index_or w.last.items x None) ≤ tick_after run
-  pub limit : (x : ℕ) → x < length t.labels → w.limit ≤ tick_of (slice_index_or w.last.items x None) + (label_row t x).greatest
+  pub limit : (x : ℕ) → x < length t.labels → w.limit ≤ tick_of (slice_index_or w.last.items x None) + (label_row t x).maximum

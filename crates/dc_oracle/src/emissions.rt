@@ -35,7 +35,7 @@ impl EmissionWatch {
     fn label_limit(&self, tables: &Tables, label: usize) -> u64
         requires sized { IsSized tables.now self.now }
         requires label { label < length tables.now.labels }
-        ensures { result ≡ min (tick_of (slice_index_or self.now.last.items label None) + (label_row tables.now label).greatest) (2 ^ 64 - 1) }
+        ensures { result ≡ min (tick_of (slice_index_or self.now.last.items label None) + (label_row tables.now label).maximum) (2 ^ 64 - 1) }
     {
         let last = self.last[label].unwrap_or(0);
         last.saturating_add(tables.label(label).greatest as u64)

@@ -118,7 +118,7 @@ impl ReplyWatch {
         self.buses[bus].receive(room, stream, word)
     }
 
-    /// A router makes a step. A step of a router that is not there is told as idle.
+    /// A router makes a step. A step of a router that is not there is reported as idle.
     fn route(&mut self, tables: &Tables, router: usize) -> Reply
         requires sized { IsSized tables.now self.old }
         ensures sized { IsSized tables.now self.new }
@@ -244,7 +244,7 @@ impl ReplyWatch {
         Some(label)
     }
 
-    /// An output makes a send step. A step of an output that is not there is told as idle.
+    /// An output makes a send step. A step of an output that is not there is reported as idle.
     fn send(&mut self, tables: &Tables, output: usize) -> Reply
         requires sized { IsSized tables.now self.old }
         requires early { self.old.tick < 2 ^ 64 - 1 }

@@ -106,7 +106,7 @@ fn a_label_is_sent_too_late(rt: HostRuntime) -> Result<(), Fail> {
 }
 
 #[test]
-fn the_lesser_of_two_claims_is_told(rt: HostRuntime) -> Result<(), Fail> {
+fn the_lesser_of_two_claims_is_reported(rt: HostRuntime) -> Result<(), Fail> {
     let run = run_of(rt.alloc(), &[(0, ARRIVE), (0, OTHER), (20, ARRIVE)])?;
     let wanted = Some((Claim::NoOverrun, 23));
     assert_eq!(rt; failure(rt.alloc(), 24, run.as_slice())?, wanted);

@@ -174,14 +174,14 @@ const FALLBACK: Word = Word(0xA000_00C1);
 #[test]
 fn steady_tick_sends_the_fallback(rt: HostRuntime) -> Result<(), Fail> {
     let run = steady_run(rt.alloc(), SMALL, 1)?;
-    let told = outputs_of(rt.alloc(), SMALL, run.as_slice())?;
+    let reported = outputs_of(rt.alloc(), SMALL, run.as_slice())?;
     let wanted = [
         Reply::Empty(0),
         Reply::Empty(0),
         Reply::Sent(label(0o203)?, FALLBACK),
         Reply::Now(1),
     ];
-    assert_eq!(rt; told.as_slice(), wanted.as_slice());
+    assert_eq!(rt; reported.as_slice(), wanted.as_slice());
     Ok(())
 }
 
@@ -193,14 +193,14 @@ fn fresh_word_is_copied(rt: HostRuntime) -> Result<(), Fail> {
         Event::Send(0),
         Event::Send(0),
     ];
-    let told = outputs_of(rt.alloc(), SMALL, &run)?;
+    let reported = outputs_of(rt.alloc(), SMALL, &run)?;
     let wanted = [
         Reply::Queued(1),
         Reply::Took(0, NORMAL),
         Reply::Sent(label(0o203)?, NORMAL),
         Reply::Idle,
     ];
-    assert_eq!(rt; told.as_slice(), wanted.as_slice());
+    assert_eq!(rt; reported.as_slice(), wanted.as_slice());
     Ok(())
 }
 
@@ -216,14 +216,14 @@ fn early_words_are_refused_before_the_latch(rt: HostRuntime) -> Result<(), Fail>
         queue: 1,
         ..POLICED
     };
-    let told = outputs_of(rt.alloc(), one, &run)?;
+    let reported = outputs_of(rt.alloc(), one, &run)?;
     let wanted = [
         Reply::Queued(1),
         Reply::TooEarly,
         Reply::Overrun,
         Reply::TooEarly,
     ];
-    assert_eq!(rt; told.as_slice(), wanted.as_slice());
+    assert_eq!(rt; reported.as_slice(), wanted.as_slice());
     Ok(())
 }
 
@@ -239,7 +239,7 @@ fn overrun_latches_the_bus(rt: HostRuntime) -> Result<(), Fail> {
         Event::Arrive(0, NORMAL),
         Event::Send(0),
     ];
-    let told = outputs_of(rt.alloc(), SMALL, &run)?;
+    let reported = outputs_of(rt.alloc(), SMALL, &run)?;
     let wanted = [
         Reply::BadParity,
         Reply::Undeclared,
@@ -250,6 +250,6 @@ fn overrun_latches_the_bus(rt: HostRuntime) -> Result<(), Fail> {
         Reply::Latched,
         Reply::Sent(label(0o203)?, FALLBACK),
     ];
-    assert_eq!(rt; told.as_slice(), wanted.as_slice());
+    assert_eq!(rt; reported.as_slice(), wanted.as_slice());
     Ok(())
 }

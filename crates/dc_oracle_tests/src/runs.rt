@@ -121,8 +121,8 @@ pub fn agrees(
 ) -> Result<(), AllocError> {
     let run = recording.run.as_slice();
     assert_eq!(rt; keeps_budgets(alloc, tables, run)?, None);
-    let told = outputs(alloc, tables, run)?;
-    assert_eq!(rt; told.as_slice(), recording.replies.as_slice());
+    let reported = outputs(alloc, tables, run)?;
+    assert_eq!(rt; reported.as_slice(), recording.replies.as_slice());
     Ok(())
 }
 

@@ -92,7 +92,7 @@ fn push_tables(text: &mut String, queue: &str, offsets: &str) -> Result<(), Allo
 const RUNS: &str =
     "R R1\nR R1\nR R1\nT\nR R1\n|S O\nS O\nR R1\nT\nS O\n|T\nR R1\nT\nT\nR R1\nT\nS O\nT\n|A A 200000C1\nA A 60000081\nA A E0000081\nR R1\n|R R1\nA A 600000C1\nA A E0000021\nS O\nT\nR R1\nT\nR R1\n|A A 600000C1\nR R1\nS O\n|A A E00001C1\nR R1\nS O\n|A A C00000C1\nR R1\nS O\n|A A 600000C1\nS O\nR R1\n|A A 600000C1\nA A E0000021\nA A 600000C1\nR R1\nA A 600000C1\nR R1\nS O\n|R R1\nT\nR R1\nS O\nT\nA A 600000C1\nR R1\nS O\n|A A A00000C1\nA B FFFFFCC1\nR R1\nR R1\nS O\n|";
 
-/// What is told next of the lines.
+/// What is reported next of the lines.
 fn next_of(rt: &impl Abort, reader: &mut TraceReader<MemSource>) -> Result<Event, TraceStop> {
     assert!(rt; reader.failures() < 1000);
     reader.next()
@@ -109,8 +109,8 @@ fn run_trace(
     let mut recording = Recording::new(alloc);
     let mut reader = TraceReader::new(tables, MemSource::new(trace.as_bytes(), 4096, 0));
     for tried in 0..1000 {
-        let told = next_of(rt, &mut reader);
-        let Ok(event) = &told else {
+        let reported = next_of(rt, &mut reader);
+        let Ok(event) = &reported else {
             agrees(rt, alloc, tables, &recording)?;
             return Ok(tried);
         };

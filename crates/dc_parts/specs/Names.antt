@@ -1,4 +1,4 @@
--- Names. A name is kept as 16 bytes: its characters, and zeros behind them.
+-- Names. A name is kept as 16 bytes: its characters, and zeros after them.
 use Rattle.std.specs.Prelude.{◌≡◌, ℕ, ◌-◌, ◌≤◌, Bool, ◌||◌, ◌&&◌, ◌==◌, nat_le, List, ◌++◌, length, take_while, replicate, IsTrue, if◌then◌else◌, Option, Some, None, position}
 use Rattle.std.specs.List.{list_all}
 use Rattle.std.specs.Str.{bytes_eq}

@@ -225,7 +225,7 @@ impl Parts {
         &self.labels
     }
 
-    /// Adds a parameter behind the others. Where memory is out, nothing changes.
+    /// Adds a parameter after the others. Where memory is out, nothing changes.
     pub fn push_parameter(&mut self, parameter: Parameter) -> Result<(), AllocError>
         ensures ok { OnOk result (self.new ≡ with_parameter self.old parameter) }
         ensures err { OnErr result (self.new ≡ self.old) }
@@ -234,7 +234,7 @@ impl Parts {
         Ok(())
     }
 
-    /// Adds a bus behind the others. Where memory is out, nothing changes.
+    /// Adds a bus after the others. Where memory is out, nothing changes.
     pub fn push_bus(&mut self, bus: BusPart) -> Result<(), AllocError>
         ensures ok { OnOk result (self.new ≡ with_bus self.old bus) }
         ensures err { OnErr result (self.new ≡ self.old) }
@@ -243,7 +243,7 @@ impl Parts {
         Ok(())
     }
 
-    /// Adds a stream of the last bus behind the others. Where memory is out, nothing changes.
+    /// Adds a stream of the last bus after the others. Where memory is out, nothing changes.
     pub fn push_stream(&mut self, stream: StreamPart) -> Result<(), AllocError>
         requires { stream.bus + 1 ≡ length self.old.buses }
         ensures ok { OnOk result (self.new ≡ with_stream self.old stream) }
@@ -254,7 +254,7 @@ impl Parts {
         Ok(())
     }
 
-    /// Adds a router behind the others. Where memory is out, nothing changes.
+    /// Adds a router after the others. Where memory is out, nothing changes.
     pub fn push_router(&mut self, router: RouterPart) -> Result<(), AllocError>
         ensures ok { OnOk result (self.new ≡ with_router self.old router) }
         ensures err { OnErr result (self.new ≡ self.old) }
@@ -265,7 +265,7 @@ impl Parts {
         }
     }
 
-    /// Adds an output behind the others. Where memory is out, nothing changes.
+    /// Adds an output after the others. Where memory is out, nothing changes.
     pub fn push_output(&mut self, output: OutputPart) -> Result<(), AllocError>
         ensures ok { OnOk result (self.new ≡ with_output self.old output) }
         ensures err { OnErr result (self.new ≡ self.old) }
@@ -274,7 +274,7 @@ impl Parts {
         Ok(())
     }
 
-    /// Adds a label of the last output behind the others. Where memory is out, nothing changes.
+    /// Adds a label of the last output after the others. Where memory is out, nothing changes.
     pub fn push_label(&mut self, label: LabelPart) -> Result<(), AllocError>
         requires { label.output + 1 ≡ length self.old.outputs }
         ensures ok { OnOk result (self.new ≡ with_label self.old label) }

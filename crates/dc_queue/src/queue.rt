@@ -59,7 +59,7 @@ impl WordQueue {
     /// Appends a word, and answers how many there are then.
     ///
     /// # Errors
-    /// `Full` just where there are `limit` words already; the queue is unchanged then.
+    /// `Full` exactly where there are `limit` words already; the queue is unchanged then.
     pub fn put(&mut self, word: Word) -> Result<u32, Full>
         ensures variant { IsOk result ↔ (length self.old.words < self.old.limit) }
         ensures ok { OnOk result (self.new ≡ record { words = self.old.words ++ word ∷ []; limit = self.old.limit }) }

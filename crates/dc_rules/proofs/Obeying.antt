@@ -4,7 +4,7 @@ use Rattle.std.specs.Prelude.{option_map}
 use Rattle.std.specs.List.{slice_get, position}
 use Rattle.dc_parts.specs.Document.{Document, stream_owners, label_owners}
 use Rattle.dc_rules.specs.Obeys.{TopObeys, ShapeObeys, TotalsObey, QuantitiesObey, NamesObey, ReferencesObey, SchedulesObey, Obeys}
-use Rattle.dc_rules.specs.Rules.{Verdict, told, then_told, breach, earlier, at_owner, breach_told, outside, at_top, counts, doubled, parameter_out, first_bus_out, first_count_out, first_stream_out, first_router_out, first_visits_out, first_output_out, first_label_out, first_sources_out, first_offsets_out, bus_shapes, stream_shapes, router_shapes, output_shapes, label_shapes, top_shape, shape, entries_from, entry_owners, first_overfull, totals, first_inverted, first_quick, first_narrow, later_quantities, quantities, doubled_name, router_names, output_names, label_names, names, first_unknown_stream, first_unknown_label, overlap, bus_names, stream_names, first_lost_router, first_lost_label, first_unserved, first_doubled_source, references, first_different, first_late, first_doubled_offset, first_doubled_label, first_unable_router, first_unable_output, schedules, first_rules, later_rules, verdict_of}
+use Rattle.dc_rules.specs.Rules.{Verdict, reported, then_reported, breach, earlier, at_owner, breach_reported, outside, at_top, counts, doubled, parameter_out, first_bus_out, first_count_out, first_stream_out, first_router_out, first_visits_out, first_output_out, first_label_out, first_sources_out, first_offsets_out, bus_shapes, stream_shapes, router_shapes, output_shapes, label_shapes, top_shape, shape, entries_from, entry_owners, first_overfull, totals, first_inverted, first_quick, first_narrow, later_quantities, quantities, doubled_name, router_names, output_names, label_names, names, first_unknown_stream, first_unknown_label, overlap, bus_names, stream_names, first_lost_router, first_lost_label, first_unserved, first_doubled_source, references, first_different, first_late, first_doubled_offset, first_doubled_label, first_unable_router, first_unable_output, schedules, first_rules, later_rules, verdict_of}
 use Rattle.dc_parts.specs.Keys.{same_parameter, parameter_key}
 use Rattle.dc_parts.specs.declared.fault.TableRule.{TableRule}
 use Rattle.dc_parts.specs.declared.fault.TableRule.TheVariants.{NumberOutOfRange, CountOutOfRange, ParameterDoubled, IntervalReversed, MinimumBelowOneTick, NoOutputInterval, NameDoubled, ParameterAbsent, StreamsOverlap, NameAbsent, BusNotVisitedByOne, SourceDoubled, FormatsDiffer, OffsetPastFrame, OffsetDoubled, LabelDoubled, RouterCannotKeepPace, OutputCannotKeepPace}
@@ -12,11 +12,11 @@ use Rattle.dc_parts.specs.declared.fault.Section.{Section}
 use Rattle.dc_parts.specs.declared.fault.Section.TheVariants.{Top, Parameter, Bus, Stream, Router, Output, Label}
 use Rattle.dc_rules.specs.declared.breach.Breach.{Breach}
 
-pub both : (a b : Verdict) → then_told a b ≡ Ok tt → (a ≡ Ok tt) × (b ≡ Ok tt)
+pub both : (a b : Verdict) → then_reported a b ≡ Ok tt → (a ≡ Ok tt) × (b ≡ Ok tt)
 both (Ok x) b h = (refl, h)
 both (Err e) b h = absurd (cc h)
 
-none : (rule : TableRule) (section : Section) (r : Option ℕ) → told rule section r ≡ Ok tt → r ≡ None
+none : (rule : TableRule) (section : Section) (r : Option ℕ) → reported rule section r ≡ Ok tt → r ≡ None
 none rule section None h = refl
 none rule section (Some i) h = absurd (cc h)
 
@@ -33,9 +33,9 @@ neither None b h = (refl, h)
 neither (Some a) None h = absurd (cc h)
 neither (Some a) (Some b) h = absurd (neither_cond (nat_lt b.place a.place) a b h)
 
-untold : (r : Option Breach) → breach_told r ≡ Ok tt → r ≡ None
-untold None h = refl
-untold (Some b) h = absurd (cc h)
+unreported : (r : Option Breach) → breach_reported r ≡ Ok tt → r ≡ None
+unreported None h = refl
+unreported (Some b) h = absurd (cc h)
 
 unplaced : (owners : List ℕ) (r : Option Breach) → at_owner owners r ≡ None → r ≡ None
 unplaced owners None h = refl
@@ -48,23 +48,23 @@ not_top false h = refl
 -- ---- shapes
 
 abbrev top_4 : Document → Verdict
-top_4 d = told CountOutOfRange Top (at_top (nat_lt 32 (length d.outputs)))
+top_4 d = reported CountOutOfRange Top (at_top (nat_lt 32 (length d.outputs)))
 
 abbrev top_3 : Document → Verdict
-top_3 d = then_told (told CountOutOfRange Top (at_top (nat_lt 64 (length d.routers)))) (top_4 d)
+top_3 d = then_reported (reported CountOutOfRange Top (at_top (nat_lt 64 (length d.routers)))) (top_4 d)
 
 abbrev top_2 : Document → Verdict
-top_2 d = then_told (told CountOutOfRange Top (at_top (nat_lt 64 (length d.buses)))) (top_3 d)
+top_2 d = then_reported (reported CountOutOfRange Top (at_top (nat_lt 64 (length d.buses)))) (top_3 d)
 
 abbrev top_1 : Document → Verdict
-top_1 d = then_told (told CountOutOfRange Top (at_top (nat_lt 2048 (length d.parameters)))) (top_2 d)
+top_1 d = then_reported (reported CountOutOfRange Top (at_top (nat_lt 2048 (length d.parameters)))) (top_2 d)
 
 pub top_obeys : (d : Document) → top_shape d ≡ Ok tt → TopObeys d
 top_obeys d h =
-    let a = both (told NumberOutOfRange Top (at_top (outside 100 10000 d.tick_us))) (top_1 d) h in
-    let b = both (told CountOutOfRange Top (at_top (nat_lt 2048 (length d.parameters)))) (top_2 d) a.1 in
-    let e = both (told CountOutOfRange Top (at_top (nat_lt 64 (length d.buses)))) (top_3 d) b.1 in
-    let f = both (told CountOutOfRange Top (at_top (nat_lt 64 (length d.routers)))) (top_4 d) e.1 in
+    let a = both (reported NumberOutOfRange Top (at_top (outside 100 10000 d.tick_us))) (top_1 d) h in
+    let b = both (reported CountOutOfRange Top (at_top (nat_lt 2048 (length d.parameters)))) (top_2 d) a.1 in
+    let e = both (reported CountOutOfRange Top (at_top (nat_lt 64 (length d.buses)))) (top_3 d) b.1 in
+    let f = both (reported CountOutOfRange Top (at_top (nat_lt 64 (length d.routers)))) (top_4 d) e.1 in
     record {
       tick = not_top (outside 100 10000 d.tick_us) (none NumberOutOfRange Top (at_top (outside 100 10000 d.tick_us)) a.0);
       buses = not_top (nat_lt 64 (length d.buses)) (none CountOutOfRange Top (at_top (nat_lt 64 (length d.buses))) e.0);
@@ -79,24 +79,24 @@ abbrev shape_last : Document → Option Breach
 shape_last d = earlier (output_shapes d.outputs (counts (label_owners d) (length d.outputs))) (at_owner (label_owners d) (label_shapes d.labels))
 
 abbrev shape_3 : Document → Verdict
-shape_3 d = then_told (breach_told (router_shapes d.routers)) (breach_told (shape_last d))
+shape_3 d = then_reported (breach_reported (router_shapes d.routers)) (breach_reported (shape_last d))
 
 abbrev shape_2 : Document → Verdict
-shape_2 d = then_told (breach_told (shape_buses d)) (shape_3 d)
+shape_2 d = then_reported (breach_reported (shape_buses d)) (shape_3 d)
 
 abbrev shape_1 : Document → Verdict
-shape_1 d = then_told (told NumberOutOfRange Parameter (position parameter_out d.parameters)) (shape_2 d)
+shape_1 d = then_reported (reported NumberOutOfRange Parameter (position parameter_out d.parameters)) (shape_2 d)
 
 pub shape_obeys : (d : Document) → shape d ≡ Ok tt → ShapeObeys d
 shape_obeys d h =
     let a = both (top_shape d) (shape_1 d) h in
-    let b = both (told NumberOutOfRange Parameter (position parameter_out d.parameters)) (shape_2 d) a.1 in
-    let e = both (breach_told (shape_buses d)) (shape_3 d) b.1 in
-    let first = neither (bus_shapes d.buses (counts (stream_owners d) (length d.buses))) (at_owner (stream_owners d) (stream_shapes d.streams)) (untold (shape_buses d) e.0) in
-    let f = both (breach_told (router_shapes d.routers)) (breach_told (shape_last d)) e.1 in
+    let b = both (reported NumberOutOfRange Parameter (position parameter_out d.parameters)) (shape_2 d) a.1 in
+    let e = both (breach_reported (shape_buses d)) (shape_3 d) b.1 in
+    let first = neither (bus_shapes d.buses (counts (stream_owners d) (length d.buses))) (at_owner (stream_owners d) (stream_shapes d.streams)) (unreported (shape_buses d) e.0) in
+    let f = both (breach_reported (router_shapes d.routers)) (breach_reported (shape_last d)) e.1 in
     let bus = neither (breach NumberOutOfRange Bus (first_bus_out d.buses)) (breach CountOutOfRange Bus (first_count_out (counts (stream_owners d) (length d.buses)))) first.0 in
-    let router = neither (breach NumberOutOfRange Router (first_router_out d.routers)) (breach CountOutOfRange Router (first_visits_out d.routers)) (untold (router_shapes d.routers) f.0) in
-    let last = neither (output_shapes d.outputs (counts (label_owners d) (length d.outputs))) (at_owner (label_owners d) (label_shapes d.labels)) (untold (shape_last d) f.1) in
+    let router = neither (breach NumberOutOfRange Router (first_router_out d.routers)) (breach CountOutOfRange Router (first_visits_out d.routers)) (unreported (router_shapes d.routers) f.0) in
+    let last = neither (output_shapes d.outputs (counts (label_owners d) (length d.outputs))) (at_owner (label_owners d) (label_shapes d.labels)) (unreported (shape_last d) f.1) in
     let output = neither (breach NumberOutOfRange Output (first_output_out d.outputs)) (breach CountOutOfRange Output (first_count_out (counts (label_owners d) (length d.outputs)))) last.0 in
     let label = neither (earlier (breach CountOutOfRange Label (first_sources_out d.labels)) (breach NumberOutOfRange Label (first_label_out d.labels))) (breach CountOutOfRange Label (first_offsets_out d.labels)) (unplaced (label_owners d) (label_shapes d.labels) last.1) in
     let numbers = neither (breach CountOutOfRange Label (first_sources_out d.labels)) (breach NumberOutOfRange Label (first_label_out d.labels)) label.0 in
@@ -118,8 +118,8 @@ shape_obeys d h =
 
 pub totals_obey : (d : Document) → totals d ≡ Ok tt → TotalsObey d
 totals_obey d h =
-    let a = both (told CountOutOfRange Bus (option_map (λ s. s.bus) (slice_get d.streams 1024))) (then_told (told CountOutOfRange Output (option_map (λ x. x.output) (slice_get d.labels 1024))) (told CountOutOfRange Output (first_overfull (counts (entry_owners d.labels) (length d.outputs))))) h in
-    let b = both (told CountOutOfRange Output (option_map (λ x. x.output) (slice_get d.labels 1024))) (told CountOutOfRange Output (first_overfull (counts (entry_owners d.labels) (length d.outputs)))) a.1 in
+    let a = both (reported CountOutOfRange Bus (option_map (λ s. s.bus) (slice_get d.streams 1024))) (then_reported (reported CountOutOfRange Output (option_map (λ x. x.output) (slice_get d.labels 1024))) (reported CountOutOfRange Output (first_overfull (counts (entry_owners d.labels) (length d.outputs))))) h in
+    let b = both (reported CountOutOfRange Output (option_map (λ x. x.output) (slice_get d.labels 1024))) (reported CountOutOfRange Output (first_overfull (counts (entry_owners d.labels) (length d.outputs)))) a.1 in
     record {
       streams = none CountOutOfRange Bus (option_map (λ s. s.bus) (slice_get d.streams 1024)) a.0;
       labels = none CountOutOfRange Output (option_map (λ x. x.output) (slice_get d.labels 1024)) b.0;
@@ -130,9 +130,9 @@ totals_obey d h =
 
 pub quantities_obey : (d : Document) → quantities d ≡ Ok tt → QuantitiesObey d
 quantities_obey d h =
-    let o = both (told ParameterDoubled Parameter (doubled same_parameter (map parameter_key d.parameters))) (later_quantities d) h in
-    let a = both (told IntervalReversed Parameter (first_inverted d.parameters)) (then_told (told MinimumBelowOneTick Stream (first_quick d.tick_us d.parameters d.streams)) (told NoOutputInterval Label (first_narrow d.tick_us d.parameters d.labels))) o.1 in
-    let b = both (told MinimumBelowOneTick Stream (first_quick d.tick_us d.parameters d.streams)) (told NoOutputInterval Label (first_narrow d.tick_us d.parameters d.labels)) a.1 in
+    let o = both (reported ParameterDoubled Parameter (doubled same_parameter (map parameter_key d.parameters))) (later_quantities d) h in
+    let a = both (reported IntervalReversed Parameter (first_inverted d.parameters)) (then_reported (reported MinimumBelowOneTick Stream (first_quick d.tick_us d.parameters d.streams)) (reported NoOutputInterval Label (first_narrow d.tick_us d.parameters d.labels))) o.1 in
+    let b = both (reported MinimumBelowOneTick Stream (first_quick d.tick_us d.parameters d.streams)) (reported NoOutputInterval Label (first_narrow d.tick_us d.parameters d.labels)) a.1 in
     record {
       once = none ParameterDoubled Parameter (doubled same_parameter (map parameter_key d.parameters)) o.0;
       parameters = none IntervalReversed Parameter (first_inverted d.parameters) a.0;
@@ -143,20 +143,20 @@ quantities_obey d h =
 -- ---- names
 
 abbrev name_4 : Document → Verdict
-name_4 d = then_told (told NameDoubled Output (doubled_name (output_names d))) (told NameDoubled Label (doubled_name (label_names d)))
+name_4 d = then_reported (reported NameDoubled Output (doubled_name (output_names d))) (reported NameDoubled Label (doubled_name (label_names d)))
 
 abbrev name_3 : Document → Verdict
-name_3 d = then_told (told NameDoubled Router (doubled_name (router_names d))) (name_4 d)
+name_3 d = then_reported (reported NameDoubled Router (doubled_name (router_names d))) (name_4 d)
 
 abbrev name_2 : Document → Verdict
-name_2 d = then_told (told NameDoubled Stream (doubled_name (stream_names d))) (name_3 d)
+name_2 d = then_reported (reported NameDoubled Stream (doubled_name (stream_names d))) (name_3 d)
 
 pub names_obey : (d : Document) → names d ≡ Ok tt → NamesObey d
 names_obey d h =
-    let a = both (told NameDoubled Bus (doubled_name (bus_names d))) (name_2 d) h in
-    let b = both (told NameDoubled Stream (doubled_name (stream_names d))) (name_3 d) a.1 in
-    let e = both (told NameDoubled Router (doubled_name (router_names d))) (name_4 d) b.1 in
-    let f = both (told NameDoubled Output (doubled_name (output_names d))) (told NameDoubled Label (doubled_name (label_names d))) e.1 in
+    let a = both (reported NameDoubled Bus (doubled_name (bus_names d))) (name_2 d) h in
+    let b = both (reported NameDoubled Stream (doubled_name (stream_names d))) (name_3 d) a.1 in
+    let e = both (reported NameDoubled Router (doubled_name (router_names d))) (name_4 d) b.1 in
+    let f = both (reported NameDoubled Output (doubled_name (output_names d))) (reported NameDoubled Label (doubled_name (label_names d))) e.1 in
     record {
       buses = none NameDoubled Bus (doubled_name (bus_names d)) a.0;
       streams = none NameDoubled Stream (doubled_name (stream_names d)) b.0;
@@ -168,28 +168,28 @@ names_obey d h =
 -- ---- references
 
 abbrev ref_6 : Document → Verdict
-ref_6 d = then_told (told BusNotVisitedByOne Bus (first_unserved d.routers d.buses)) (told SourceDoubled Label (first_doubled_source d.labels))
+ref_6 d = then_reported (reported BusNotVisitedByOne Bus (first_unserved d.routers d.buses)) (reported SourceDoubled Label (first_doubled_source d.labels))
 
 abbrev ref_5 : Document → Verdict
-ref_5 d = then_told (told NameAbsent Label (first_lost_label (stream_names d) d.labels)) (ref_6 d)
+ref_5 d = then_reported (reported NameAbsent Label (first_lost_label (stream_names d) d.labels)) (ref_6 d)
 
 abbrev ref_4 : Document → Verdict
-ref_4 d = then_told (told NameAbsent Router (first_lost_router (bus_names d) d.routers)) (ref_5 d)
+ref_4 d = then_reported (reported NameAbsent Router (first_lost_router (bus_names d) d.routers)) (ref_5 d)
 
 abbrev ref_3 : Document → Verdict
-ref_3 d = then_told (told StreamsOverlap Stream (doubled overlap d.streams)) (ref_4 d)
+ref_3 d = then_reported (reported StreamsOverlap Stream (doubled overlap d.streams)) (ref_4 d)
 
 abbrev ref_2 : Document → Verdict
-ref_2 d = then_told (told ParameterAbsent Label (first_unknown_label d.parameters d.labels)) (ref_3 d)
+ref_2 d = then_reported (reported ParameterAbsent Label (first_unknown_label d.parameters d.labels)) (ref_3 d)
 
 pub references_obey : (d : Document) → references d ≡ Ok tt → ReferencesObey d
 references_obey d h =
-    let a = both (told ParameterAbsent Stream (first_unknown_stream d.parameters d.streams)) (ref_2 d) h in
-    let b = both (told ParameterAbsent Label (first_unknown_label d.parameters d.labels)) (ref_3 d) a.1 in
-    let e = both (told StreamsOverlap Stream (doubled overlap d.streams)) (ref_4 d) b.1 in
-    let f = both (told NameAbsent Router (first_lost_router (bus_names d) d.routers)) (ref_5 d) e.1 in
-    let g = both (told NameAbsent Label (first_lost_label (stream_names d) d.labels)) (ref_6 d) f.1 in
-    let i = both (told BusNotVisitedByOne Bus (first_unserved d.routers d.buses)) (told SourceDoubled Label (first_doubled_source d.labels)) g.1 in
+    let a = both (reported ParameterAbsent Stream (first_unknown_stream d.parameters d.streams)) (ref_2 d) h in
+    let b = both (reported ParameterAbsent Label (first_unknown_label d.parameters d.labels)) (ref_3 d) a.1 in
+    let e = both (reported StreamsOverlap Stream (doubled overlap d.streams)) (ref_4 d) b.1 in
+    let f = both (reported NameAbsent Router (first_lost_router (bus_names d) d.routers)) (ref_5 d) e.1 in
+    let g = both (reported NameAbsent Label (first_lost_label (stream_names d) d.labels)) (ref_6 d) f.1 in
+    let i = both (reported BusNotVisitedByOne Bus (first_unserved d.routers d.buses)) (reported SourceDoubled Label (first_doubled_source d.labels)) g.1 in
     record {
       streams = none ParameterAbsent Stream (first_unknown_stream d.parameters d.streams) a.0;
       labels = none ParameterAbsent Label (first_unknown_label d.parameters d.labels) b.0;
@@ -203,24 +203,24 @@ references_obey d h =
 -- ---- schedules
 
 abbrev sched_5 : Document → Verdict
-sched_5 d = then_told (told RouterCannotKeepPace Router (first_unable_router d.routers)) (told OutputCannotKeepPace Output (first_unable_output d.tick_us d.outputs))
+sched_5 d = then_reported (reported RouterCannotKeepPace Router (first_unable_router d.routers)) (reported OutputCannotKeepPace Output (first_unable_output d.tick_us d.outputs))
 
 abbrev sched_4 : Document → Verdict
-sched_4 d = then_told (told LabelDoubled Label (first_doubled_label d.labels)) (sched_5 d)
+sched_4 d = then_reported (reported LabelDoubled Label (first_doubled_label d.labels)) (sched_5 d)
 
 abbrev sched_3 : Document → Verdict
-sched_3 d = then_told (told OffsetDoubled Label (first_doubled_offset (entries_from 0 d.labels))) (sched_4 d)
+sched_3 d = then_reported (reported OffsetDoubled Label (first_doubled_offset (entries_from 0 d.labels))) (sched_4 d)
 
 abbrev sched_2 : Document → Verdict
-sched_2 d = then_told (told OffsetPastFrame Label (first_late d.outputs d.labels)) (sched_3 d)
+sched_2 d = then_reported (reported OffsetPastFrame Label (first_late d.outputs d.labels)) (sched_3 d)
 
 pub schedules_obey : (d : Document) → schedules d ≡ Ok tt → SchedulesObey d
 schedules_obey d h =
-    let a = both (told FormatsDiffer Label (first_different d.parameters d.streams (stream_names d) d.labels)) (sched_2 d) h in
-    let b = both (told OffsetPastFrame Label (first_late d.outputs d.labels)) (sched_3 d) a.1 in
-    let e = both (told OffsetDoubled Label (first_doubled_offset (entries_from 0 d.labels))) (sched_4 d) b.1 in
-    let f = both (told LabelDoubled Label (first_doubled_label d.labels)) (sched_5 d) e.1 in
-    let g = both (told RouterCannotKeepPace Router (first_unable_router d.routers)) (told OutputCannotKeepPace Output (first_unable_output d.tick_us d.outputs)) f.1 in
+    let a = both (reported FormatsDiffer Label (first_different d.parameters d.streams (stream_names d) d.labels)) (sched_2 d) h in
+    let b = both (reported OffsetPastFrame Label (first_late d.outputs d.labels)) (sched_3 d) a.1 in
+    let e = both (reported OffsetDoubled Label (first_doubled_offset (entries_from 0 d.labels))) (sched_4 d) b.1 in
+    let f = both (reported LabelDoubled Label (first_doubled_label d.labels)) (sched_5 d) e.1 in
+    let g = both (reported RouterCannotKeepPace Router (first_unable_router d.routers)) (reported OutputCannotKeepPace Output (first_unable_output d.tick_us d.outputs)) f.1 in
     record {
       formats = none FormatsDiffer Label (first_different d.parameters d.streams (stream_names d) d.labels) a.0;
       late = none OffsetPastFrame Label (first_late d.outputs d.labels) b.0;
@@ -234,14 +234,14 @@ schedules_obey d h =
 
 pub obeys_first : (d : Document) → first_rules d ≡ Ok tt → (shape d ≡ Ok tt) × (totals d ≡ Ok tt) × (quantities d ≡ Ok tt)
 obeys_first d h =
-    let a = both (shape d) (then_told (totals d) (quantities d)) h in
+    let a = both (shape d) (then_reported (totals d) (quantities d)) h in
     let b = both (totals d) (quantities d) a.1 in
     (a.0, b.0, b.1)
 
 pub obeys : (d : Document) → first_rules d ≡ Ok tt → later_rules d ≡ Ok tt → Obeys d
 obeys d first later =
     let a = obeys_first d first in
-    let b = both (names d) (then_told (references d) (schedules d)) later in
+    let b = both (names d) (then_reported (references d) (schedules d)) later in
     let e = both (references d) (schedules d) b.1 in
     record {
       shape = shape_obeys d a.0;

@@ -1,4 +1,4 @@
--- The routers that visit a bus, told one visit after another.
+-- The routers that visit a bus, reported one visit after another.
 use Rattle.std.proofs.Common.{◌≡◌, ℕ, suc, ◌+◌, ◌<◌, ◌≤◌, inl, inr, Bool, true, false, cond, ◌||◌, not, ◌==◌, nat_lt, Option, Some, None, List, [], ◌∷◌, ◌++◌, length, map, refl, sym, ap, ◌∙◌, arith}
 use Rattle.std.specs.Prelude.{option_map, unwrap_or}
 use Rattle.std.specs.List.{count_by, position, position_from}
@@ -74,8 +74,8 @@ some_counted p i (x ∷ xs) j h =
 found_counted : {A : Type 0} (p : A → Bool) (xs : List A) (j : ℕ) → position p xs ≡ Some j → 1 ≤ count_by p xs
 found_counted p xs j h = some_counted p 0 xs j (sym (position_from-zero p xs) ∙ h)
 
-abbrev told : Bool → ℕ → Visitors
-told shared router = record { first = router; shared = shared }
+abbrev reported : Bool → ℕ → Visitors
+reported shared router = record { first = router; shared = shared }
 
 not_same : (a b : ℕ) → a < b → (a == b) ≡ false
 not_same a b h = grind (arith, nat_tests)
@@ -96,30 +96,30 @@ one_or_more n h =
 
 module _ {A : Type 0} (p : A → Bool) (xs : List A) where
   one_more : (found : Option ℕ) (b : Bool) → position p xs ≡ found
-      → with_router b (option_map (told (nat_lt 1 (count_by p xs))) found) (length xs) ≡ option_map (told (nat_lt 1 (count_by p xs + one b))) (or_last found b (length xs))
+      → with_router b (option_map (reported (nat_lt 1 (count_by p xs))) found) (length xs) ≡ option_map (reported (nat_lt 1 (count_by p xs + one b))) (or_last found b (length xs))
   one_more None false h = refl
   one_more None true h =
       let none : count_by p xs ≡ 0 = count_none p xs (each_fails p xs h) in
-      ap (λ n. Some (told (nat_lt 1 (n + 1)) (length xs))) (sym none)
+      ap (λ n. Some (reported (nat_lt 1 (n + 1)) (length xs))) (sym none)
   one_more (Some j) false h =
       let same : count_by p xs + 0 ≡ count_by p xs = omega arith in
-      ap (λ n. Some (told (nat_lt 1 n) j)) (sym same)
+      ap (λ n. Some (reported (nat_lt 1 n) j)) (sym same)
   one_more (Some j) true h =
-      ap (λ b. Some (told b j)) (ap (λ b. nat_lt 1 (count_by p xs) || not b) (not_same j (length xs) (first_passes p xs j h).0) ∙ or_true (nat_lt 1 (count_by p xs)) ∙ sym (is_more (count_by p xs) (found_counted p xs j h)))
+      ap (λ b. Some (reported b j)) (ap (λ b. nat_lt 1 (count_by p xs) || not b) (not_same j (length xs) (first_passes p xs j h).0) ∙ or_true (nat_lt 1 (count_by p xs)) ∙ sym (is_more (count_by p xs) (found_counted p xs j h)))
 
-  more : (x : A) → with_router (p x) (option_map (told (nat_lt 1 (count_by p xs))) (position p xs)) (length xs) ≡ option_map (told (nat_lt 1 (count_by p (xs ++ (x ∷ []))))) (position p (xs ++ (x ∷ [])))
+  more : (x : A) → with_router (p x) (option_map (reported (nat_lt 1 (count_by p xs))) (position p xs)) (length xs) ≡ option_map (reported (nat_lt 1 (count_by p (xs ++ (x ∷ []))))) (position p (xs ++ (x ∷ [])))
   more x =
       one_more (position p xs) (p x) refl
-      ∙ ap (λ n. option_map (told (nat_lt 1 n)) (or_last (position p xs) (p x) (length xs))) (sym (count_push p xs x))
-      ∙ ap (λ r. option_map (told (nat_lt 1 (count_by p (xs ++ (x ∷ []))))) r) (sym (position_push p xs x))
+      ∙ ap (λ n. option_map (reported (nat_lt 1 n)) (or_last (position p xs) (p x) (length xs))) (sym (count_push p xs x))
+      ∙ ap (λ r. option_map (reported (nat_lt 1 (count_by p (xs ++ (x ∷ []))))) r) (sym (position_push p xs x))
 
-  served_is : (found : Option ℕ) → position p xs ≡ found → is_served (option_map (told (nat_lt 1 (count_by p xs))) found) ≡ (count_by p xs == 1)
+  served_is : (found : Option ℕ) → position p xs ≡ found → is_served (option_map (reported (nat_lt 1 (count_by p xs))) found) ≡ (count_by p xs == 1)
   served_is None h =
       let none : count_by p xs ≡ 0 = count_none p xs (each_fails p xs h) in
       ap (λ n. n == 1) (sym none)
   served_is (Some j) h = one_or_more (count_by p xs) (found_counted p xs j h)
 
-  first_is : (found : Option ℕ) → first_of (option_map (told (nat_lt 1 (count_by p xs))) found) ≡ unwrap_or found 0
+  first_is : (found : Option ℕ) → first_of (option_map (reported (nat_lt 1 (count_by p xs))) found) ≡ unwrap_or found 0
   first_is None = refl
   first_is (Some j) = refl
 

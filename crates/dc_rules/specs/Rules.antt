@@ -29,21 +29,21 @@ use Rattle.dc_parts.specs.Ticks.{output_gap}
 use Rattle.dc_parts.specs.Keys.{same_parameter, parameter_key, stream_key, label_key}
 use Rattle.dc_parts.specs.Names.{number_of}
 
--- ---- what is told
+-- ---- what is reported
 
 -- all is well, or a rule is broken
 abbrev pub Verdict : Type 0
 Verdict = Result (Unit {0}) BuildError
 
 -- the verdict of a rule that is broken first at this index, if at any
-abbrev pub told : TableRule → Section → Option ℕ → Verdict
-told rule section None = Ok tt
-told rule section (Some i) = Err (Refused (record { rule = rule; section = section; index = i }))
+abbrev pub reported : TableRule → Section → Option ℕ → Verdict
+reported rule section None = Ok tt
+reported rule section (Some i) = Err (Refused (record { rule = rule; section = section; index = i }))
 
 -- a verdict, and where all is well the one after it
-abbrev pub then_told : Verdict → Verdict → Verdict
-then_told (Ok x) later = later
-then_told (Err e) later = Err e
+abbrev pub then_reported : Verdict → Verdict → Verdict
+then_reported (Ok x) later = later
+then_reported (Err e) later = Err e
 
 -- a rule that is broken first at this index, with its place among the tables of its kind
 abbrev pub breach : TableRule → Section → Option ℕ → Option Breach
@@ -56,14 +56,14 @@ earlier None b = b
 earlier (Some a) None = Some a
 earlier (Some a) (Some b) = if nat_lt b.place a.place then Some b else Some a
 
--- a breach of a member, told at the place of its owner
+-- a breach of a member, reported at the place of its owner
 abbrev pub at_owner : List ℕ → Option Breach → Option Breach
 at_owner owners None = None
 at_owner owners (Some b) = Some (record { place = slice_index owners b.place; fault = b.fault })
 
-abbrev pub breach_told : Option Breach → Verdict
-breach_told None = Ok tt
-breach_told (Some b) = Err (Refused b.fault)
+abbrev pub breach_reported : Option Breach → Verdict
+breach_reported None = Ok tt
+breach_reported (Some b) = Err (Refused b.fault)
 
 -- ---- words of the rules
 
@@ -154,20 +154,20 @@ label_shapes labels =
 
 abbrev pub top_shape : Document → Verdict
 top_shape d =
-    then_told (told NumberOutOfRange Top (at_top (outside 100 10000 d.tick_us)))
-    (then_told (told CountOutOfRange Top (at_top (nat_lt 2048 (length d.parameters))))
-    (then_told (told CountOutOfRange Top (at_top (nat_lt 64 (length d.buses))))
-    (then_told (told CountOutOfRange Top (at_top (nat_lt 64 (length d.routers))))
-    (told CountOutOfRange Top (at_top (nat_lt 32 (length d.outputs)))))))
+    then_reported (reported NumberOutOfRange Top (at_top (outside 100 10000 d.tick_us)))
+    (then_reported (reported CountOutOfRange Top (at_top (nat_lt 2048 (length d.parameters))))
+    (then_reported (reported CountOutOfRange Top (at_top (nat_lt 64 (length d.buses))))
+    (then_reported (reported CountOutOfRange Top (at_top (nat_lt 64 (length d.routers))))
+    (reported CountOutOfRange Top (at_top (nat_lt 32 (length d.outputs)))))))
 
 -- the top, each parameter, each bus followed by its streams, each router, each output followed by its labels
 abbrev pub shape : Document → Verdict
 shape d =
-    then_told (top_shape d)
-    (then_told (told NumberOutOfRange Parameter (position parameter_out d.parameters))
-    (then_told (breach_told (earlier (bus_shapes d.buses (counts (stream_owners d) (length d.buses))) (at_owner (stream_owners d) (stream_shapes d.streams))))
-    (then_told (breach_told (router_shapes d.routers))
-    (breach_told (earlier (output_shapes d.outputs (counts (label_owners d) (length d.outputs))) (at_owner (label_owners d) (label_shapes d.labels)))))))
+    then_reported (top_shape d)
+    (then_reported (reported NumberOutOfRange Parameter (position parameter_out d.parameters))
+    (then_reported (breach_reported (earlier (bus_shapes d.buses (counts (stream_owners d) (length d.buses))) (at_owner (stream_owners d) (stream_shapes d.streams))))
+    (then_reported (breach_reported (router_shapes d.routers))
+    (breach_reported (earlier (output_shapes d.outputs (counts (label_owners d) (length d.outputs))) (at_owner (label_owners d) (label_shapes d.labels)))))))
 
 -- ---- totals over the tables
 
@@ -190,9 +190,9 @@ first_overfull counts = position (λ n. nat_lt 1024 n) counts
 -- a total is passed at the owner of the first member past it
 abbrev pub totals : Document → Verdict
 totals d =
-    then_told (told CountOutOfRange Bus (option_map (λ s. s.bus) (slice_get d.streams 1024)))
-    (then_told (told CountOutOfRange Output (option_map (λ x. x.output) (slice_get d.labels 1024)))
-    (told CountOutOfRange Output (first_overfull (counts (entry_owners d.labels) (length d.outputs)))))
+    then_reported (reported CountOutOfRange Bus (option_map (λ s. s.bus) (slice_get d.streams 1024)))
+    (then_reported (reported CountOutOfRange Output (option_map (λ x. x.output) (slice_get d.labels 1024)))
+    (reported CountOutOfRange Output (first_overfull (counts (entry_owners d.labels) (length d.outputs)))))
 
 -- ---- parameters
 
@@ -336,51 +336,51 @@ first_unable_output tick outputs = position (λ o. nat_lt o.within (o.steps * ou
 -- after T09
 abbrev pub later_quantities : Document → Verdict
 later_quantities d =
-    then_told (told IntervalReversed Parameter (first_inverted d.parameters))
-    (then_told (told MinimumBelowOneTick Stream (first_quick d.tick_us d.parameters d.streams))
-    (told NoOutputInterval Label (first_narrow d.tick_us d.parameters d.labels)))
+    then_reported (reported IntervalReversed Parameter (first_inverted d.parameters))
+    (then_reported (reported MinimumBelowOneTick Stream (first_quick d.tick_us d.parameters d.streams))
+    (reported NoOutputInterval Label (first_narrow d.tick_us d.parameters d.labels)))
 
 abbrev pub quantities : Document → Verdict
 quantities d =
-    then_told (told ParameterDoubled Parameter (doubled same_parameter (map parameter_key d.parameters))) (later_quantities d)
+    then_reported (reported ParameterDoubled Parameter (doubled same_parameter (map parameter_key d.parameters))) (later_quantities d)
 
 abbrev pub names : Document → Verdict
 names d =
-    then_told (told NameDoubled Bus (doubled_name (bus_names d)))
-    (then_told (told NameDoubled Stream (doubled_name (stream_names d)))
-    (then_told (told NameDoubled Router (doubled_name (router_names d)))
-    (then_told (told NameDoubled Output (doubled_name (output_names d)))
-    (told NameDoubled Label (doubled_name (label_names d))))))
+    then_reported (reported NameDoubled Bus (doubled_name (bus_names d)))
+    (then_reported (reported NameDoubled Stream (doubled_name (stream_names d)))
+    (then_reported (reported NameDoubled Router (doubled_name (router_names d)))
+    (then_reported (reported NameDoubled Output (doubled_name (output_names d)))
+    (reported NameDoubled Label (doubled_name (label_names d))))))
 
 abbrev pub references : Document → Verdict
 references d =
-    then_told (told ParameterAbsent Stream (first_unknown_stream d.parameters d.streams))
-    (then_told (told ParameterAbsent Label (first_unknown_label d.parameters d.labels))
-    (then_told (told StreamsOverlap Stream (doubled overlap d.streams))
-    (then_told (told NameAbsent Router (first_lost_router (bus_names d) d.routers))
-    (then_told (told NameAbsent Label (first_lost_label (stream_names d) d.labels))
-    (then_told (told BusNotVisitedByOne Bus (first_unserved d.routers d.buses))
-    (told SourceDoubled Label (first_doubled_source d.labels)))))))
+    then_reported (reported ParameterAbsent Stream (first_unknown_stream d.parameters d.streams))
+    (then_reported (reported ParameterAbsent Label (first_unknown_label d.parameters d.labels))
+    (then_reported (reported StreamsOverlap Stream (doubled overlap d.streams))
+    (then_reported (reported NameAbsent Router (first_lost_router (bus_names d) d.routers))
+    (then_reported (reported NameAbsent Label (first_lost_label (stream_names d) d.labels))
+    (then_reported (reported BusNotVisitedByOne Bus (first_unserved d.routers d.buses))
+    (reported SourceDoubled Label (first_doubled_source d.labels)))))))
 
 abbrev pub schedules : Document → Verdict
 schedules d =
-    then_told (told FormatsDiffer Label (first_different d.parameters d.streams (stream_names d) d.labels))
-    (then_told (told OffsetPastFrame Label (first_late d.outputs d.labels))
-    (then_told (told OffsetDoubled Label (first_doubled_offset (entries_from 0 d.labels)))
-    (then_told (told LabelDoubled Label (first_doubled_label d.labels))
-    (then_told (told RouterCannotKeepPace Router (first_unable_router d.routers))
-    (told OutputCannotKeepPace Output (first_unable_output d.tick_us d.outputs))))))
+    then_reported (reported FormatsDiffer Label (first_different d.parameters d.streams (stream_names d) d.labels))
+    (then_reported (reported OffsetPastFrame Label (first_late d.outputs d.labels))
+    (then_reported (reported OffsetDoubled Label (first_doubled_offset (entries_from 0 d.labels)))
+    (then_reported (reported LabelDoubled Label (first_doubled_label d.labels))
+    (then_reported (reported RouterCannotKeepPace Router (first_unable_router d.routers))
+    (reported OutputCannotKeepPace Output (first_unable_output d.tick_us d.outputs))))))
 
 -- the rules up to T12, and those from T13 on
 abbrev pub first_rules : Document → Verdict
-first_rules d = then_told (shape d) (then_told (totals d) (quantities d))
+first_rules d = then_reported (shape d) (then_reported (totals d) (quantities d))
 
 abbrev pub later_rules : Document → Verdict
-later_rules d = then_told (names d) (then_told (references d) (schedules d))
+later_rules d = then_reported (names d) (then_reported (references d) (schedules d))
 
 -- the first rule that is broken
 abbrev pub verdict_of : Document → Verdict
-verdict_of d = then_told (first_rules d) (later_rules d)
+verdict_of d = then_reported (first_rules d) (later_rules d)
 
 -- the fault of an answer
 abbrev pub fault_in : {A : Type 0} → Result A BuildError → Option BuildError

@@ -1,6 +1,6 @@
-//! Broken rules with their places, and which one is told.
+//! Broken rules with their places, and which one is reported.
 ghost use Rattle.std.specs.Prelude.{◌≡◌};
-ghost use Rattle.dc_rules.specs.Rules.{told, breach, earlier, breach_told};
+ghost use Rattle.dc_rules.specs.Rules.{reported, breach, earlier, breach_reported};
 
 use dc_parts::{BuildError, Section, TableFault, TableRule};
 
@@ -10,7 +10,7 @@ pub(crate) fn refuse(
     section: Section,
     found: Option<usize>,
 ) -> Result<(), BuildError>
-    ensures { result ≡ told rule section found }
+    ensures { result ≡ reported rule section found }
 {
     match found {
         None => Ok(()),
@@ -57,7 +57,7 @@ pub(crate) fn earlier_of(a: Option<Breach>, b: Option<Breach>) -> Option<Breach>
 
 /// The refusal of a breach, if there is one.
 pub(crate) fn refuse_breach(found: Option<Breach>) -> Result<(), BuildError>
-    ensures { result ≡ breach_told found }
+    ensures { result ≡ breach_reported found }
 {
     match found {
         None => Ok(()),

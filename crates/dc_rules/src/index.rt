@@ -1,7 +1,7 @@
 //! Keys that are looked up by their value.
 ghost use Rattle.std.specs.Prelude.{◌≡◌, ◌≤◌, ◌<◌, ◌++◌, ◌∷◌, None, map, position, IfOk, IfSome, OnOk, [], length, slice_index_or};
 ghost use Rattle.dc_word.specs.declared.format.Format.TheVariants.{Bnr};
-ghost use Rattle.dc_rules.specs.Rules.{doubled, doubled_name, parameter_out, parameter_of, first_inverted, told, Tells};
+ghost use Rattle.dc_rules.specs.Rules.{doubled, doubled_name, parameter_out, parameter_of, first_inverted, reported, Tells};
 ghost use Rattle.dc_parts.specs.Keys.{parameter_key, same_parameter};
 ghost use Rattle.dc_parts.specs.Names.{number_of};
 ghost use Rattle.dc_dict.specs.Rows.{refusal_of};
@@ -53,7 +53,7 @@ impl NameIndex {
         section: Section,
         rows: &[T],
     ) -> Result<NameIndex, BuildError>
-        ensures rule { Tells (told TableRule.NameDoubled section (doubled_name (map T.name_of rows.now))) result }
+        ensures rule { Tells (reported TableRule.NameDoubled section (doubled_name (map T.name_of rows.now))) result }
         ensures list { IfOk result (λ n. n ≡ map T.name_of rows.now) }
     {
         let names = names_of(alloc, rows).map_err(BuildError::Memory)?;

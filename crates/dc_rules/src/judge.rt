@@ -1,10 +1,10 @@
 //! The rules in their order.
 ghost use Rattle.std.specs.Prelude.{Ok, None, ◌≡◌, ◌≤◌, map, length, IfOk, option_map, option_and_then, slice_get};
-ghost use Rattle.dc_rules.specs.Rules.{Tells, first_rules, later_rules, quantities, told, then_told, shape, totals, counts, doubled, doubled_name, overlap as overlap_of, first_unserved as unserved_bus};
+ghost use Rattle.dc_rules.specs.Rules.{Tells, first_rules, later_rules, quantities, reported, then_reported, shape, totals, counts, doubled, doubled_name, overlap as overlap_of, first_unserved as unserved_bus};
 ghost use Rattle.dc_parts.specs.Keys.{same_parameter, parameter_key};
 ghost use Rattle.dc_rules.specs.Rules.{first_inverted, first_quick, first_narrow, first_unknown_stream, first_unknown_label};
 ghost use Rattle.dc_rules.specs.Rules.{bus_names, stream_names, router_names, output_names, label_names, names, references, schedules, entries_from};
-ghost use Rattle.dc_rules.specs.Rules.{earlier, at_owner, breach_told, first_overfull, entry_owners, first_doubled_offset, first_doubled_label};
+ghost use Rattle.dc_rules.specs.Rules.{earlier, at_owner, breach_reported, first_overfull, entry_owners, first_doubled_offset, first_doubled_label};
 ghost use Rattle.dc_parts.specs.Document.{stream_owners, label_owners};
 
 use crate::breach::{Breach, earlier_of, refuse, refuse_breach};
@@ -163,7 +163,7 @@ fn first_overfull(counts: &[usize]) -> Option<usize>
 fn check_intervals(parts: &Parts, parameters: &Parameters) -> Result<(), BuildError>
     requires tick { 1 ≤ parts.now.tick_us }
     requires same { parameters.now ≡ parts.now.parameters }
-    ensures { result ≡ then_told (told TableRule.MinimumBelowOneTick Section.Stream (first_quick parts.now.tick_us parts.now.parameters parts.now.streams)) (told TableRule.NoOutputInterval Section.Label (first_narrow parts.now.tick_us parts.now.parameters parts.now.labels)) }
+    ensures { result ≡ then_reported (reported TableRule.MinimumBelowOneTick Section.Stream (first_quick parts.now.tick_us parts.now.parameters parts.now.streams)) (reported TableRule.NoOutputInterval Section.Label (first_narrow parts.now.tick_us parts.now.parameters parts.now.labels)) }
 {
     refuse(
         TableRule::MinimumBelowOneTick,
@@ -200,7 +200,7 @@ fn with_labels(
     inputs: (NameIndex, NameIndex),
     senders: (NameIndex, NameIndex),
 ) -> Result<Names, BuildError>
-    ensures rule { Tells (told TableRule.NameDoubled Section.Label (doubled_name (label_names parts.now))) result }
+    ensures rule { Tells (reported TableRule.NameDoubled Section.Label (doubled_name (label_names parts.now))) result }
     ensures buses { IfOk result (λ n. n.buses ≡ inputs.0) }
     ensures streams { IfOk result (λ n. n.streams ≡ inputs.1) }
     ensures routers { IfOk result (λ n. n.routers ≡ senders.0) }
@@ -386,7 +386,7 @@ fn keep_parameters(alloc: Global, parts: &Parts) -> Result<Parameters, BuildErro
     requires shape { shape parts.now ≡ Ok tt }
     requires once { doubled same_parameter (map parameter_key parts.now.parameters) ≡ None }
     requires ordered { first_inverted parts.now.parameters ≡ None }
-    ensures rule { Tells (then_told (told TableRule.MinimumBelowOneTick Section.Stream (first_quick parts.now.tick_us parts.now.parameters parts.now.streams)) (told TableRule.NoOutputInterval Section.Label (first_narrow parts.now.tick_us parts.now.parameters parts.now.labels))) result }
+    ensures rule { Tells (then_reported (reported TableRule.MinimumBelowOneTick Section.Stream (first_quick parts.now.tick_us parts.now.parameters parts.now.streams)) (reported TableRule.NoOutputInterval Section.Label (first_narrow parts.now.tick_us parts.now.parameters parts.now.labels))) result }
     ensures parameters { IfOk result (λ p. p ≡ parts.now.parameters) }
 {
     let parameters = Parameters::of(alloc, parts.parameters()).map_err(BuildError::Memory)?;
@@ -428,7 +428,7 @@ fn pass_named(
     requires buses { names.buses ≡ bus_names parts.now }
     requires streams { names.streams ≡ stream_names parts.now }
     requires entries { entries.now ≡ entries_from 0 parts.now.labels }
-    ensures rule { Tells (then_told (references parts.now) (schedules parts.now)) result }
+    ensures rule { Tells (then_reported (references parts.now) (schedules parts.now)) result }
     ensures same { IfOk result (λ n. n ≡ names) }
 {
     check_named(alloc, parts, parameters, &names, entries)?;
@@ -448,7 +448,7 @@ fn check_named(
     requires buses { names.now.buses ≡ bus_names parts.now }
     requires streams { names.now.streams ≡ stream_names parts.now }
     requires entries { entries.now ≡ entries_from 0 parts.now.labels }
-    ensures { Tells (then_told (references parts.now) (schedules parts.now)) result }
+    ensures { Tells (then_reported (references parts.now) (schedules parts.now)) result }
 {
     tell_references(alloc, parts, parameters, names)?;
     check_schedules(alloc, parts, parameters, names, entries)

@@ -100,7 +100,7 @@ pub(crate) fn first_late(outputs: &[OutputPart], labels: &[LabelPart]) -> Option
         .position(|x| reaches(&x.offsets, frame_of(outputs, x.output)))
 }
 
-/// Adds the entries of a label behind the others.
+/// Adds the entries of a label after the others.
 fn push_entries(
     all: &mut Vec<PlacedEntry>,
     number: usize,

@@ -1,6 +1,6 @@
 //! Numbers in their ranges, lists in their limits.
 ghost use Rattle.std.specs.Prelude.{◌≡◌, ◌<◌, length, map, position, IfOk};
-ghost use Rattle.dc_rules.specs.Rules.{outside, at_top, counts, breach, earlier, told, then_told, at_owner};
+ghost use Rattle.dc_rules.specs.Rules.{outside, at_top, counts, breach, earlier, reported, then_reported, at_owner};
 ghost use Rattle.dc_rules.specs.Rules.{parameter_out, router_out, output_out, label_out, offsets_out};
 ghost use Rattle.dc_rules.specs.Rules.{first_bus_out, first_stream_out, first_router_out, first_output_out, first_label_out};
 ghost use Rattle.dc_rules.specs.Rules.{first_count_out, first_visits_out, first_sources_out, first_offsets_out};

@@ -129,7 +129,7 @@ split_more tick all parts n rows rest part row l at h here = record {
   same = λ k m. rest_own n k rest h.later (omega (arith, m)) ∙ h.same k (omega (arith, m));
 }
 
--- the entries behind those of an output
+-- the entries after those of an output
 pub later_entries : (o first : ℕ) (all own : List PlacedEntry) → own ≡ take (leading o (drop first all)) (drop first all) → drop (first + length own) all ≡ drop (leading o (drop first all)) (drop first all)
 later_entries o first all own h =
     let n : length own ≡ leading o (drop first all) = ap length h ∙ length-prefix_len (λ e. e.output == o) (drop first all) in

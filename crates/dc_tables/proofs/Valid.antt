@@ -78,7 +78,7 @@ valid d t order rows fit shape totals quantities names refs schedules = record {
   labels_apart = apart.labels_apart d t rows schedules;
   labels_on_outputs = labels.labels_on_outputs d t rows order;
   labels_in_frames = outputs.labels_in_frames d t rows order shape;
-  labels_fit = λ x h. fit x (record { output = 0; label = 0; sdi = 0; format = Bnr; sources = []; stale = 0; oldest = 0; least = 0; greatest = 0 }) h;
+  labels_fit = λ x h. fit x (record { output = 0; label = 0; sdi = 0; format = Bnr; sources = []; stale = 0; age_limit = 0; minimum = 0; maximum = 0 }) h;
   sources_some = labels.sources_some d t rows shape;
   few_sources = labels.few_sources d t rows shape;
   sources_once = apart.sources_once d t rows refs;

@@ -103,7 +103,7 @@ module _ (d : Document) (t : TableRows) (rows : AreRows d t) where
 
   pub label_at : (x : ℕ) (p : LabelPart) → x < length d.labels → label_row t x ≡ label_row_of d.tick_us d.parameters (stream_names d) (get_or d.labels x p)
   label_at x p l =
-      let e : OutputLabel = record { output = 0; label = 0; sdi = 0; format = Bnr; sources = []; stale = 0; oldest = 0; least = 0; greatest = 0 } in
+      let e : OutputLabel = record { output = 0; label = 0; sdi = 0; format = Bnr; sources = []; stale = 0; age_limit = 0; minimum = 0; maximum = 0 } in
       ap (λ (ws : List OutputLabel). get_or ws x e) rows.labels ∙ get_or-map (label_row_of d.tick_us d.parameters (stream_names d)) d.labels x p e l
 
   pub streams_apart : ReferencesObey d → (s u : ℕ) → u < s → s < length t.streams → (stream_row t s).bus ≡ (stream_row t u).bus → (stream_row t s).label ≡ (stream_row t u).label → sdis_meet (stream_row t s).sdi (stream_row t u).sdi ≡ false

@@ -22,13 +22,13 @@ module _ (d : Document) (t : TableRows) (rows : AreRows d t) where
   label_count = ap (λ (l : List OutputLabel). length l) rows.labels ∙ length-map d.labels (label_row_of d.tick_us d.parameters (stream_names d))
 
   pub each_label : (P : OutputLabel → Type 0) → ((k : ℕ) (x : LabelPart) → k < length d.labels → P (label_row_of d.tick_us d.parameters (stream_names d) (get_or d.labels k x))) → (x : ℕ) → x < length t.labels → P (label_row t x)
-  each_label P each = rows_each P (label_row_of d.tick_us d.parameters (stream_names d)) d.labels t.labels (record { output = 0; label = 0; sdi = 0; format = Bnr; sources = []; stale = 0; oldest = 0; least = 0; greatest = 0 }) rows.labels each
+  each_label P each = rows_each P (label_row_of d.tick_us d.parameters (stream_names d)) d.labels t.labels (record { output = 0; label = 0; sdi = 0; format = Bnr; sources = []; stale = 0; age_limit = 0; minimum = 0; maximum = 0 }) rows.labels each
 
   -- the same, of each row with its number
   pub each_label_at : (P : ℕ → OutputLabel → Type 0) → ((k : ℕ) (x : LabelPart) → k < length d.labels → P k (label_row_of d.tick_us d.parameters (stream_names d) (get_or d.labels k x))) → (x : ℕ) → x < length t.labels → P x (label_row t x)
   each_label_at P each x h =
       let f = label_row_of d.tick_us d.parameters (stream_names d) in
-      let e : OutputLabel = record { output = 0; label = 0; sdi = 0; format = Bnr; sources = []; stale = 0; oldest = 0; least = 0; greatest = 0 } in
+      let e : OutputLabel = record { output = 0; label = 0; sdi = 0; format = Bnr; sources = []; stale = 0; age_limit = 0; minimum = 0; maximum = 0 } in
       let z : 0 + x ≡ x = omega arith in
       let Q : List OutputLabel → Type 0 = λ ws. P x (get_or ws x e) in
       let R : ℕ → Type 0 = λ j. P j (get_or (map f d.labels) x e) in
@@ -70,11 +70,11 @@ module _ (d : Document) (t : TableRows) (rows : AreRows d t) (shape : ShapeObeys
   pub stales : (x : ℕ) → x < length t.labels → (1 ≤ (label_row t x).stale) × ((label_row t x).stale ≤ 1000000)
   stales = each_label d t rows (λ r. (1 ≤ r.stale) × (r.stale ≤ 1000000)) (λ k x l. (numbers_in k x l).0)
 
-  pub limits : (x : ℕ) → x < length t.labels → (1 ≤ (label_row t x).oldest) × ((label_row t x).oldest ≤ 2000000)
-  limits = each_label d t rows (λ r. (1 ≤ r.oldest) × (r.oldest ≤ 2000000)) (λ k x l. (numbers_in k x l).1)
+  pub limits : (x : ℕ) → x < length t.labels → (1 ≤ (label_row t x).age_limit) × ((label_row t x).age_limit ≤ 2000000)
+  limits = each_label d t rows (λ r. (1 ≤ r.age_limit) × (r.age_limit ≤ 2000000)) (λ k x l. (numbers_in k x l).1)
 
-  pub intervals_small : (x : ℕ) → x < length t.labels → (label_row t x).greatest ≤ 600000
-  intervals_small = each_label d t rows (λ r. r.greatest ≤ 600000) (λ k x l.
+  pub intervals_small : (x : ℕ) → x < length t.labels → (label_row t x).maximum ≤ 600000
+  intervals_small = each_label d t rows (λ r. r.maximum ≤ 600000) (λ k x l.
       let key = label_key (get_or d.labels k x) in
       interval_small d.tick_us (parameter_of d.parameters key) (tick_in d t rows shape).0 (λ p e. found_holds (λ q. q.max_us ≤ 60000000) d.parameters key p (max_in d t rows shape) e))
 
@@ -83,8 +83,8 @@ module _ (d : Document) (t : TableRows) (rows : AreRows d t) (shape : ShapeObeys
   sources_there x k h l = each_label d t rows (λ r. get_or r.sources k 0 < length t.streams) (λ j y m.
       omega (arith, numbers_always (stream_names d) (get_or d.labels j y).sources.items (each_fails (λ w. has_unknown (stream_names d) w.sources.items) d.labels refs.sources j y m) (sources_in d t rows shape j y m).0 k, sources_length d t rows)) x h
 
-  pub intervals : (x : ℕ) → x < length t.labels → (label_row t x).least ≤ (label_row t x).greatest
-  intervals = each_label d t rows (λ r. r.least ≤ r.greatest) (λ k x l.
+  pub intervals : (x : ℕ) → x < length t.labels → (label_row t x).minimum ≤ (label_row t x).maximum
+  intervals = each_label d t rows (λ r. r.minimum ≤ r.maximum) (λ k x l.
       interval_there d.tick_us (parameter_of d.parameters (label_key (get_or d.labels k x)))
       (each_fails (λ y. is_none (parameter_of d.parameters (label_key y))) d.labels refs.labels k x l)
       (each_fails (λ y. no_interval d.tick_us (parameter_of d.parameters (label_key y))) d.labels quantities.labels k x l))

@@ -72,9 +72,9 @@ label_row_of tick parameters streams x = record {
   format = option_map_or (λ p. p.format) (parameter_of parameters (label_key x)) Bnr;
   sources = map (number_in streams) x.sources.items;
   stale = x.stale;
-  oldest = x.age;
-  least = option_map_or (λ p. out_minimum p.min_us tick) (parameter_of parameters (label_key x)) 0;
-  greatest = option_map_or (λ p. out_maximum p.max_us tick) (parameter_of parameters (label_key x)) 0;
+  age_limit = x.age;
+  minimum = option_map_or (λ p. out_minimum p.min_us tick) (parameter_of parameters (label_key x)) 0;
+  maximum = option_map_or (λ p. out_maximum p.max_us tick) (parameter_of parameters (label_key x)) 0;
 }
 
 -- the entries of an output in the order of the text

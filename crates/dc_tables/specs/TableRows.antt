@@ -5,7 +5,7 @@ use Rattle.std.specs.List.{sum_by}
 use Rattle.dc_bound.specs.Window.{wire_cap}
 use Rattle.dc_bound.specs.Early.{jitter_cap}
 use Rattle.dc_bound.specs.Rounds.{fewest_visits, most_among}
-use Rattle.dc_bound.specs.Frame.{due_at}
+use Rattle.dc_bound.specs.Frame.{entries_at}
 use Rattle.dc_tables.specs.declared.rows.Bus.{Bus}
 use Rattle.dc_tables.specs.declared.rows.Stream.{Stream}
 use Rattle.dc_tables.specs.declared.rows.Router.{Router}
@@ -41,7 +41,7 @@ abbrev pub output_row : TableRows → ℕ → Output
 output_row t o = slice_index_or t.outputs o (record { steps = 0; within = 0; gap = 0; frame = 0; entries = [] })
 
 abbrev pub label_row : TableRows → ℕ → OutputLabel
-label_row t x = slice_index_or t.labels x (record { output = 0; label = 0; sdi = 0; format = Bnr; sources = []; stale = 0; oldest = 0; least = 0; greatest = 0 })
+label_row t x = slice_index_or t.labels x (record { output = 0; label = 0; sdi = 0; format = Bnr; sources = []; stale = 0; age_limit = 0; minimum = 0; maximum = 0 })
 
 -- the parameter of this number
 abbrev pub parameter_row : TableRows → ℕ → ParameterPart
@@ -123,9 +123,9 @@ pub record AreValid (t : TableRows) : Type 0 where
   pub sources_once : (x i j : ℕ) → x < length t.labels → i < length (label_row t x).sources → j < length (label_row t x).sources → slice_index (label_row t x).sources i ≡ slice_index (label_row t x).sources j → i ≡ j
   pub sources_there : (x k : ℕ) → x < length t.labels → k < length (label_row t x).sources → slice_index (label_row t x).sources k < length t.streams
   pub stales : (x : ℕ) → x < length t.labels → (1 ≤ (label_row t x).stale) × ((label_row t x).stale ≤ 1000000)
-  pub limits : (x : ℕ) → x < length t.labels → (1 ≤ (label_row t x).oldest) × ((label_row t x).oldest ≤ 2000000)
-  pub intervals : (x : ℕ) → x < length t.labels → (label_row t x).least ≤ (label_row t x).greatest
-  pub intervals_small : (x : ℕ) → x < length t.labels → (label_row t x).greatest ≤ 600000
+  pub limits : (x : ℕ) → x < length t.labels → (1 ≤ (label_row t x).age_limit) × ((label_row t x).age_limit ≤ 2000000)
+  pub intervals : (x : ℕ) → x < length t.labels → (label_row t x).minimum ≤ (label_row t x).maximum
+  pub intervals_small : (x : ℕ) → x < length t.labels → (label_row t x).maximum ≤ 600000
 
 -- ---- bounds of a bus and of an output
 
@@ -157,7 +157,7 @@ offsets t o = map (λ e. e.offset) (output_row t o).entries
 
 -- the most entries due in d consecutive ticks
 unfoldable pub output_cap : TableRows → ℕ → ℕ → ℕ
-output_cap t o d = most_among (λ i. due_at (offsets t o) i) (output_row t o).frame d
+output_cap t o d = most_among (λ i. entries_at (offsets t o) i) (output_row t o).frame d
 
 -- the fewest sends of an output in d whole ticks
 abbrev pub output_floor : TableRows → ℕ → ℕ → ℕ

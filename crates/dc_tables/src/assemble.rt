@@ -152,7 +152,7 @@ fn label_row(
         format,
         sources,
         stale: part.stale,
-        oldest: part.age,
+        age_limit: part.age,
         least,
         greatest,
     })

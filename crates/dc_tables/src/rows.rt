@@ -66,9 +66,9 @@ pub struct OutputLabel {
     pub format: Format,
     pub sources: Numbers,
     pub stale: u32,
-    pub oldest: u32,
-    pub least: u32,
-    pub greatest: u32,
+    pub age_limit: u32,
+    pub minimum: u32,
+    pub maximum: u32,
 }
 
 /// A list of numbers of rows.

@@ -340,7 +340,7 @@ fn each_rule_refuses_at_its_place(rt: HostRuntime) -> Result<(), Fail> {
 }
 
 #[test]
-fn the_first_of_two_broken_rules_is_told(rt: HostRuntime) -> Result<(), Fail> {
+fn the_first_of_two_broken_rules_is_reported(rt: HostRuntime) -> Result<(), Fail> {
     let alloc = rt.alloc();
     assert_eq!(rt; first_miss(alloc, BREAKING_TWO_SHAPES)?, None);
     assert_eq!(rt; first_miss(alloc, BREAKING_TWO_RULES)?, None);

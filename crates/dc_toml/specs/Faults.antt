@@ -5,20 +5,20 @@ use Rattle.dc_parts.specs.declared.fault.Section.{Section}
 use Rattle.dc_parts.specs.declared.fault.TableFault.{TableFault}
 use Rattle.dc_parts.specs.declared.fault.BuildError.{BuildError}
 use Rattle.dc_parts.specs.declared.fault.BuildError.TheVariants.{Refused, Memory}
-use Rattle.dc_toml.specs.declared.place.Place.{Place}
+use Rattle.dc_toml.specs.declared.place.TablePlace.{TablePlace}
 
 -- what was read, or the first fault
 abbrev pub Reading : Type 0 → Type 0
 Reading A = Result A TableFault
 
 -- the table of this section with this index
-abbrev pub place : Section → ℕ → Place
+abbrev pub place : Section → ℕ → TablePlace
 place section index = record { section = section; index = index }
 
-abbrev pub fault_at : Place → TableRule → TableFault
+abbrev pub fault_at : TablePlace → TableRule → TableFault
 fault_at p rule = record { rule = rule; section = p.section; index = p.index }
 
-abbrev pub refused : {A : Type 0} → Place → TableRule → Reading A
+abbrev pub refused : {A : Type 0} → TablePlace → TableRule → Reading A
 refused p rule = Err (fault_at p rule)
 
 -- goes on where nothing was refused
@@ -28,12 +28,12 @@ abbrev pub ◌>>=◌ : {A B : Type 0} → Reading A → (A → Reading B) → Re
 (Err fault) >>= rest = Err fault
 
 -- goes on where the test holds
-abbrev pub wanted : Place → TableRule → Bool → Reading (Unit {0})
+abbrev pub wanted : TablePlace → TableRule → Bool → Reading (Unit {0})
 wanted p rule true = Ok tt
 wanted p rule false = refused p rule
 
 -- what is there, or a fault
-abbrev pub found : {A : Type 0} → Place → TableRule → Option A → Reading A
+abbrev pub found : {A : Type 0} → TablePlace → TableRule → Option A → Reading A
 found p rule (Some x) = Ok x
 found p rule None = refused p rule
 

@@ -8,7 +8,7 @@ use Rattle.dc_parts.specs.declared.parts.Speed.{Speed}
 use Rattle.dc_parts.specs.declared.parts.Speed.TheVariants.{High, Low}
 use Rattle.dc_parts.specs.declared.fault.TableRule.TheVariants.{KeyAbsent, KeyUnknown, WrongKind, NumberOutOfRange, WrongSpelling, CountOutOfRange}
 use Rattle.dc_parts.specs.Names.{name_of}
-use Rattle.dc_toml.specs.declared.place.Place.{Place}
+use Rattle.dc_toml.specs.declared.place.TablePlace.{TablePlace}
 use Rattle.dc_toml.specs.Faults.{Reading, refused, ◌>>=◌, wanted, found}
 
 -- ---- tables and their keys
@@ -24,53 +24,53 @@ all_keys [] ms = true
 all_keys (k ∷ ks) ms = is_some (get_member k ms) && all_keys ks ms
 
 -- the members of a value that is a table, else T05
-abbrev pub table_of : Place → Data → Reading Members
+abbrev pub table_of : TablePlace → Data → Reading Members
 table_of p d = found p WrongKind (as_table d)
 
 -- no key is unknown, else T04
-abbrev pub known : Place → List (List ℕ) → Members → Reading (Unit {0})
+abbrev pub known : TablePlace → List (List ℕ) → Members → Reading (Unit {0})
 known p keys ms = wanted p KeyUnknown (only_keys keys ms)
 
 -- none is absent, else T03
-abbrev pub present : Place → List (List ℕ) → Members → Reading (Unit {0})
+abbrev pub present : TablePlace → List (List ℕ) → Members → Reading (Unit {0})
 present p keys ms = wanted p KeyAbsent (all_keys keys ms)
 
 -- both of these
-abbrev pub keyed : Place → List (List ℕ) → Members → Reading (Unit {0})
+abbrev pub keyed : TablePlace → List (List ℕ) → Members → Reading (Unit {0})
 keyed p keys ms = known p keys ms >>= (λ k. present p keys ms)
 
 -- ---- numbers
 
-abbrev pub number_in : Place → (low high : ℕ) → Option ℤ → Reading ℕ
+abbrev pub number_in : TablePlace → (low high : ℕ) → Option ℤ → Reading ℕ
 number_in p low high None = refused p WrongKind
 number_in p low high (Some (negsuc n)) = refused p NumberOutOfRange
 number_in p low high (Some (pos n)) = if nat_le low n && nat_le n high then Ok n else refused p NumberOutOfRange
 
-abbrev pub number_at : Place → List ℕ → (low high : ℕ) → Members → Reading ℕ
+abbrev pub number_at : TablePlace → List ℕ → (low high : ℕ) → Members → Reading ℕ
 number_at p key low high ms = number_in p low high (option_and_then as_integer (get_member key ms))
 
 -- true or false
-abbrev pub bool_at : Place → List ℕ → Members → Reading Bool
+abbrev pub bool_at : TablePlace → List ℕ → Members → Reading Bool
 bool_at p key ms = found p WrongKind (option_and_then as_bool (get_member key ms))
 
 -- ---- texts
 
-abbrev pub text_at : Place → List ℕ → Members → Reading (List ℕ)
+abbrev pub text_at : TablePlace → List ℕ → Members → Reading (List ℕ)
 text_at p key ms = found p WrongKind (option_and_then as_str (get_member key ms))
 
-abbrev pub name_at : Place → List ℕ → Members → Reading (List ℕ)
+abbrev pub name_at : TablePlace → List ℕ → Members → Reading (List ℕ)
 name_at p key ms = text_at p key ms >>= (λ s. found p WrongSpelling (name_of s))
 
 abbrev pub speed_of : List ℕ → Option Speed
 speed_of s = if same_key s (codes "high") then Some High else if same_key s (codes "low") then Some Low else None
 
-abbrev pub speed_at : Place → List ℕ → Members → Reading Speed
+abbrev pub speed_at : TablePlace → List ℕ → Members → Reading Speed
 speed_at p key ms = text_at p key ms >>= (λ s. found p WrongSpelling (speed_of s))
 
 abbrev pub format_of : List ℕ → Option Format
 format_of s = if same_key s (codes "bnr") then Some Bnr else if same_key s (codes "bcd") then Some Bcd else if same_key s (codes "disc") then Some Disc else None
 
-abbrev pub format_at : Place → List ℕ → Members → Reading Format
+abbrev pub format_at : TablePlace → List ℕ → Members → Reading Format
 format_at p key ms = text_at p key ms >>= (λ s. found p WrongSpelling (format_of s))
 
 -- the value of a digit in a base of at most 16, in either case
@@ -93,26 +93,26 @@ label_in n = if nat_le 1 n && nat_le n 255 then Some n else None
 abbrev pub label_of : List ℕ → Option ℕ
 label_of s = option_and_then (λ d. label_in (64 * d.0 + 8 * d.1 + d.2)) (three_digits 8 s)
 
-abbrev pub label_at : Place → List ℕ → Members → Reading ℕ
+abbrev pub label_at : TablePlace → List ℕ → Members → Reading ℕ
 label_at p key ms = text_at p key ms >>= (λ s. found p WrongSpelling (label_of s))
 
 -- an equipment code, three hexadecimal digits
 abbrev pub equipment_of : List ℕ → Option ℕ
 equipment_of s = option_map (λ d. 256 * d.0 + 16 * d.1 + d.2) (three_digits 16 s)
 
-abbrev pub equipment_at : Place → List ℕ → Members → Reading ℕ
+abbrev pub equipment_at : TablePlace → List ℕ → Members → Reading ℕ
 equipment_at p key ms = text_at p key ms >>= (λ s. found p WrongSpelling (equipment_of s))
 
 -- ---- the SDI of a label, and that of a stream, which may be "any"
 
-abbrev pub sdi_at : Place → List ℕ → Members → Reading ℕ
+abbrev pub sdi_at : TablePlace → List ℕ → Members → Reading ℕ
 sdi_at p key ms = number_at p key 0 3 ms
 
-abbrev pub any_or : Place → Option (List ℕ) → Reading ℕ → Reading (Option ℕ)
+abbrev pub any_or : TablePlace → Option (List ℕ) → Reading ℕ → Reading (Option ℕ)
 any_or p (Some s) number = if same_key s (codes "any") then Ok None else refused p WrongSpelling
 any_or p None number = number >>= (λ n. Ok (Some n))
 
-abbrev pub stream_sdi_at : Place → List ℕ → Members → Reading (Option ℕ)
+abbrev pub stream_sdi_at : TablePlace → List ℕ → Members → Reading (Option ℕ)
 stream_sdi_at p key ms = any_or p (option_and_then as_str (get_member key ms)) (sdi_at p key ms)
 
 -- ---- lists
@@ -131,11 +131,11 @@ abbrev pub each_item : {A : Type 0} → (Data → Reading A) → Items → Readi
 each_item one no_items = Ok []
 each_item one (item d ds) = one d >>= (λ x. each_item one ds >>= (λ xs. Ok (x ∷ xs)))
 
-abbrev pub array_at : Place → List ℕ → Members → Reading Items
+abbrev pub array_at : TablePlace → List ℕ → Members → Reading Items
 array_at p key ms = found p WrongKind (option_and_then as_array (get_member key ms))
 
 -- a length within its limits
-abbrev pub counted : Place → (low high : ℕ) → Items → Reading (Unit {0})
+abbrev pub counted : TablePlace → (low high : ℕ) → Items → Reading (Unit {0})
 counted p low high ds = wanted p CountOutOfRange (nat_le low (items_len ds) && nat_le (items_len ds) high)
 
 abbrev pub is_text : Data → Bool
@@ -144,14 +144,14 @@ is_text d = is_some (as_str d)
 abbrev pub is_number : Data → Bool
 is_number d = is_some (as_integer d)
 
-abbrev pub name_item : Place → Data → Reading (List ℕ)
+abbrev pub name_item : TablePlace → Data → Reading (List ℕ)
 name_item p d = found p WrongSpelling (option_and_then name_of (as_str d))
 
-abbrev pub number_item : Place → (low high : ℕ) → Data → Reading ℕ
+abbrev pub number_item : TablePlace → (low high : ℕ) → Data → Reading ℕ
 number_item p low high d = number_in p low high (as_integer d)
 
 -- a list of names
-unfoldable pub names_at : Place → List ℕ → (low high : ℕ) → Members → Reading (List (List ℕ))
+unfoldable pub names_at : TablePlace → List ℕ → (low high : ℕ) → Members → Reading (List (List ℕ))
 names_at p key low high ms = do
   ds ← array_at p key ms
   kinds ← wanted p WrongKind (all_items is_text ds)
@@ -160,7 +160,7 @@ names_at p key low high ms = do
   Ok names
 
 -- a list of offsets
-unfoldable pub offsets_at : Place → List ℕ → (low high : ℕ) → Members → Reading (List ℕ)
+unfoldable pub offsets_at : TablePlace → List ℕ → (low high : ℕ) → Members → Reading (List ℕ)
 offsets_at p key low high ms = do
   ds ← array_at p key ms
   kinds ← wanted p WrongKind (all_items is_number ds)
@@ -169,7 +169,7 @@ offsets_at p key low high ms = do
   Ok offsets
 
 -- a list of tables, before its members are looked at
-unfoldable pub tables_at : Place → List ℕ → (low high : ℕ) → Members → Reading Items
+unfoldable pub tables_at : TablePlace → List ℕ → (low high : ℕ) → Members → Reading Items
 tables_at p key low high ms = do
   ds ← array_at p key ms
   length ← counted p low high ds
@@ -180,5 +180,5 @@ abbrev pub if_there : Option Data → Reading Items → Reading Items
 if_there None reading = Ok no_items
 if_there (Some d) reading = reading
 
-abbrev pub optional_at : Place → List ℕ → (high : ℕ) → Members → Reading Items
+abbrev pub optional_at : TablePlace → List ℕ → (high : ℕ) → Members → Reading Items
 optional_at p key high ms = if_there (get_member key ms) (tables_at p key 0 high ms)

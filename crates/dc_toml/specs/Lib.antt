@@ -2,4 +2,4 @@ pub mod Written
 pub mod Faults
 pub mod Keys
 pub mod Reading
-pub mod Told
+pub mod Reported

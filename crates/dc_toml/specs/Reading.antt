@@ -7,34 +7,34 @@ use Rattle.dc_parts.specs.declared.fault.TableRule.TheVariants.{NotToml, Version
 use Rattle.dc_parts.specs.declared.parts.Version.{Version}
 use Rattle.dc_parts.specs.declared.parts.Version.TheVariants.{One, Two}
 use Rattle.dc_parts.specs.declared.fault.Section.TheVariants.{Top, Parameter, Bus, Stream, Router, Output, Label}
-use Rattle.dc_toml.specs.declared.place.Place.{Place}
+use Rattle.dc_toml.specs.declared.place.TablePlace.{TablePlace}
 use Rattle.dc_toml.specs.Faults.{Reading, place, refused, ◌>>=◌, wanted, found}
 use Rattle.dc_toml.specs.Written.{Written, nothing_written, and_parameter, and_bus, and_stream, and_router, and_output, and_label}
 use Rattle.dc_toml.specs.Keys.{table_of, known, present, keyed, bool_at, number_at, name_at, speed_at, format_at, label_at, equipment_at, sdi_at, stream_sdi_at, names_at, offsets_at, tables_at, optional_at}
 
--- the tables of a list in order, each behind what was read before it
+-- the tables of a list in order, each after what was read before it
 abbrev pub each_table : (Written → Data → Reading Written) → Written → Items → Reading Written
 each_table one d no_items = Ok d
 each_table one d (item v vs) = one d v >>= (λ more. each_table one more vs)
 
 -- ---- the places of the next tables
 
-abbrev pub next_parameter : Written → Place
+abbrev pub next_parameter : Written → TablePlace
 next_parameter d = place Parameter (length d.parameters)
 
-abbrev pub next_bus : Written → Place
+abbrev pub next_bus : Written → TablePlace
 next_bus d = place Bus (length d.buses)
 
-abbrev pub next_stream : Written → Place
+abbrev pub next_stream : Written → TablePlace
 next_stream d = place Stream (length d.streams)
 
-abbrev pub next_router : Written → Place
+abbrev pub next_router : Written → TablePlace
 next_router d = place Router (length d.routers)
 
-abbrev pub next_output : Written → Place
+abbrev pub next_output : Written → TablePlace
 next_output d = place Output (length d.outputs)
 
-abbrev pub next_label : Written → Place
+abbrev pub next_label : Written → TablePlace
 next_label d = place Label (length d.labels)
 
 -- ---- parameters
@@ -60,7 +60,7 @@ stream_keys One = codes "name" ∷ codes "label" ∷ codes "equipment" ∷ codes
 stream_keys Two = codes "name" ∷ codes "label" ∷ codes "equipment" ∷ codes "sdi" ∷ codes "jitter_us" ∷ []
 
 -- the jitter of a stream in microseconds; in version 1 there is none
-abbrev pub jitter_at : Version → Place → Members → Reading ℕ
+abbrev pub jitter_at : Version → TablePlace → Members → Reading ℕ
 jitter_at One p ms = Ok 0
 jitter_at Two p ms = number_at p (codes "jitter_us") 0 60000000 ms
 
@@ -81,7 +81,7 @@ bus_keys One = codes "name" ∷ codes "speed" ∷ codes "queue" ∷ codes "strea
 bus_keys Two = codes "name" ∷ codes "speed" ∷ codes "queue" ∷ codes "police" ∷ codes "stream" ∷ []
 
 -- whether a bus refuses early words; in version 1 none does
-abbrev pub police_at : Version → Place → Members → Reading Bool
+abbrev pub police_at : Version → TablePlace → Members → Reading Bool
 police_at One p ms = Ok false
 police_at Two p ms = bool_at p (codes "police") ms
 
@@ -149,7 +149,7 @@ read_output d v = do
 
 -- ---- the whole text
 
-abbrev pub top : Place
+abbrev pub top : TablePlace
 top = place Top 0
 
 -- the version of this number
@@ -159,7 +159,7 @@ version_in (Some (negsuc n)) = None
 version_in (Some (pos n)) = if n == 1 then Some One else if n == 2 then Some Two else None
 
 -- the number 1 or 2 at `version`, else T02
-abbrev pub version_of : Place → Members → Reading Version
+abbrev pub version_of : TablePlace → Members → Reading Version
 version_of p ms = found p VersionUnknown (version_in (option_and_then as_integer (get_member (codes "version") ms)))
 
 abbrev pub wanted_keys : List (List ℕ)
@@ -169,7 +169,7 @@ abbrev pub top_keys : List (List ℕ)
 top_keys = codes "version" ∷ codes "tick_us" ∷ codes "parameter" ∷ codes "bus" ∷ codes "router" ∷ codes "output" ∷ []
 
 -- the length of a tick, where the top's keys are right
-unfoldable pub tick_of : Place → Members → Reading ℕ
+unfoldable pub tick_of : TablePlace → Members → Reading ℕ
 tick_of t ms = do
   k ← known t top_keys ms
   p ← present t wanted_keys ms
@@ -183,7 +183,7 @@ pub record TopItems : Type 0 where
   pub outputs : Items
 
 -- of at most so many tables, before these are looked at
-unfoldable pub lists_of : Place → Members → Reading TopItems
+unfoldable pub lists_of : TablePlace → Members → Reading TopItems
 lists_of t ms = do
   parameters ← optional_at t (codes "parameter") 2048 ms
   buses ← optional_at t (codes "bus") 64 ms

@@ -7,7 +7,7 @@ ghost use Rattle.dc_toml.specs.Faults.{seen};
 ghost use Rattle.dc_toml.specs.Keys.{only_keys, all_keys, table_of, known as known_keys, present as present_keys, keyed as keyed_by, bool_at, number_in, number_at, text_at, name_at, speed_at, format_at, label_at, equipment_at, sdi_at, stream_sdi_at};
 ghost use Rattle.dc_toml.specs.Reading.{version_of, bus_keys, stream_keys, police_at, jitter_at};
 
-use crate::place::Place;
+use crate::place::TablePlace;
 use crate::spellings;
 use dc_dict::Equipment;
 use dc_parts::{Name, Speed, TableFault, TableRule, Version};
@@ -15,7 +15,7 @@ use dc_word::{Format, Label, Sdi};
 use toml::{Table, Value};
 
 /// The table that a value is.
-pub fn table(value: &Value, place: Place) -> Result<&Table, TableFault>
+pub fn table(value: &Value, place: TablePlace) -> Result<&Table, TableFault>
     ensures { seen (λ t. table_view t.now) result ≡ table_of place (view value.now) }
 {
     match value.as_table() {
@@ -68,7 +68,7 @@ fn all_present(table: &Table, keys: &[&str]) -> bool
 }
 
 /// Refuses an unknown key.
-pub fn known(table: &Table, keys: &[&str], place: Place) -> Result<(), TableFault>
+pub fn known(table: &Table, keys: &[&str], place: TablePlace) -> Result<(), TableFault>
     ensures { result ≡ known_keys place (map (λ k. k.now) keys.now) (table_view table.now) }
 {
     if !only_known(table, keys) {
@@ -78,7 +78,7 @@ pub fn known(table: &Table, keys: &[&str], place: Place) -> Result<(), TableFaul
 }
 
 /// Refuses that one of these keys is absent.
-pub fn present(table: &Table, keys: &[&str], place: Place) -> Result<(), TableFault>
+pub fn present(table: &Table, keys: &[&str], place: TablePlace) -> Result<(), TableFault>
     ensures { result ≡ present_keys place (map (λ k. k.now) keys.now) (table_view table.now) }
 {
     if !all_present(table, keys) {
@@ -88,7 +88,7 @@ pub fn present(table: &Table, keys: &[&str], place: Place) -> Result<(), TableFa
 }
 
 /// Refuses an unknown key, and then that one of these is absent.
-pub fn keyed(table: &Table, keys: &[&str], place: Place) -> Result<(), TableFault>
+pub fn keyed(table: &Table, keys: &[&str], place: TablePlace) -> Result<(), TableFault>
     ensures { result ≡ keyed_by place (map (λ k. k.now) keys.now) (table_view table.now) }
 {
     known(table, keys, place)?;
@@ -96,7 +96,7 @@ pub fn keyed(table: &Table, keys: &[&str], place: Place) -> Result<(), TableFaul
 }
 
 /// Refuses keys that are not those of a bus.
-pub fn bus_keyed(table: &Table, version: Version, place: Place) -> Result<(), TableFault>
+pub fn bus_keyed(table: &Table, version: Version, place: TablePlace) -> Result<(), TableFault>
     ensures { result ≡ keyed_by place (bus_keys version) (table_view table.now) }
 {
     match version {
@@ -110,7 +110,7 @@ pub fn bus_keyed(table: &Table, version: Version, place: Place) -> Result<(), Ta
 }
 
 /// Refuses keys that are not those of a stream.
-pub fn stream_keyed(table: &Table, version: Version, place: Place) -> Result<(), TableFault>
+pub fn stream_keyed(table: &Table, version: Version, place: TablePlace) -> Result<(), TableFault>
     ensures { result ≡ keyed_by place (stream_keys version) (table_view table.now) }
 {
     match version {
@@ -131,7 +131,7 @@ fn integer(table: &Table, key: &str) -> Option<i64>
 }
 
 /// The version of the text: the number 1 or 2 at `version`.
-pub fn version(table: &Table, place: Place) -> Result<Version, TableFault>
+pub fn version(table: &Table, place: TablePlace) -> Result<Version, TableFault>
     ensures { result ≡ version_of place (table_view table.now) }
 {
     match integer(table, "version") {
@@ -149,7 +149,7 @@ fn bool_there(table: &Table, key: &str) -> Option<bool>
 }
 
 /// The truth value at a key.
-pub fn truth(table: &Table, key: &str, place: Place) -> Result<bool, TableFault>
+pub fn truth(table: &Table, key: &str, place: TablePlace) -> Result<bool, TableFault>
     ensures { result ≡ bool_at place key.now (table_view table.now) }
 {
     match bool_there(table, key) {
@@ -159,7 +159,7 @@ pub fn truth(table: &Table, key: &str, place: Place) -> Result<bool, TableFault>
 }
 
 /// Whether a bus refuses early words. In version 1 none does.
-pub fn police(table: &Table, version: Version, place: Place) -> Result<bool, TableFault>
+pub fn police(table: &Table, version: Version, place: TablePlace) -> Result<bool, TableFault>
     ensures { result ≡ police_at version place (table_view table.now) }
 {
     match version {
@@ -169,7 +169,7 @@ pub fn police(table: &Table, version: Version, place: Place) -> Result<bool, Tab
 }
 
 /// The jitter of a stream in microseconds. In version 1 there is none.
-pub fn jitter(table: &Table, version: Version, place: Place) -> Result<u32, TableFault>
+pub fn jitter(table: &Table, version: Version, place: TablePlace) -> Result<u32, TableFault>
     ensures { result ≡ jitter_at version place (table_view table.now) }
 {
     match version {
@@ -179,7 +179,12 @@ pub fn jitter(table: &Table, version: Version, place: Place) -> Result<u32, Tabl
 }
 
 /// A number within its range.
-pub fn within(number: Option<i64>, low: u32, high: u32, place: Place) -> Result<u32, TableFault>
+pub fn within(
+    number: Option<i64>,
+    low: u32,
+    high: u32,
+    place: TablePlace,
+) -> Result<u32, TableFault>
     ensures { result ≡ number_in place low high number }
 {
     let Some(n) = number else {
@@ -197,7 +202,7 @@ pub fn number(
     key: &str,
     low: u32,
     high: u32,
-    place: Place,
+    place: TablePlace,
 ) -> Result<u32, TableFault>
     ensures { result ≡ number_at place key.now low high (table_view table.now) }
 {
@@ -213,7 +218,7 @@ fn text_there<'a>(table: &'a Table, key: &str) -> Option<&'a str>
 }
 
 /// The text at a key.
-pub fn text<'a>(table: &'a Table, key: &str, place: Place) -> Result<&'a str, TableFault>
+pub fn text<'a>(table: &'a Table, key: &str, place: TablePlace) -> Result<&'a str, TableFault>
     ensures { seen (λ s. s.now) result ≡ text_at place key.now (table_view table.now) }
 {
     match text_there(table, key) {
@@ -223,7 +228,7 @@ pub fn text<'a>(table: &'a Table, key: &str, place: Place) -> Result<&'a str, Ta
 }
 
 /// The name at a key.
-pub fn name(table: &Table, key: &str, place: Place) -> Result<Name, TableFault>
+pub fn name(table: &Table, key: &str, place: TablePlace) -> Result<Name, TableFault>
     ensures { result ≡ name_at place key.now (table_view table.now) }
 {
     let text = text(table, key, place)?;
@@ -234,7 +239,7 @@ pub fn name(table: &Table, key: &str, place: Place) -> Result<Name, TableFault>
 }
 
 /// The speed at a key.
-pub fn speed(table: &Table, key: &str, place: Place) -> Result<Speed, TableFault>
+pub fn speed(table: &Table, key: &str, place: TablePlace) -> Result<Speed, TableFault>
     ensures { result ≡ speed_at place key.now (table_view table.now) }
 {
     let text = text(table, key, place)?;
@@ -245,7 +250,7 @@ pub fn speed(table: &Table, key: &str, place: Place) -> Result<Speed, TableFault
 }
 
 /// The format at a key.
-pub fn format(table: &Table, key: &str, place: Place) -> Result<Format, TableFault>
+pub fn format(table: &Table, key: &str, place: TablePlace) -> Result<Format, TableFault>
     ensures { result ≡ format_at place key.now (table_view table.now) }
 {
     let text = text(table, key, place)?;
@@ -256,7 +261,7 @@ pub fn format(table: &Table, key: &str, place: Place) -> Result<Format, TableFau
 }
 
 /// The label at a key.
-pub fn label(table: &Table, key: &str, place: Place) -> Result<Label, TableFault>
+pub fn label(table: &Table, key: &str, place: TablePlace) -> Result<Label, TableFault>
     ensures { result ≡ label_at place key.now (table_view table.now) }
 {
     let text = text(table, key, place)?;
@@ -267,7 +272,7 @@ pub fn label(table: &Table, key: &str, place: Place) -> Result<Label, TableFault
 }
 
 /// The equipment code at a key.
-pub fn equipment(table: &Table, key: &str, place: Place) -> Result<Equipment, TableFault>
+pub fn equipment(table: &Table, key: &str, place: TablePlace) -> Result<Equipment, TableFault>
     ensures { result ≡ equipment_at place key.now (table_view table.now) }
 {
     let text = text(table, key, place)?;
@@ -278,7 +283,7 @@ pub fn equipment(table: &Table, key: &str, place: Place) -> Result<Equipment, Ta
 }
 
 /// The SDI at a key, 0 to 3.
-pub fn sdi(table: &Table, key: &str, place: Place) -> Result<Sdi, TableFault>
+pub fn sdi(table: &Table, key: &str, place: TablePlace) -> Result<Sdi, TableFault>
     ensures { result ≡ sdi_at place key.now (table_view table.now) }
 {
     let number = number(table, key, 0, 3, place)?;
@@ -289,7 +294,7 @@ pub fn sdi(table: &Table, key: &str, place: Place) -> Result<Sdi, TableFault>
 }
 
 /// The SDI of a stream at a key: 0 to 3, or `"any"` for none.
-pub fn stream_sdi(table: &Table, key: &str, place: Place) -> Result<Option<Sdi>, TableFault>
+pub fn stream_sdi(table: &Table, key: &str, place: TablePlace) -> Result<Option<Sdi>, TableFault>
     ensures { result ≡ stream_sdi_at place key.now (table_view table.now) }
 {
     match text_there(table, key) {

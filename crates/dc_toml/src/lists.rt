@@ -7,7 +7,7 @@ ghost use Rattle.dc_toml.specs.Faults.{seen, Gives, wanted};
 ghost use Rattle.dc_toml.specs.Keys.{array_at, all_items, is_text, is_number, each_item, name_item as name_in_item, number_item, counted, items_len, names_at, offsets_at, tables_at, optional_at};
 
 use crate::keys::{find, within};
-use crate::place::Place;
+use crate::place::TablePlace;
 use dc_parts::{BuildError, Name, TableFault, TableRule};
 use std::alloc::{AllocError, Global};
 use toml::{Table, Value};
@@ -22,7 +22,7 @@ fn array_there<'a>(table: &'a Table, key: &str) -> Option<&'a [Value]>
 }
 
 // The items of the list at a key.
-fn array<'a>(table: &'a Table, key: &str, place: Place) -> Result<&'a [Value], TableFault>
+fn array<'a>(table: &'a Table, key: &str, place: TablePlace) -> Result<&'a [Value], TableFault>
     ensures { seen (λ v. items_view v.now) result ≡ array_at place key.now (table_view table.now) }
 {
     match array_there(table, key) {
@@ -40,7 +40,12 @@ fn length(values: &[Value]) -> usize
 }
 
 // Refuses a list that is too short or too long.
-fn check_count(values: &[Value], low: usize, high: usize, place: Place) -> Result<(), TableFault>
+fn check_count(
+    values: &[Value],
+    low: usize,
+    high: usize,
+    place: TablePlace,
+) -> Result<(), TableFault>
     ensures { result ≡ counted place low high (items_view values.now) }
 {
     let count = length(values);
@@ -75,7 +80,7 @@ fn are_numbers(values: &[Value]) -> bool
 }
 
 // Refuses a list with an item of another kind.
-fn kinds(good: bool, place: Place) -> Result<(), TableFault>
+fn kinds(good: bool, place: TablePlace) -> Result<(), TableFault>
     ensures { result ≡ wanted place WrongKind good }
 {
     if !good {
@@ -85,7 +90,7 @@ fn kinds(good: bool, place: Place) -> Result<(), TableFault>
 }
 
 // The name that a value is.
-fn name_item(value: &Value, place: Place) -> Result<Name, TableFault>
+fn name_item(value: &Value, place: TablePlace) -> Result<Name, TableFault>
     ensures { result ≡ name_in_item place (view value.now) }
 {
     let Some(text) = value.as_str() else {
@@ -98,7 +103,7 @@ fn name_item(value: &Value, place: Place) -> Result<Name, TableFault>
 }
 
 // The names that values are.
-fn each_name(alloc: Global, values: &[Value], place: Place) -> Result<Vec<Name>, BuildError>
+fn each_name(alloc: Global, values: &[Value], place: TablePlace) -> Result<Vec<Name>, BuildError>
     ensures { Gives (λ v. v.items) result (each_item (name_in_item place) (items_view values.now)) }
 {
     let mut names = Vec::new(alloc);
@@ -115,7 +120,7 @@ fn each_name(alloc: Global, values: &[Value], place: Place) -> Result<Vec<Name>,
 }
 
 // The offsets that values are.
-fn each_offset(alloc: Global, values: &[Value], place: Place) -> Result<Vec<u32>, BuildError>
+fn each_offset(alloc: Global, values: &[Value], place: TablePlace) -> Result<Vec<u32>, BuildError>
     ensures { Gives (λ v. v.items) result (each_item (number_item place 0 99999) (items_view values.now)) }
 {
     let mut offsets = Vec::new(alloc);
@@ -139,7 +144,7 @@ pub fn names(
     key: &str,
     low: usize,
     high: usize,
-    place: Place,
+    place: TablePlace,
 ) -> Result<Vec<Name>, BuildError>
     ensures { Gives (λ v. v.items) result (names_at place key.now low high (table_view table.now)) }
 {
@@ -158,7 +163,7 @@ pub fn offsets(
     key: &str,
     low: usize,
     high: usize,
-    place: Place,
+    place: TablePlace,
 ) -> Result<Vec<u32>, BuildError>
     ensures { Gives (λ v. v.items) result (offsets_at place key.now low high (table_view table.now)) }
 {
@@ -176,7 +181,7 @@ pub fn tables<'a>(
     key: &str,
     low: usize,
     high: usize,
-    place: Place,
+    place: TablePlace,
 ) -> Result<&'a [Value], TableFault>
     ensures { seen (λ v. items_view v.now) result ≡ tables_at place key.now low high (table_view table.now) }
 {
@@ -190,7 +195,7 @@ pub fn optional_tables<'a>(
     table: &'a Table,
     key: &str,
     high: usize,
-    place: Place,
+    place: TablePlace,
 ) -> Result<&'a [Value], TableFault>
     ensures { seen (λ v. items_view v.now) result ≡ optional_at place key.now high (table_view table.now) }
 {

@@ -7,17 +7,17 @@ use dc_parts::{Section, TableFault, TableRule};
 
 /// A table of the text: its section, and its index there.
 #[derive(Clone, Copy, Debug, PartialEq)]
-pub struct Place {
+pub struct TablePlace {
     pub section: Section,
     pub index: usize,
 }
 
-impl Place {
+impl TablePlace {
     /// The table of this section with this index.
-    pub fn new(section: Section, index: usize) -> Place
+    pub fn new(section: Section, index: usize) -> TablePlace
         ensures { result ≡ section_place section index }
     {
-        Place { section, index }
+        TablePlace { section, index }
     }
 
     /// The fault with this code here.

@@ -2,13 +2,13 @@
 ghost use Rattle.std.specs.Prelude.{◌≡◌};
 ghost use Rattle.toml.specs.View.{table_view, items_view};
 ghost use Rattle.dc_toml.specs.Faults.{seen, Gives, Leaves};
-ghost use Rattle.dc_toml.specs.Told.{TellsTables};
+ghost use Rattle.dc_toml.specs.Reported.{TellsTables};
 ghost use Rattle.dc_toml.specs.Written.{written};
 ghost use Rattle.dc_toml.specs.Reading.{document_of, tick_of, lists_of, members_of, tables_in, tables_of};
 
 use crate::keys::{known, number, present, version};
 use crate::lists::optional_tables;
-use crate::place::Place;
+use crate::place::TablePlace;
 use crate::sections::read_tables_of;
 use dc_dict::Parameter;
 use dc_parts::{
@@ -23,7 +23,7 @@ pub const TEXT_LIMIT: usize = 1_048_576;
 
 // The length of a tick, where the top's keys are right.
 #[tactic(auto, unfolding(crate::specs::Reading::tick_of))]
-fn tick(document: &Table, top: Place) -> Result<u32, TableFault>
+fn tick(document: &Table, top: TablePlace) -> Result<u32, TableFault>
     ensures { result ≡ tick_of top (table_view document.now) }
 {
     known(
@@ -46,7 +46,7 @@ struct TopLists<'a> {
 
 // The four lists of tables at the top, before their members are looked at.
 #[tactic(auto, unfolding(crate::specs::Reading::lists_of))]
-fn lists<'a>(document: &'a Table, top: Place) -> Result<TopLists<'a>, TableFault>
+fn lists<'a>(document: &'a Table, top: TablePlace) -> Result<TopLists<'a>, TableFault>
     ensures { seen (λ l. record { parameters = items_view l.parameters.now; buses = items_view l.buses.now; routers = items_view l.routers.now; outputs = items_view l.outputs.now }) result ≡ lists_of top (table_view document.now) }
 {
     let parameters = optional_tables(document, "parameter", 2048, top)?;
@@ -61,7 +61,7 @@ fn lists<'a>(document: &'a Table, top: Place) -> Result<TopLists<'a>, TableFault
     })
 }
 
-// Puts the tables of the four lists behind what was read before them.
+// Puts the tables of the four lists after what was read before them.
 #[tactic(auto, unfolding(crate::specs::Reading::members_of))]
 fn members(
     alloc: Global,
@@ -84,7 +84,7 @@ fn members(
 fn parts(alloc: Global, document: &Table) -> Result<Parts, BuildError>
     ensures { Gives written result (tables_in (table_view document.now)) }
 {
-    let top = Place::new(Section::Top, 0);
+    let top = TablePlace::new(Section::Top, 0);
     let version = version(document, top)?;
     let tick_us = tick(document, top)?;
     let lists = lists(document, top)?;
@@ -105,7 +105,7 @@ fn parts(alloc: Global, document: &Table) -> Result<Parts, BuildError>
 fn document(alloc: Global, text: &[u8]) -> Result<Table, BuildError>
     ensures { Gives table_view result (document_of text.now) }
 {
-    let refused = Place::new(Section::Top, 0).fault(TableRule::NotToml);
+    let refused = TablePlace::new(Section::Top, 0).fault(TableRule::NotToml);
     if text.len() > TEXT_LIMIT {
         return Err(BuildError::Refused(refused));
     }

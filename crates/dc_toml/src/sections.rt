@@ -12,7 +12,7 @@ use crate::keys::{
     stream_keyed, stream_sdi, table,
 };
 use crate::lists::{names, offsets, tables};
-use crate::place::Place;
+use crate::place::TablePlace;
 use dc_dict::Parameter;
 use dc_parts::{
     BuildError, BusPart, LabelPart, OutputPart, Parts, RouterPart, Section, StreamPart,
@@ -25,7 +25,7 @@ pub trait TopTable {
     // What stands after one more of these, or its first fault.
     ghost reading: { Written → Data → Result Written SpecFault };
 
-    /// Puts the table that a value is behind what was read before it.
+    /// Puts the table that a value is after what was read before it.
     fn read(alloc: Global, parts: &mut Parts, value: &Value) -> Result<(), BuildError>
         ensures { Leaves (written parts.new) result (reading (written parts.old) (view value.now)) };
 }
@@ -48,17 +48,17 @@ pub fn read_tables_of<T: TopTable>(
 }
 
 // The place of the next router.
-fn router_place(parts: &Parts) -> Place
+fn router_place(parts: &Parts) -> TablePlace
     ensures { result ≡ next_router (written parts.now) }
 {
-    Place::new(Section::Router, parts.router_count())
+    TablePlace::new(Section::Router, parts.router_count())
 }
 
 // The place of the next label.
-fn label_place(parts: &Parts) -> Place
+fn label_place(parts: &Parts) -> TablePlace
     ensures { result ≡ next_label (written parts.now) }
 {
-    Place::new(Section::Label, parts.label_count())
+    TablePlace::new(Section::Label, parts.label_count())
 }
 
 // One more router.
@@ -81,7 +81,7 @@ impl TopTable for Parameter {
 
     #[tactic(auto, unfolding(crate::specs::Reading::read_parameter))]
     fn read(alloc: Global, parts: &mut Parts, value: &Value) -> Result<(), BuildError> {
-        let place = Place::new(Section::Parameter, parts.parameter_count());
+        let place = TablePlace::new(Section::Parameter, parts.parameter_count());
         let table = table(value, place)?;
         let keys = &["label", "equipment", "format", "min_us", "max_us"];
         keyed(table, keys, place)?;
@@ -101,14 +101,14 @@ impl TopTable for Parameter {
     }
 }
 
-// Puts a stream of the last bus behind what was read before it.
+// Puts a stream of the last bus after what was read before it.
 #[tactic(auto, unfolding(crate::specs::Reading::read_stream))]
 fn read_stream(parts: &mut Parts, value: &Value) -> Result<(), BuildError>
     requires { 1 ≤ length parts.old.buses }
     ensures reading { Leaves (written parts.new) result (stream_reading (written parts.old) (view value.now)) }
     ensures buses { OnOk result (parts.new.buses ≡ parts.old.buses) }
 {
-    let place = Place::new(Section::Stream, parts.stream_count());
+    let place = TablePlace::new(Section::Stream, parts.stream_count());
     let bus = parts.bus_count() - 1;
     let version = parts.version();
     let table = table(value, place)?;
@@ -148,7 +148,7 @@ impl TopTable for BusPart {
 
     #[tactic(auto, unfolding(crate::specs::Reading::read_bus))]
     fn read(alloc: Global, parts: &mut Parts, value: &Value) -> Result<(), BuildError> {
-        let place = Place::new(Section::Bus, parts.bus_count());
+        let place = TablePlace::new(Section::Bus, parts.bus_count());
         let version = parts.version();
         let table = table(value, place)?;
         bus_keyed(table, version, place)?;
@@ -260,7 +260,7 @@ impl TopTable for OutputPart {
 
     #[tactic(auto, unfolding(crate::specs::Reading::read_output))]
     fn read(alloc: Global, parts: &mut Parts, value: &Value) -> Result<(), BuildError> {
-        let place = Place::new(Section::Output, parts.output_count());
+        let place = TablePlace::new(Section::Output, parts.output_count());
         let table = table(value, place)?;
         let keys = &["name", "speed", "steps", "within", "frame", "label"];
         keyed(table, keys, place)?;

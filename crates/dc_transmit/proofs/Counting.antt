@@ -5,7 +5,7 @@ use Rattle.std.specs.List.Sorted.{IsPartitionedBy, IsPartitionPoint}
 use Rattle.std.proofs.lemmas.Bool.{cases_lt}
 use Rattle.std.proofs.lemmas.List.Sums.{sum_by-cons}
 use Rattle.std.proofs.lemmas.List.Sorted.{IsPartitionedBy-leb, IsNonDecreasingBy-from_default}
-use Rattle.dc_bound.specs.Frame.{due_by, due_by_frames, due_in, IsFrame}
+use Rattle.dc_bound.specs.Frame.{due_by, due_by_frames, due_of_entry, IsFrame}
 use Rattle.dc_bound.specs.lemmas.Dues.{due_by-frames, due_by_frames-is, due_in_ascends, ascending_ge}
 use Rattle.dc_tables.specs.TableRows.{TableRows, AreValid, output_row}
 use Rattle.dc_tables.specs.declared.rows.Entry.{Entry}
@@ -36,7 +36,7 @@ pub few_due : (frame : ℕ) (es : List Entry) → IsFrame off no_entry frame es 
 few_due frame es f tick =
     let due = due_in_ascends off no_entry frame es f in
     elim (cases_lt (tick + 1) (due_by_frames off frame es tick)) [
-      | inl l ↦ absurd (omega (arith, (due_by_frames-is off no_entry frame es f (tick + 1) tick).0 l, ascending_ge (due_in off no_entry frame es) due (tick + 1)))
+      | inl l ↦ absurd (omega (arith, (due_by_frames-is off no_entry frame es f (tick + 1) tick).0 l, ascending_ge (due_of_entry off no_entry frame es) due (tick + 1)))
       | inr l ↦ l
     ]
 
@@ -46,7 +46,7 @@ parted frame r es f = IsPartitionedBy-leb off es r (IsNonDecreasingBy-from_defau
 
 pub due-found : (frame wide : ℕ) (es : List Entry) → wide ≡ frame → IsFrame off no_entry frame es → (tick i : ℕ) → i ≤ length es
     → IsPartitionPoint (λ (e : Entry). leb (off e) (tick % wide) ≡ true) (λ (e : Entry). leb (off e) (tick % wide) ≡ false) es i
-    → (tick / wide * length es + i ≡ due_by (due_in off no_entry frame es) tick) × (tick / wide * length es + i ≤ tick + 1)
+    → (tick / wide * length es + i ≡ due_by (due_of_entry off no_entry frame es) tick) × (tick / wide * length es + i ≤ tick + 1)
 due-found frame wide es same f tick i l point =
     let count = count-at (λ e. leb (off e) (tick % wide)) es i l (λ k h. point.0 k no_entry (omega arith) h) (λ k h j. point.1 k no_entry h j) in
     let q = ap (λ w. tick / w * length es) same in

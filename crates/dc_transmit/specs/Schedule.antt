@@ -1,6 +1,6 @@
 -- The transmit schedule of an output: a frame that comes again and again, and the entries of the frame in order of offset.
 use Rattle.std.specs.Prelude.{ℕ, ◌%◌, ◌≤◌, Bool, ◌==◌, List, length, slice_index_or}
-use Rattle.dc_bound.specs.Frame.{due_in, due_by, IsFrame}
+use Rattle.dc_bound.specs.Frame.{due_of_entry, due_by, IsFrame}
 use Rattle.dc_tables.specs.TableRows.{TableRows, output_row}
 use Rattle.dc_tables.specs.declared.rows.Entry.{Entry}
 use Rattle.dc_transmit.specs.Gaps.{gaps, least_gap, greatest_gap}
@@ -25,12 +25,12 @@ abbrev pub label_at : ScheduleData → ℕ → ℕ
 label_at s n = (slice_index_or s.entries (n % length s.entries) no_entry).label
 
 -- the tick in which that entry is due
-abbrev pub due_at : ScheduleData → ℕ → ℕ
-due_at s n = due_in off no_entry s.frame s.entries n
+abbrev pub due_tick : ScheduleData → ℕ → ℕ
+due_tick s n = due_of_entry off no_entry s.frame s.entries n
 
 -- how many entries are due at a tick or before it
 abbrev pub due_count : ScheduleData → ℕ → ℕ
-due_count s tick = due_by (due_at s) tick
+due_count s tick = due_by (due_tick s) tick
 
 -- whether an entry is the label's
 abbrev pub is_of : ℕ → Entry → Bool

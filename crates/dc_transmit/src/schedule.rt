@@ -1,7 +1,7 @@
 ghost use Rattle.std.specs.Prelude.{◌≡◌, ℕ, ◌+◌, ◌<◌, ◌≤◌, ◌^◌, length, slice_index_or};
 ghost use Rattle.dc_tables.specs.TableRows.{TableRows, output_row};
 ghost use Rattle.dc_transmit.specs.Gaps.{first_off, least_gap, greatest_gap};
-ghost use Rattle.dc_transmit.specs.Schedule.{ScheduleData, schedule_of, label_at, due_at, due_count, least_label_gap, greatest_label_gap, off, is_of};
+ghost use Rattle.dc_transmit.specs.Schedule.{ScheduleData, schedule_of, label_at, due_tick, due_count, least_label_gap, greatest_label_gap, off, is_of};
 
 use dc_tables::{Entry, Tables};
 use std::marker::Model;
@@ -56,7 +56,7 @@ impl<'a> Schedule<'a> {
     pub fn next(&self, sent: u64) -> (usize, u64)
         requires { sent ≤ 2 ^ 41 }
         ensures label { result.0 ≡ label_at self.now sent }
-        ensures due { result.1 ≡ due_at self.now sent }
+        ensures due { result.1 ≡ due_tick self.now sent }
     {
         let len = self.entries.len() as u64;
         let entry = self.entries[(sent % len) as usize];

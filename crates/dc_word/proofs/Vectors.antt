@@ -5,7 +5,7 @@ use Rattle.dc_word.specs.Bcd.{bcd_of}
 use Rattle.dc_word.specs.Format.{status_of}
 use Rattle.dc_word.specs.declared.format.Format.TheVariants.{Bnr, Bcd, Disc}
 use Rattle.dc_word.specs.declared.format.Status.TheVariants.{FailureWarning, NoComputedData, Normal, Plus, Minus}
-use Rattle.dc_word.specs.declared.word.Place.TheVariants.{Second, Fifth}
+use Rattle.dc_word.specs.declared.word.DigitPlace.TheVariants.{Second, Fifth}
 
 -- labels 203, 204 and 201 octal
 label_203 : label_of 0x600000C1 ≡ 131

@@ -7,4 +7,4 @@ mod word;
 
 pub use field::{Label, Sdi};
 pub use format::{Format, Status};
-pub use word::{Place, Word};
+pub use word::{DigitPlace, Word};

@@ -22,23 +22,23 @@ impl Model for Word {
 
 /// Which of the five BCD digits, the most significant being the first. The first has three bits and is always a digit.
 #[derive(Clone, Copy, Debug, PartialEq, Eq, Hash)]
-pub enum Place {
+pub enum DigitPlace {
     Second,
     Third,
     Fourth,
     Fifth,
 }
 
-impl Place {
+impl DigitPlace {
     /// The place as a number, 2 to 5.
     pub fn number(self) -> u8
         ensures { result ≡ number_of self }
     {
         match self {
-            Place::Second => 2,
-            Place::Third => 3,
-            Place::Fourth => 4,
-            Place::Fifth => 5,
+            DigitPlace::Second => 2,
+            DigitPlace::Third => 3,
+            DigitPlace::Fourth => 4,
+            DigitPlace::Fifth => 5,
         }
     }
 }
@@ -118,7 +118,7 @@ impl Word {
 
     /// The data as a number of five decimal digits, 0 to 79,999, or the first place whose group of bits is above 9.
     #[tactic(auto, unfolding(crate::specs::Bcd::bcd_of))]
-    pub fn bcd(self) -> Result<u32, Place>
+    pub fn bcd(self) -> Result<u32, DigitPlace>
         ensures { result ≡ bcd_of self }
     {
         let data = self.data();
@@ -127,13 +127,13 @@ impl Word {
         let fourth = data / 16 % 16;
         let fifth = data % 16;
         if second > 9 {
-            Err(Place::Second)
+            Err(DigitPlace::Second)
         } else if third > 9 {
-            Err(Place::Third)
+            Err(DigitPlace::Third)
         } else if fourth > 9 {
-            Err(Place::Fourth)
+            Err(DigitPlace::Fourth)
         } else if fifth > 9 {
-            Err(Place::Fifth)
+            Err(DigitPlace::Fifth)
         } else {
             Ok(data / 65_536 * 10_000 + second * 1000 + third * 100 + fourth * 10 + fifth)
         }
@@ -210,8 +210,8 @@ mod tests {
         assert_eq!(rt; Word(0xF000_00C1).bnr(), -262_144);
         assert_eq!(rt; Word(0x048D_1481).bcd(), Ok(12_345));
         assert_eq!(rt; Word(0x648D_1481).bcd(), Ok(12_345));
-        assert_eq!(rt; Word(0x048D_2881).bcd(), Err(Place::Fifth));
-        assert_eq!(rt; Place::Fifth.number(), 5);
+        assert_eq!(rt; Word(0x048D_2881).bcd(), Err(DigitPlace::Fifth));
+        assert_eq!(rt; DigitPlace::Fifth.number(), 5);
         assert_eq!(rt; Word(0xFFFF_FCC1).data(), 0x7FFFF);
     }
 

@@ -7,7 +7,7 @@ use Rattle.dc_bound.specs.lemmas.Counts.{within_cases, ceil_from, count_in-zero}
 use Rattle.dc_bound.specs.lemmas.Budget.{count_in_sum}
 use Rattle.dc_bound.specs.Rounds.{among, most_among}
 use Rattle.dc_bound.specs.lemmas.Cycle.{most_holds}
-use Rattle.dc_bound.specs.Frame.{due, IsDue, due_at, Offsets}
+use Rattle.dc_bound.specs.Frame.{due, IsDue, entries_at, Offsets}
 
 pub one_some : (ts : List ℕ) (t k : ℕ) → k < length ts → get_or ts k 0 ≡ t → 1 ≤ count_in t 1 ts
 unfolding count_in
@@ -62,7 +62,7 @@ module _ (frame : ℕ) (offsets : List ℕ) (o : Offsets frame offsets) where
             omega (arith, ap (λ q. q * frame) e, o.ascend (i % length offsets) (j % length offsets) rem b)
       ]
 
-  pub due_each : (xs : List (ℕ × ℕ)) → IsDue frame offsets xs → (t : ℕ) → count_in t 1 (ticks_of xs) ≤ due_at offsets (t % frame)
+  pub due_each : (xs : List (ℕ × ℕ)) → IsDue frame offsets xs → (t : ℕ) → count_in t 1 (ticks_of xs) ≤ entries_at offsets (t % frame)
   due_each xs h t =
       elim (none_or_at (ticks_of xs) t) [
         | inl e ↦ omega arith
@@ -72,12 +72,12 @@ module _ (frame : ℕ) (offsets : List ℕ) (o : Offsets frame offsets) where
             omega (arith, most, one_some offsets (t % frame) (k % length offsets) (mod-lt k o.some) at)
       ]
 
-  pub due_window : (xs : List (ℕ × ℕ)) → IsDue frame offsets xs → (u d : ℕ) → count_in u d (ticks_of xs) ≤ among (λ i. due_at offsets i) frame u d
+  pub due_window : (xs : List (ℕ × ℕ)) → IsDue frame offsets xs → (u d : ℕ) → count_in u d (ticks_of xs) ≤ among (λ i. entries_at offsets i) frame u d
   unfolding among
   due_window xs h u zero = omega (arith, count_in-zero u (ticks_of xs))
   due_window xs h u (suc d) =
       let e : d + 1 ≡ suc d = omega arith in
       omega (arith, ap (λ x. count_in u x (ticks_of xs)) e, count_in_sum u d 1 (ticks_of xs), due_window xs h u d, due_each xs h (u + d))
 
-  pub due_most : 1 ≤ frame → (xs : List (ℕ × ℕ)) → IsDue frame offsets xs → (u d : ℕ) → count_in u d (ticks_of xs) ≤ most_among (λ i. due_at offsets i) frame d
-  due_most f xs h u d = omega (arith, due_window xs h u d, most_holds (λ i. due_at offsets i) frame f u d)
+  pub due_most : 1 ≤ frame → (xs : List (ℕ × ℕ)) → IsDue frame offsets xs → (u d : ℕ) → count_in u d (ticks_of xs) ≤ most_among (λ i. entries_at offsets i) frame d
+  due_most f xs h u d = omega (arith, due_window xs h u d, most_holds (λ i. entries_at offsets i) frame f u d)

@@ -4,7 +4,7 @@ use Rattle.std.proofs.lemmas.Bool.{cases_lt, ltb-true, ltb-false, lt-ltb}
 use Rattle.std.proofs.Math.Nat.{mod-lt, div-add-mod'}
 use Rattle.dc_bound.specs.Places.{count_below}
 use Rattle.dc_bound.specs.lemmas.Counts.{at_mod, at_div}
-use Rattle.dc_bound.specs.Frame.{due, Offsets, due_at}
+use Rattle.dc_bound.specs.Frame.{due, Offsets, entries_at}
 use Rattle.dc_bound.specs.lemmas.Due.{due_ascend, due_mod, one_some, none_or_at, ascend_one}
 
 -- ---- counting what is closed downwards
@@ -93,7 +93,7 @@ module _ (frame : ℕ) (offsets : List ℕ) (o : Offsets frame offsets) (some : 
       ap (λ n. n * frame + get_or offsets ((k / frame * length offsets + i) % length offsets) 0) a ∙ ap (λ n. k / frame * frame + get_or offsets n 0) b ∙ ap (λ n. k / frame * frame + n) e ∙ div-add-mod' k frame
 
   -- how many are due before a tick, one tick more
-  pub due_step : (k : ℕ) → before_tick (due frame offsets) (due_ascend frame offsets o) (suc k) ≡ before_tick (due frame offsets) (due_ascend frame offsets o) k + due_at offsets (k % frame)
+  pub due_step : (k : ℕ) → before_tick (due frame offsets) (due_ascend frame offsets o) (suc k) ≡ before_tick (due frame offsets) (due_ascend frame offsets o) k + entries_at offsets (k % frame)
   due_step k =
       let D : ℕ → ℕ = due frame offsets in
       let up : (i j : ℕ) → i < j → due frame offsets i < due frame offsets j = due_ascend frame offsets o in

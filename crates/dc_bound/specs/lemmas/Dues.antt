@@ -8,7 +8,7 @@ use Rattle.std.proofs.lemmas.Bool.Decides.{nat_tests}
 use Rattle.std.proofs.lemmas.List.Sums.{count_by-le-length, sum_by-cons}
 use Rattle.dc_bound.specs.Places.{count_below}
 use Rattle.dc_bound.specs.lemmas.Counts.{ceil_from}
-use Rattle.dc_bound.specs.Frame.{due_in, IsFrame, due_by_frames, IsDueCount}
+use Rattle.dc_bound.specs.Frame.{due_of_entry, IsFrame, due_by_frames, IsDueCount}
 use Rattle.dc_bound.specs.Frame.{due_by}
 
 -- a count that tells the same of each entry is the same
@@ -104,7 +104,7 @@ module _ {E : Type 0} (off : E → ℕ) (z : E) where
 
   module _ (frame : ℕ) (es : List E) (f : IsFrame off z frame es) where
     -- due ticks ascend
-    pub due_in_ascends : (i j : ℕ) → i < j → due_in off z frame es i < due_in off z frame es j
+    pub due_in_ascends : (i j : ℕ) → i < j → due_of_entry off z frame es i < due_of_entry off z frame es j
     due_in_ascends i j h =
         let a : i % length es < length es = mod-lt i f.some in
         let b : j % length es < length es = mod-lt j f.some in
@@ -121,7 +121,7 @@ module _ {E : Type 0} (off : E → ℕ) (z : E) where
         ]
 
     -- by frames
-    pub due_by_frames-is : IsDueCount (due_in off z frame es) (due_by_frames off frame es)
+    pub due_by_frames-is : IsDueCount (due_of_entry off z frame es) (due_by_frames off frame es)
     due_by_frames-is n t =
         let a : n % length es < length es = mod-lt n f.some in
         let few : count_by (λ e. nat_le (off e) (t % frame)) es ≤ length es = count_by-le-length (λ e. nat_le (off e) (t % frame)) es in
@@ -150,5 +150,5 @@ module _ {E : Type 0} (off : E → ℕ) (z : E) where
         ]
 
     -- both counts are one
-    pub due_by-frames : (t : ℕ) → due_by (due_in off z frame es) t ≡ due_by_frames off frame es t
-    due_by-frames t = same_count (due_in off z frame es) (due_by (due_in off z frame es)) (due_by_frames off frame es) (due_by-is (due_in off z frame es) due_in_ascends) due_by_frames-is t
+    pub due_by-frames : (t : ℕ) → due_by (due_of_entry off z frame es) t ≡ due_by_frames off frame es t
+    due_by-frames t = same_count (due_of_entry off z frame es) (due_by (due_of_entry off z frame es)) (due_by_frames off frame es) (due_by-is (due_of_entry off z frame es) due_in_ascends) due_by_frames-is t

@@ -248,7 +248,7 @@ routed_tick-now room ms m h =
     let back : suc (length ms) - 1 ≡ length ms = omega arith in
     ap (λ o. ticks_in (before o (ms ++ m ∷ []))) next ∙ ap (λ k. ticks_in (take k (ms ++ m ∷ []))) back ∙ ap ticks_in here
 
--- where nothing more was taken, and words entered at most behind, the latest word is the same
+-- where nothing more was taken, and words entered at most after, the latest word is the same
 pub latest_by-same : (room : ℕ) (p : ℕ × ℕ → Bool) (ms : List Move) (m : Move) (ws : List (ℕ × ℕ)) → entered room (ms ++ m ∷ []) ≡ entered room ms ++ ws → taken room (ms ++ m ∷ []) ≡ taken room ms
     → latest_by room p (ms ++ m ∷ []) ≡ latest_by room p ms
 unfolding latest_by latest_number

@@ -12,7 +12,7 @@ use Rattle.dc_bound.specs.lemmas.Steps.{ticks_of-append}
 use Rattle.dc_bound.specs.lemmas.Counts.{at_mod, at_div}
 use Rattle.dc_bound.specs.Rounds.{among, greatest_to}
 use Rattle.dc_bound.specs.lemmas.Cycle.{most_holds, most_mono}
-use Rattle.dc_bound.specs.Frame.{due, IsDue, due_at, Offsets, IsLeastSpan}
+use Rattle.dc_bound.specs.Frame.{due, IsDue, entries_at, Offsets, IsLeastSpan}
 use Rattle.dc_bound.specs.lemmas.Due.{due_ascend, due_most}
 use Rattle.dc_bound.specs.Frame.{IsFrame, IsDueCount, due_by_frames}
 use Rattle.dc_bound.specs.lemmas.Dues.{due_by_frames-is}
@@ -102,15 +102,15 @@ module _ (frame : ℕ) (offsets : List ℕ) (o : Offsets frame offsets) where
   unfolding count
   counted = due_by_frames-is (λ x. x) 0 frame offsets is_frame
 
-  count-zero : count 0 ≡ due_at offsets (0 % frame)
+  count-zero : count 0 ≡ entries_at offsets (0 % frame)
   unfolding count
   count-zero =
       let place : 0 * frame + 0 ≡ 0 = omega arith in
       let none : 0 % frame ≡ 0 = ap (λ x. x % frame) (sym place) ∙ at_mod frame 0 0 some in
       let first : 0 / frame ≡ 0 = ap (λ x. x / frame) (sym place) ∙ at_div frame 0 0 some in
-      omega (arith, ap (λ x. x * length offsets) first, ap (λ x. up_to x offsets) none, ap (λ x. due_at offsets x) none, up_to-zero offsets)
+      omega (arith, ap (λ x. x * length offsets) first, ap (λ x. up_to x offsets) none, ap (λ x. entries_at offsets x) none, up_to-zero offsets)
 
-  count-next : (t : ℕ) → count (suc t) ≡ count t + due_at offsets (suc t % frame)
+  count-next : (t : ℕ) → count (suc t) ≡ count t + entries_at offsets (suc t % frame)
   unfolding count
   count-next t =
       let rest : t % frame < frame = mod-lt t some in
@@ -120,13 +120,13 @@ module _ (frame : ℕ) (offsets : List ℕ) (o : Offsets frame offsets) where
             let place : t / frame * frame + suc (t % frame) ≡ suc t = omega arith in
             let here : suc t % frame ≡ suc (t % frame) = ap (λ x. x % frame) (sym place) ∙ at_mod frame (t / frame) (suc (t % frame)) l in
             let round : suc t / frame ≡ t / frame = ap (λ x. x / frame) (sym place) ∙ at_div frame (t / frame) (suc (t % frame)) l in
-            omega (arith, ap (λ x. x * length offsets) round, ap (λ x. up_to x offsets) here, ap (λ x. due_at offsets x) here, up_to-next (t % frame) offsets)
+            omega (arith, ap (λ x. x * length offsets) round, ap (λ x. up_to x offsets) here, ap (λ x. entries_at offsets x) here, up_to-next (t % frame) offsets)
         | inr l ↦
             let place : suc (t / frame) * frame + 0 ≡ suc t = omega arith in
             let here : suc t % frame ≡ 0 = ap (λ x. x % frame) (sym place) ∙ at_mod frame (suc (t / frame)) 0 some in
             let round : suc t / frame ≡ suc (t / frame) = ap (λ x. x / frame) (sym place) ∙ at_div frame (suc (t / frame)) 0 some in
             let all = up_to-all (t % frame) offsets (λ i k. omega (arith, o.below i k)) in
-            omega (arith, ap (λ x. x * length offsets) round, ap (λ x. up_to x offsets) here, ap (λ x. due_at offsets x) here, up_to-zero offsets, all)
+            omega (arith, ap (λ x. x * length offsets) round, ap (λ x. up_to x offsets) here, ap (λ x. entries_at offsets x) here, up_to-zero offsets, all)
       ]
 
   -- how many are due before a tick
@@ -134,12 +134,12 @@ module _ (frame : ℕ) (offsets : List ℕ) (o : Offsets frame offsets) where
   before zero = 0
   before (suc t) = count t
 
-  before-next : (t : ℕ) → before (suc t) ≡ before t + due_at offsets (t % frame)
+  before-next : (t : ℕ) → before (suc t) ≡ before t + entries_at offsets (t % frame)
   unfolding before
   before-next zero = omega (arith, count-zero)
   before-next (suc t) = count-next t
 
-  among_before : (n d : ℕ) → among (λ i. due_at offsets i) frame n d + before n ≡ before (n + d)
+  among_before : (n d : ℕ) → among (λ i. entries_at offsets i) frame n d + before n ≡ before (n + d)
   unfolding among
   among_before n zero = let e : n + 0 ≡ n = omega arith in omega (arith, ap before e)
   among_before n (suc d) =
@@ -155,8 +155,8 @@ module _ (frame : ℕ) (offsets : List ℕ) (o : Offsets frame offsets) where
   pub cap-span : (k d : ℕ) → (k < cyclic_cap frame offsets d) ↔ HasSpan frame offsets k d
   cap-span k d = (
     (λ h.
-        let at = greatest_at (frame - 1) (λ n. among (λ i. due_at offsets i) frame n d) in
-        let many : k < among (λ i. due_at offsets i) frame at.0 d = omega (arith, at.2) in
+        let at = greatest_at (frame - 1) (λ n. among (λ i. entries_at offsets i) frame n d) in
+        let many : k < among (λ i. entries_at offsets i) frame at.0 d = omega (arith, at.2) in
         let last = (before_is (before at.0 + k) (at.0 + d)).0 (omega (arith, among_before at.0 d)) in
         let first : at.0 ≤ due frame offsets (before at.0) = elim (cases_lt (due frame offsets (before at.0)) at.0) [ inl l ↦ absurd (let bad = (before_is (before at.0) at.0).1 l in omega (arith, bad)) | inr l ↦ omega arith ] in
         (before at.0, omega arith)),
@@ -164,7 +164,7 @@ module _ (frame : ℕ) (offsets : List ℕ) (o : Offsets frame offsets) where
         let n : ℕ = due frame offsets h.0 in
         let first : before (due frame offsets h.0) ≤ h.0 = elim (cases_lt h.0 (before (due frame offsets h.0))) [ inl l ↦ absurd (let bad = (before_is h.0 (due frame offsets h.0)).0 l in omega (arith, bad)) | inr l ↦ omega arith ] in
         let last = (before_is (h.0 + k) (due frame offsets h.0 + d)).1 h.1 in
-        omega (arith, among_before (due frame offsets h.0) d, most_holds (λ i. due_at offsets i) frame some (due frame offsets h.0) d)),
+        omega (arith, among_before (due frame offsets h.0) d, most_holds (λ i. entries_at offsets i) frame some (due frame offsets h.0) d)),
   )
 
   -- entries come again a frame later
@@ -215,7 +215,7 @@ module _ (frame : ℕ) (offsets : List ℕ) (o : Offsets frame offsets) where
       ]
 
   pub cap_grows : (d e : ℕ) → d ≤ e → cyclic_cap frame offsets d ≤ cyclic_cap frame offsets e
-  cap_grows d e h = most_mono (λ i. due_at offsets i) frame d e h
+  cap_grows d e h = most_mono (λ i. entries_at offsets i) frame d e h
 
   zero_front : (k : ℕ) → 0 + k ≡ k
   zero_front k = omega arith

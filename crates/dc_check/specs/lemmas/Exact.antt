@@ -13,13 +13,13 @@ use Rattle.std.proofs.lemmas.Slice.Eq.{slice_eq-Decides, bytes_eq-Decides}
 use Rattle.dc_bound.specs.Places.{when, or_else}
 use Rattle.dc_busy.specs.BusyWindow.{BacklogBounded, DelayBounded}
 use Rattle.dc_cert.specs.Bounds.{InputBound, OutputBound, CertificateRows, input_bound, output_bound, input_numbers, output_numbers, numbers_of}
-use Rattle.dc_cert.specs.Claims.{Claims}
+use Rattle.dc_cert.specs.NamedRows.{NamedRows}
 use Rattle.dc_check.specs.Accepts.{AcceptsInput, AcceptsOutput, AcceptsLabel, AcceptsNumbers, IsNamed, AreNamed, Accepts, gaps_of, label_delay, source_delay}
 use Rattle.dc_check.specs.Verdict.{unless, at_window, first_of, is_window, first_failing, backlog_failure, delay_failure, is_named, IsSized, name_rules, misnaming, range_rules, input_rules, output_rules, label_rules, job_count, job_verdict, first_job_fault, verdict_of}
 use Rattle.dc_check.specs.declared.fault.CheckFault.{CheckFault}
 use Rattle.dc_check.specs.declared.fault.Condition.{Condition}
-use Rattle.dc_check.specs.declared.fault.Part.{Part}
-use Rattle.dc_check.specs.declared.fault.Part.TheVariants.{Inputs, Outputs}
+use Rattle.dc_check.specs.declared.fault.CertificateList.{CertificateList}
+use Rattle.dc_check.specs.declared.fault.CertificateList.TheVariants.{Inputs, Outputs}
 use Rattle.dc_parts.specs.Names.{text_of}
 use Rattle.dc_tables.specs.TableRows.{TableRows, stream_row, label_row, bus_cap, bus_floor, output_cap, output_floor}
 
@@ -43,12 +43,12 @@ unfolding unless
 none-unless true fault h = refl
 none-unless false fault h = absurd cc
 
-at_window-none : (part : Part) (index : ℕ) (condition : Condition) (o : Option ℕ) → at_window part index condition o ≡ None → o ≡ None
+at_window-none : (part : CertificateList) (index : ℕ) (condition : Condition) (o : Option ℕ) → at_window part index condition o ≡ None → o ≡ None
 unfolding at_window
 at_window-none part index condition None h = refl
 at_window-none part index condition (Some w) h = absurd cc
 
-none-at_window : (part : Part) (index : ℕ) (condition : Condition) (o : Option ℕ) → o ≡ None → at_window part index condition o ≡ None
+none-at_window : (part : CertificateList) (index : ℕ) (condition : Condition) (o : Option ℕ) → o ≡ None → at_window part index condition o ≡ None
 unfolding at_window
 none-at_window part index condition None h = refl
 none-at_window part index condition (Some w) h = absurd cc
@@ -164,13 +164,13 @@ none-first_of : (rules : List (Option CheckFault)) → AllNone rules → first_o
 none-first_of [] h = refl
 none-first_of (rule ∷ rules) h = none-or rule (first_of rules) h.0 (none-first_of rules h.1)
 
-pub ranges-none : (part : Part) (index window delay : ℕ) → first_of (range_rules part index window delay) ≡ None → (1 ≤ window) × (window ≤ 100000) × (delay ≤ 100000)
+pub ranges-none : (part : CertificateList) (index window delay : ℕ) → first_of (range_rules part index window delay) ≡ None → (1 ≤ window) × (window ≤ 100000) × (delay ≤ 100000)
 ranges-none part index window delay h =
     let r = first_of-none (range_rules part index window delay) h in
     let w = window-is window (unless-none _ _ r.0) in
     (w.0, w.1, leb-true delay 100000 (unless-none _ _ r.1.0))
 
-none-ranges : (part : Part) (index window delay : ℕ) → 1 ≤ window → window ≤ 100000 → delay ≤ 100000 → first_of (range_rules part index window delay) ≡ None
+none-ranges : (part : CertificateList) (index window delay : ℕ) → 1 ≤ window → window ≤ 100000 → delay ≤ 100000 → first_of (range_rules part index window delay) ≡ None
 none-ranges part index window delay low high short =
     none-first_of (range_rules part index window delay) (none-unless _ _ (is-window window low high), (none-unless _ _ (le-leb delay 100000 short), tt))
 
@@ -224,8 +224,8 @@ module _ (t : TableRows) where
         let h = first_of-none (label_rules t x c) rules in
         record {
           gaps = record {
-            not_soon = all-le (λ g. (label_row t x).least + label_delay t c x) (λ g. g) (gaps_of t x) (unless-none _ _ h.0);
-            not_late = all-le (λ g. g + label_delay t c x) (λ g. (label_row t x).greatest) (gaps_of t x) (unless-none _ _ h.1.0);
+            not_soon = all-le (λ g. (label_row t x).minimum + label_delay t c x) (λ g. g) (gaps_of t x) (unless-none _ _ h.0);
+            not_late = all-le (λ g. g + label_delay t c x) (λ g. (label_row t x).maximum) (gaps_of t x) (unless-none _ _ h.1.0);
           };
           age = record {
             aged = all-le (λ s. (label_row t x).stale + source_delay t c s) (λ s. slice_index c.ages x) (label_row t x).sources (unless-none _ _ h.1.1.0);
@@ -237,9 +237,9 @@ module _ (t : TableRows) where
     none-label : (x : ℕ) → AcceptsLabel t x c → first_of (label_rules t x c) ≡ None
     none-label x ok =
         none-first_of (label_rules t x c) (
-          none-unless _ _ (le-all (λ g. (label_row t x).least + label_delay t c x) (λ g. g) (gaps_of t x) ok.gaps.not_soon),
+          none-unless _ _ (le-all (λ g. (label_row t x).minimum + label_delay t c x) (λ g. g) (gaps_of t x) ok.gaps.not_soon),
           (
-            none-unless _ _ (le-all (λ g. g + label_delay t c x) (λ g. (label_row t x).greatest) (gaps_of t x) ok.gaps.not_late),
+            none-unless _ _ (le-all (λ g. g + label_delay t c x) (λ g. (label_row t x).maximum) (gaps_of t x) ok.gaps.not_late),
             (
               none-unless _ _ (le-all (λ s. (label_row t x).stale + source_delay t c s) (λ s. slice_index c.ages x) (label_row t x).sources ok.age.aged),
               (
@@ -327,7 +327,7 @@ job-none t c ok k l =
 
 -- ---- the names, and the whole
 
-names-none : (t : TableRows) (claims : Claims) → misnaming t claims ≡ None → AreNamed t claims
+names-none : (t : TableRows) (claims : NamedRows) → misnaming t claims ≡ None → AreNamed t claims
 names-none t claims h =
     let r = first_of-none (name_rules t claims) h in
     record {
@@ -336,7 +336,7 @@ names-none t claims h =
       labels = named-is (length t.labels) (map (λ l. l.label) claims.labels) t.keys.labels (unless-none _ _ r.1.1.0);
     }
 
-none-names : (t : TableRows) (claims : Claims) → AreNamed t claims → misnaming t claims ≡ None
+none-names : (t : TableRows) (claims : NamedRows) → AreNamed t claims → misnaming t claims ≡ None
 none-names t claims ok =
     none-first_of (name_rules t claims) (
       none-unless _ _ (is-named (length t.buses) (map (λ i. i.bus) claims.inputs) t.keys.buses ok.inputs),
@@ -347,7 +347,7 @@ none-names t claims ok =
     )
 
 -- where no name is wrong, there are as many of each part as the tables have
-pub sized-by_names : (t : TableRows) (claims : Claims) → misnaming t claims ≡ None → IsSized t (numbers_of claims)
+pub sized-by_names : (t : TableRows) (claims : NamedRows) → misnaming t claims ≡ None → IsSized t (numbers_of claims)
 sized-by_names t claims h =
     let ok = names-none t claims h in
     record {
@@ -357,12 +357,12 @@ sized-by_names t claims h =
     }
 
 -- the same of an answer
-pub sized-answer : (t : TableRows) (claims : Claims) (answer : Option CheckFault) → answer ≡ misnaming t claims → IfNone answer (IsSized t (numbers_of claims))
+pub sized-answer : (t : TableRows) (claims : NamedRows) (answer : Option CheckFault) → answer ≡ misnaming t claims → IfNone answer (IsSized t (numbers_of claims))
 sized-answer t claims None is = sized-by_names t claims (sym is)
 sized-answer t claims (Some fault) is = tt
 
 -- no fault exactly where the certificate is accepted
-pub verdict-accepts : (t : TableRows) (claims : Claims) → (verdict_of t claims ≡ None) ↔ Accepts t claims
+pub verdict-accepts : (t : TableRows) (claims : NamedRows) → (verdict_of t claims ≡ None) ↔ Accepts t claims
 unfolding verdict_of
 verdict-accepts t claims = (
   (λ h.

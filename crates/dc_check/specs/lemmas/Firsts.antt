@@ -8,7 +8,7 @@ use Rattle.dc_busy.specs.BusyWindow.{BacklogAt, BacklogBounded, DelayAt, DelayBo
 use Rattle.dc_check.specs.lemmas.Exact.{or-none, none-or, none-backlog, none-delay, first_fails}
 use Rattle.dc_check.specs.Verdict.{unless, first_of, range_rules, first_failing, is_closing, backlog_failure, delay_failure}
 use Rattle.dc_check.specs.declared.fault.CheckFault.{CheckFault}
-use Rattle.dc_check.specs.declared.fault.Part.{Part}
+use Rattle.dc_check.specs.declared.fault.CertificateList.{CertificateList}
 
 -- one that finds a fault is the answer
 pub at_front : (x rest : Option CheckFault) → is_some x ≡ true → x ≡ option_or x rest
@@ -59,9 +59,9 @@ delay_failure-is cap floor window delay (Some w) h =
     sym (first_fails (λ v. nat_le (cap v) (floor (v - 1 + delay))) window w h.0 h.1 (fails _ _ h.2) (λ v low below. le-leb _ _ (h.3 v low below)))
 
 -- a test that tells an order is that order's
-pub told : (r : Bool) (a b : ℕ) → (IsTrue r ↔ (a ≤ b)) → r ≡ leb a b
-told true a b h = sym (le-leb a b (h.0 refl))
-told false a b h = sym (fails a b (λ l. let bad : false ≡ true = h.1 l in absurd cc))
+pub reported : (r : Bool) (a b : ℕ) → (IsTrue r ↔ (a ≤ b)) → r ≡ leb a b
+reported true a b h = sym (le-leb a b (h.0 refl))
+reported false a b h = sym (fails a b (λ l. let bad : false ≡ true = h.1 l in absurd cc))
 
 -- ---- rules, one by one
 
@@ -109,7 +109,7 @@ module _ (cap floor own_cap own_floor : ℕ → ℕ) (same_cap : (d : ℕ) → c
       at ∙ delay_failure-same window delay ∙ ap (λ n. delay_failure own_cap own_floor n delay) w ∙ ap (delay_failure own_cap own_floor own_window) d
 
 -- ranges at equal windows and delays
-pub ranges-read : (part : Part) (index window delay own_window own_delay : ℕ) (r : Option CheckFault) → r ≡ first_of (range_rules part index window delay) → window ≡ own_window → delay ≡ own_delay
+pub ranges-read : (part : CertificateList) (index window delay own_window own_delay : ℕ) (r : Option CheckFault) → r ≡ first_of (range_rules part index window delay) → window ≡ own_window → delay ≡ own_delay
     → r ≡ first_of (range_rules part index own_window own_delay)
 ranges-read part index window delay own_window own_delay r at w d =
     at ∙ ap (λ n. first_of (range_rules part index n delay)) w ∙ ap (λ n. first_of (range_rules part index own_window n)) d

@@ -3,7 +3,7 @@ use Rattle.std.proofs.Common.{◌≡◌, ℕ, zero, suc, ◌+◌, ◌-◌, ◌<�
 use Rattle.std.specs.Option.{option_or}
 use Rattle.std.proofs.lemmas.Bool.{cases_lt, lt-ltb, le-ltb}
 use Rattle.dc_cert.specs.Bounds.{CertificateRows, input_bound, output_bound, numbers_of}
-use Rattle.dc_cert.specs.Claims.{Claims}
+use Rattle.dc_cert.specs.NamedRows.{NamedRows}
 use Rattle.dc_check.specs.lemmas.Exact.{none-or}
 use Rattle.dc_check.specs.lemmas.Firsts.{at_front, nothing}
 use Rattle.dc_check.specs.Verdict.{first_of, misnaming, input_rules, output_rules, label_rules, job_count, job_ranges, job_rules, job_verdict, first_job_fault, verdict_of}
@@ -52,7 +52,7 @@ jobs-found f (suc n) k l before found =
 
 -- ---- the verdict, of the names and then of the jobs
 
-module _ (t : TableRows) (claims : Claims) where
+module _ (t : TableRows) (claims : NamedRows) where
   -- a name is wrong
   pub verdict-names : (fault : CheckFault) → misnaming t claims ≡ Some fault → verdict_of t claims ≡ Some fault
   unfolding verdict_of

@@ -3,15 +3,15 @@ use Rattle.std.proofs.Common.{◌≡◌, ℕ, zero, suc, ◌+◌, ◌-◌, ◌<�
 use Rattle.std.specs.Option.{option_or}
 use Rattle.std.proofs.lemmas.Bool.{cases_lt}
 use Rattle.dc_cert.specs.Bounds.{CertificateRows, InputBound, OutputBound, input_bound, output_bound, numbers_of}
-use Rattle.dc_cert.specs.Claims.{Claims}
+use Rattle.dc_cert.specs.NamedRows.{NamedRows}
 use Rattle.dc_check.specs.lemmas.Exact.{job-input, job-output, job-label}
 use Rattle.dc_check.specs.Placed.{IsPlaced, part_count}
 use Rattle.dc_check.specs.Verdict.{fault_at, unless, at_window, first_of, name_rules, misnaming, range_rules, input_rules, output_rules, label_rules, job_count, job_verdict, first_job_fault, verdict_of}
 use Rattle.dc_check.specs.declared.fault.CheckFault.{CheckFault}
 use Rattle.dc_check.specs.declared.fault.Condition.{Condition}
 use Rattle.dc_check.specs.declared.fault.Condition.TheVariants.{NamesDiffer}
-use Rattle.dc_check.specs.declared.fault.Part.{Part}
-use Rattle.dc_check.specs.declared.fault.Part.TheVariants.{Inputs, Outputs, Labels}
+use Rattle.dc_check.specs.declared.fault.CertificateList.{CertificateList}
+use Rattle.dc_check.specs.declared.fault.CertificateList.TheVariants.{Inputs, Outputs, Labels}
 use Rattle.dc_tables.specs.TableRows.{TableRows}
 
 module _ (P : CheckFault → Type 0) where
@@ -37,7 +37,7 @@ module _ (P : CheckFault → Type 0) where
   of_unless true fault h = tt
   of_unless false fault h = h
 
-  of_window : (part : Part) (index : ℕ) (condition : Condition) (o : Option ℕ) → ((w : ℕ) → P (fault_at part index condition w)) → Of (at_window part index condition o)
+  of_window : (part : CertificateList) (index : ℕ) (condition : Condition) (o : Option ℕ) → ((w : ℕ) → P (fault_at part index condition w)) → Of (at_window part index condition o)
   unfolding at_window
   of_window part index condition None h = tt
   of_window part index condition (Some w) h = h w
@@ -48,7 +48,7 @@ module _ (P : CheckFault → Type 0) where
   of_jobs verdict (suc n) h = of_or (first_job_fault verdict n) (verdict n) (of_jobs verdict n (λ k l. h k (omega arith))) (h n (omega arith))
 
 module _ (t : TableRows) where
-  ranges_placed : (part : Part) (index window delay : ℕ) → index < part_count t part → Of (IsPlaced t) (first_of (range_rules part index window delay))
+  ranges_placed : (part : CertificateList) (index window delay : ℕ) → index < part_count t part → Of (IsPlaced t) (first_of (range_rules part index window delay))
   ranges_placed part index window delay there =
       of_first (IsPlaced t) (range_rules part index window delay) (of_unless (IsPlaced t) _ _ (λ other. there), (of_unless (IsPlaced t) _ _ (λ other. there), tt))
 
@@ -89,15 +89,15 @@ module _ (t : TableRows) where
         ]
       ]
 
-  names_placed : (claims : Claims) → Of (IsPlaced t) (misnaming t claims)
+  names_placed : (claims : NamedRows) → Of (IsPlaced t) (misnaming t claims)
   names_placed claims =
-      let at : (holds : Bool) (part : Part) → Of (IsPlaced t) (unless holds (fault_at part 0 NamesDiffer 0)) = λ holds part. of_unless (IsPlaced t) holds (fault_at part 0 NamesDiffer 0) (λ other. absurd (other refl)) in
+      let at : (holds : Bool) (part : CertificateList) → Of (IsPlaced t) (unless holds (fault_at part 0 NamesDiffer 0)) = λ holds part. of_unless (IsPlaced t) holds (fault_at part 0 NamesDiffer 0) (λ other. absurd (other refl)) in
       of_first (IsPlaced t) (name_rules t claims) (at _ _, (at _ _, (at _ _, tt)))
 
-  verdict_of_placed : (claims : Claims) → Of (IsPlaced t) (verdict_of t claims)
+  verdict_of_placed : (claims : NamedRows) → Of (IsPlaced t) (verdict_of t claims)
   unfolding verdict_of
   verdict_of_placed claims = of_or (IsPlaced t) _ _ (names_placed claims) (of_jobs (IsPlaced t) (job_verdict t (numbers_of claims)) (job_count t) (job_placed (numbers_of claims)))
 
   -- the fault of a verdict is at a row that is there
-  pub verdict_placed : (claims : Claims) (fault : CheckFault) → verdict_of t claims ≡ Some fault → IsPlaced t fault
+  pub verdict_placed : (claims : NamedRows) (fault : CheckFault) → verdict_of t claims ≡ Some fault → IsPlaced t fault
   verdict_placed claims fault h = subst (Of (IsPlaced t)) h (verdict_of_placed claims)

@@ -32,7 +32,7 @@ push_more r s t front rest all n whole p q = (
   Appends-trans r s t front (take n rest) p q,
 )
 
--- bytes were put behind what waits
+-- bytes were put after what waits
 pub put_behind : (r : Option (List ℕ)) (old new bytes : List ℕ) → new ≡ old ++ bytes → Gathered r old r new bytes
 put_behind r old new bytes e = ([], Appends-nil r, e)
 

@@ -67,7 +67,7 @@ passed block at end count p =
     ∙ sym (drop-take count (end - (at + count)) (drop at block))
     ∙ ap (λ n. drop count (take n (drop at block))) (sym e)
 
--- what is held behind bytes that are passed over
+-- what is held after bytes that are passed over
 pub held_passed : (held : Held) (block : List ℕ) (at end room count : ℕ)
     → (let r : Held = record { bytes = take (end - at) (drop at block); room = room } in r) ≡ held → count ≤ length held.bytes
     → take (end - (at + count)) (drop (at + count) block) ≡ drop count held.bytes
@@ -93,7 +93,7 @@ has_no_line held n plain (inl p) line (rest, e, more, short, room) =
 has_no_line held n plain (inr p) line (rest, e, more, short, room) =
     feed_within n line rest (omega arith) (subst (λ l. NoFeed (take n l)) e plain)
 
--- a line feed behind n bytes that are none
+-- a line feed after n bytes that are none
 holds_line : (held : Held) (n : ℕ) → n < length held.bytes → n ≤ 64 → NoFeed (take n held.bytes) → drop n held.bytes ≡ 10 ∷ drop (n + 1) held.bytes → n < held.room
     → HoldsLine held (take n held.bytes)
 holds_line held n within short plain feed room = (
@@ -109,7 +109,7 @@ holds_line held n within short plain feed room = (
 abbrev pub held_of : List ℕ → ℕ → ℕ → ℕ → Held
 held_of block at end room = record { bytes = take (end - at) (drop at block); room = room }
 
--- a line feed was found behind n bytes
+-- a line feed was found after n bytes
 abbrev pub IsFeed : List ℕ → ℕ → Type 0
 IsFeed bytes n = (n < length bytes) × (n ≤ 64) × NoFeed (take n bytes) × (drop n bytes ≡ 10 ∷ drop (n + 1) bytes)
 

@@ -14,11 +14,11 @@ use Rattle.dc_bound.specs.Moves.Move.{In, Visit}
 use Rattle.dc_bound.specs.lemmas.Segments.{ticks-append, picks-append}
 use Rattle.dc_bound.specs.lemmas.Queued.{ins-append, visits-append, passed-le, le-passed}
 use Rattle.dc_bound.specs.lemmas.Least.{le-served_in}
-use Rattle.dc_bound.specs.Frame.{due, Offsets, due_at}
+use Rattle.dc_bound.specs.Frame.{due, Offsets, entries_at}
 use Rattle.dc_bound.specs.lemmas.Due.{due_ascend}
 use Rattle.dc_tables.specs.TableRows.{TableRows, AreValid, output_row, entry_row, offsets}
 use Rattle.dc_event.specs.Time.{ends, tick_after, send_of, sends}
-use Rattle.dc_event.specs.Outputs.{due_tick, due_by, sent, entry_in, due_in, output_move_of, output_moves}
+use Rattle.dc_event.specs.Outputs.{due_tick, due_by, sent, entry_in, entries_due, output_move_of, output_moves}
 use Rattle.dc_tables.specs.declared.rows.Entry.{Entry}
 use Rattle.dc_event.specs.declared.event.Event.{Event}
 use Rattle.dc_event.specs.declared.event.Event.TheVariants.{Tick, Arrive, Route, Send}
@@ -125,17 +125,17 @@ module _ (t : TableRows) (valid : AreValid t) (o : ℕ) (there : o < length t.ou
     ))
   ]
 
-  pub due_in-count : (k : ℕ) → length (ins (due_in t o k)) ≡ due_at (offsets t o) (k % (output_row t o).frame)
-  due_in-count k = entries_in-count (k % (output_row t o).frame) (output_row t o).entries
+  pub entries_due-count : (k : ℕ) → length (ins (entries_due t o k)) ≡ entries_at (offsets t o) (k % (output_row t o).frame)
+  entries_due-count k = entries_in-count (k % (output_row t o).frame) (output_row t o).entries
 
-  pub due_by-first : due_by t o 0 ≡ length (ins (due_in t o 0))
+  pub due_by-first : due_by t o 0 ≡ length (ins (entries_due t o 0))
   unfolding before_tick
   due_by-first =
-      omega (arith, due_by-is 0, due_step (output_row t o).frame (offsets t o) offsets_fit (valid.frames o there) 0, due_in-count 0)
+      omega (arith, due_by-is 0, due_step (output_row t o).frame (offsets t o) offsets_fit (valid.frames o there) 0, entries_due-count 0)
 
-  pub due_by-next : (k : ℕ) → due_by t o (suc k) ≡ due_by t o k + length (ins (due_in t o (suc k)))
+  pub due_by-next : (k : ℕ) → due_by t o (suc k) ≡ due_by t o k + length (ins (entries_due t o (suc k)))
   due_by-next k =
-      omega (arith, due_by-is (suc k), due_by-is k, due_step (output_row t o).frame (offsets t o) offsets_fit (valid.frames o there) (suc k), due_in-count (suc k))
+      omega (arith, due_by-is (suc k), due_by-is k, due_step (output_row t o).frame (offsets t o) offsets_fit (valid.frames o there) (suc k), entries_due-count (suc k))
 
 no_ins : length (ins []) ≡ 0
 unfolding ins
@@ -146,12 +146,12 @@ no_ins = refl
 pub output_moves-push : (t : TableRows) (o : ℕ) (run : List Event) (e : Event) → output_moves t o (run ++ e ∷ []) ≡ output_moves t o run ++ output_move_of t o run e
 unfolding output_moves
 output_moves-push t o run e =
-    ap (λ z. due_in t o 0 ++ z) (ap (λ l. flat_map (λ ms. ms) l) (each_place-push (output_move_of t o) run e) ∙ flat_map-append (λ ms. ms) (each_place (output_move_of t o) run) (output_move_of t o run e ∷ []) ∙ ap (λ ms. flat_map (λ ms. ms) (each_place (output_move_of t o) run) ++ ms) (append-nil (output_move_of t o run e)))
-    ∙ sym (append_assoc (due_in t o 0) (flat_map (λ ms. ms) (each_place (output_move_of t o) run)) (output_move_of t o run e))
+    ap (λ z. entries_due t o 0 ++ z) (ap (λ l. flat_map (λ ms. ms) l) (each_place-push (output_move_of t o) run e) ∙ flat_map-append (λ ms. ms) (each_place (output_move_of t o) run) (output_move_of t o run e ∷ []) ∙ ap (λ ms. flat_map (λ ms. ms) (each_place (output_move_of t o) run) ++ ms) (append-nil (output_move_of t o run e)))
+    ∙ sym (append_assoc (entries_due t o 0) (flat_map (λ ms. ms) (each_place (output_move_of t o) run)) (output_move_of t o run e))
 
-pub output_moves-nil : (t : TableRows) (o : ℕ) → output_moves t o [] ≡ due_in t o 0
+pub output_moves-nil : (t : TableRows) (o : ℕ) → output_moves t o [] ≡ entries_due t o 0
 unfolding output_moves each_place
-output_moves-nil t o = append-nil (due_in t o 0)
+output_moves-nil t o = append-nil (entries_due t o 0)
 
 pub output_moves-beginning : (t : TableRows) (o : ℕ) (past rest : List Event) → (after : List Move) × (output_moves t o (past ++ rest) ≡ output_moves t o past ++ after)
 output_moves-beginning t o past [] = ([], ap (output_moves t o) (append-nil past) ∙ sym (append-nil (output_moves t o past)))
@@ -159,20 +159,20 @@ output_moves-beginning t o past (e ∷ rest) =
     let r = output_moves-beginning t o (past ++ e ∷ []) rest in
     (output_move_of t o past e ++ r.0, ap (output_moves t o) (sym (append_assoc past (e ∷ []) rest)) ∙ r.1 ∙ ap (λ z. z ++ r.0) (output_moves-push t o past e) ∙ append_assoc (output_moves t o past) (output_move_of t o past e) r.0)
 
-pub due_in-none : (t : TableRows) (o k : ℕ) → (ticks_in (due_in t o k) ≡ 0) × (visits (due_in t o k) ≡ 0)
-due_in-none t o k = entries_in-none (k % (output_row t o).frame) (output_row t o).entries
+pub entries_due-none : (t : TableRows) (o k : ℕ) → (ticks_in (entries_due t o k) ≡ 0) × (visits (entries_due t o k) ≡ 0)
+entries_due-none t o k = entries_in-none (k % (output_row t o).frame) (output_row t o).entries
 
 -- ticks and visits of one event
 output_move-ticks : (t : TableRows) (o : ℕ) (past : List Event) (e : Event) → ticks_in (output_move_of t o past e) ≡ ends e
 unfolding ticks
-output_move-ticks t o past Tick = omega (arith, (due_in-none t o (tick_after past + 1)).0)
+output_move-ticks t o past Tick = omega (arith, (entries_due-none t o (tick_after past + 1)).0)
 output_move-ticks t o past (Arrive b w) = refl
 output_move-ticks t o past (Route r) = refl
 output_move-ticks t o past (Send q) = elim (eqb q o) as (λ v. ticks_in (cond v (Visit ∷ []) []) ≡ 0) [ true ↦ refl | false ↦ refl ]
 
 output_move-visits : (t : TableRows) (o : ℕ) (past : List Event) (e : Event) → visits (output_move_of t o past e) ≡ sends o (e ∷ [])
 unfolding picks
-output_move-visits t o past Tick = omega (arith, (due_in-none t o (tick_after past + 1)).1)
+output_move-visits t o past Tick = omega (arith, (entries_due-none t o (tick_after past + 1)).1)
 output_move-visits t o past (Arrive b w) = refl
 output_move-visits t o past (Route r) = refl
 output_move-visits t o past (Send q) = elim (eqb q o) as (λ v. visits (cond v (Visit ∷ []) []) ≡ picks (λ (p : Option ℕ). p) (cond v (Some q) None ∷ [])) [ true ↦ refl | false ↦ refl ]
@@ -181,14 +181,14 @@ pub output_moves-ticks : (t : TableRows) (o : ℕ) (run : List Event) → ticks_
 unfolding ticks
 output_moves-ticks t o run =
     let P : List Event → Type 0 = λ run. ticks_in (output_moves t o run) ≡ tick_after run in
-    snoc_induction P (ap ticks_in (output_moves-nil t o) ∙ (due_in-none t o 0).0) (λ run e h.
+    snoc_induction P (ap ticks_in (output_moves-nil t o) ∙ (entries_due-none t o 0).0) (λ run e h.
     omega (arith, ap ticks_in (output_moves-push t o run e), ticks_in-append (output_moves t o run) (output_move_of t o run e), output_move-ticks t o run e, ticks-append ends (send_of o) run (e ∷ []), h)) run
 
 pub output_moves-visits : (t : TableRows) (o : ℕ) (run : List Event) → visits (output_moves t o run) ≡ sends o run
 unfolding picks
 output_moves-visits t o run =
     let P : List Event → Type 0 = λ run. visits (output_moves t o run) ≡ sends o run in
-    snoc_induction P (ap visits (output_moves-nil t o) ∙ (due_in-none t o 0).1) (λ run e h.
+    snoc_induction P (ap visits (output_moves-nil t o) ∙ (entries_due-none t o 0).1) (λ run e h.
     omega (arith, ap visits (output_moves-push t o run e), visits-append (output_moves t o run) (output_move_of t o run e), output_move-visits t o run e, picks-append ends (send_of o) run (e ∷ []), h)) run
 
 module _ (t : TableRows) (valid : AreValid t) (o : ℕ) (there : o < length t.outputs) where
@@ -196,7 +196,7 @@ module _ (t : TableRows) (valid : AreValid t) (o : ℕ) (there : o < length t.ou
   unfolding ins
   output_move-ins past Tick =
       let k : tick_after past + 1 ≡ suc (tick_after past) = omega arith in
-      omega (arith, due_by-next t valid o there (tick_after past), ap (due_by t o) k, ap (λ n. length (ins (due_in t o n))) k)
+      omega (arith, due_by-next t valid o there (tick_after past), ap (due_by t o) k, ap (λ n. length (ins (entries_due t o n))) k)
   output_move-ins past (Arrive b w) = let z : tick_after past + 0 ≡ tick_after past = omega arith in omega (arith, ap (due_by t o) z)
   output_move-ins past (Route r) = let z : tick_after past + 0 ≡ tick_after past = omega arith in omega (arith, ap (due_by t o) z)
   output_move-ins past (Send q) =

@@ -4,7 +4,7 @@ use Rattle.std.proofs.Math.Nat.{mod-lt, div-add-mod', div-mul-le_self, mul-le-mu
 use Rattle.std.proofs.lemmas.Bool.{cases_lt}
 use Rattle.std.proofs.lemmas.List.{get_or-drop}
 use Rattle.dc_bound.specs.lemmas.Counts.{ceil_from, at_mod, at_div}
-use Rattle.dc_bound.specs.Frame.{due_in, IsFrame}
+use Rattle.dc_bound.specs.Frame.{due_of_entry, IsFrame}
 use Rattle.dc_transmit.specs.Gaps.{first_off, gaps_to, gaps, least_of, greatest_of, greatest_gap}
 
 passes_cases : (b : Bool) → (b ≡ true) ⊎ (b ≡ false)
@@ -79,7 +79,7 @@ module _ {E : Type 0} (off : E → ℕ) (passes : E → Bool) (z : E) where
     passes_at n = passes (get_or es (n % length es) z)
 
     -- entry number q * m + r of frames of m entries
-    due_at_place : (q r : ℕ) → r < length es → due_in off z frame es (q * length es + r) ≡ q * frame + off (get_or es r z)
+    due_at_place : (q r : ℕ) → r < length es → due_of_entry off z frame es (q * length es + r) ≡ q * frame + off (get_or es r z)
     due_at_place q r h = omega (arith, ap (λ x. x * frame) (at_div (length es) q r h), ap (λ x. off (get_or es x z)) (at_mod (length es) q r h))
 
     passes_at_place : (q r : ℕ) → r < length es → passes (get_or es r z) ≡ true → passes_at (q * length es + r) ≡ true
@@ -105,7 +105,7 @@ module _ {E : Type 0} (off : E → ℕ) (passes : E → Bool) (z : E) where
 
     -- two that pass are due at least the least gap apart
     pub least_apart : (most i j : ℕ) → i < j → passes_at i ≡ true → passes_at j ≡ true →
-        due_in off z frame es i + least_of most (gaps off passes frame es) ≤ due_in off z frame es j
+        due_of_entry off z frame es i + least_of most (gaps off passes frame es) ≤ due_of_entry off z frame es j
     unfolding gaps
     least_apart most i j h a b =
         let x : i % length es < length es = mod-lt i f.some in
@@ -133,7 +133,7 @@ module _ {E : Type 0} (off : E → ℕ) (passes : E → Bool) (z : E) where
 
     -- one that passes is followed by another, due at most the greatest gap later
     pub greatest_apart : (i : ℕ) → passes_at i ≡ true →
-        (j : ℕ) × (i < j) × (passes_at j ≡ true) × (due_in off z frame es j ≤ due_in off z frame es i + greatest_gap off passes frame es)
+        (j : ℕ) × (i < j) × (passes_at j ≡ true) × (due_of_entry off z frame es j ≤ due_of_entry off z frame es i + greatest_gap off passes frame es)
     unfolding gaps
     greatest_apart i a =
         let x : i % length es < length es = mod-lt i f.some in
@@ -162,7 +162,7 @@ module _ {E : Type 0} (off : E → ℕ) (passes : E → Bool) (z : E) where
 
     -- the first that passes is due at the greatest gap or before it
     pub first_due : (k : ℕ) → k < length es → passes (get_or es k z) ≡ true →
-        (j : ℕ) × (passes_at j ≡ true) × (due_in off z frame es j ≤ greatest_gap off passes frame es)
+        (j : ℕ) × (passes_at j ≡ true) × (due_of_entry off z frame es j ≤ greatest_gap off passes frame es)
     unfolding gaps
     first_due k h t =
         let over = last_gap frame (frame + first_off off passes es 0) (omega arith) es f.below k h t in

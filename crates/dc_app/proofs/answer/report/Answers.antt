@@ -1,6 +1,6 @@
 use Rattle.std.proofs.Common.{◌≢◌}
 use Rattle.dc_app.specs.declared.answer.Failure.TheVariants.{Source, Sink, Memory}
-use Rattle.dc_app.proofs.Exits.{loss_reports, no_sink_failure, told_left}
+use Rattle.dc_app.proofs.Exits.{loss_reports, no_sink_failure, reported_left}
 use Rattle.dc_app.proofs.answer.report.Goals as goal
 
 source_not_sink : Source ≢ Sink
@@ -19,8 +19,8 @@ returns-in-Err-Memory-clause-reports g c = λ old answer before low was ends.
 
 pub returns-in-Err-Source-clause-left : goal.returns-in-Err-Source-clause-left
 returns-in-Err-Source-clause-left g c = λ before was settled.
-    told_left c.end_with.result before _ _ _ _ (no_sink_failure _ Source _ before _ c.in-Err-Source.is (rw c.in-Err-Source.is at c.in-Err-Source.field-0-is) source_not_sink was) c.end_with.ensures.count c.end_with.ensures.settled
+    reported_left c.end_with.result before _ _ _ _ (no_sink_failure _ Source _ before _ c.in-Err-Source.is (rw c.in-Err-Source.is at c.in-Err-Source.field-0-is) source_not_sink was) c.end_with.ensures.count c.end_with.ensures.settled
 
 pub returns-in-Err-Memory-clause-left : goal.returns-in-Err-Memory-clause-left
 returns-in-Err-Memory-clause-left g c = λ before was settled.
-    told_left c.end_with-in-Err-Memory.result before _ _ _ _ (no_sink_failure _ Memory _ before _ c.in-Err-Memory.is (rw c.in-Err-Memory.is at c.in-Err-Memory.field-0-is) memory_not_sink was) c.end_with-in-Err-Memory.ensures.count c.end_with-in-Err-Memory.ensures.settled
+    reported_left c.end_with-in-Err-Memory.result before _ _ _ _ (no_sink_failure _ Memory _ before _ c.in-Err-Memory.is (rw c.in-Err-Memory.is at c.in-Err-Memory.field-0-is) memory_not_sink was) c.end_with-in-Err-Memory.ensures.count c.end_with-in-Err-Memory.ensures.settled

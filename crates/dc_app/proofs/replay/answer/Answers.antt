@@ -1,7 +1,7 @@
 use Rattle.std.proofs.Common.{◌∙◌, [], ap, arith, refl, sym, Err}
 use Rattle.dc_event.specs.Reading.{Reading, dry_left, failures_at, pulls_left}
 use Rattle.dc_app.specs.Refusals.{refused, stop_end}
-use Rattle.dc_app.proofs.ReplayExits.{at_tick_0, cut_some, flush_ends, not_stopped, pulls_needed, pulls_told, refused_ends, said_first, said_next, said_pulled, said_some, say_ends, step_count, step_early, stop_ends}
+use Rattle.dc_app.proofs.ReplayExits.{at_tick_0, cut_some, flush_ends, not_stopped, pulls_needed, pulls_reported, refused_ends, said_first, said_next, said_pulled, said_some, say_ends, step_count, step_early, stop_ends}
 use Rattle.dc_device.specs.lemmas.Known.{front_more}
 use Rattle.dc_app.proofs.replay.answer.Goals as goal
 
@@ -28,7 +28,7 @@ loop-writer-preserved-in-Ok g c =
     let before = c.loop-writer.invariant in
     let (ran, runs, none, fewer) = c.in-None.ensures.more in
     record {
-      said = said_pulled _ _ _ _ _ _ _ _ _ _ _ _ before.said (c.in-None.ensures.told (g.S.Source.remaining c.loop-writer.trace)) c.pull.ensures.kept c.in-Ok.ensures.bytes c.in-Ok.ensures.empty;
+      said = said_pulled _ _ _ _ _ _ _ _ _ _ _ _ before.said (c.in-None.ensures.reported (g.S.Source.remaining c.loop-writer.trace)) c.pull.ensures.kept c.in-Ok.ensures.bytes c.in-Ok.ensures.empty;
       rows = before.rows;
       early = before.early;
       within = omega (arith, before.within, c.pull.ensures.room, fewer);
@@ -45,31 +45,31 @@ loop-writer-preserved-in-Ok g c =
 
 pub returns-in-Some-Err-clause-answer : goal.returns-in-Some-Err-clause-answer
 returns-in-Some-Err-clause-answer g c =
-    let told = rw c.in-Some-Err.field-0-is at (c.in-Some-Err.ensures.told (g.S.Source.remaining c.loop-writer.trace)) in
-    stop_ends _ _ _ _ _ _ _ _ _ _ c.in-Some-Err.stop c.end_by.result c.loop-writer.invariant.said told c.end_by.ensures.stops c.end_by.ensures.bytes
+    let reported = rw c.in-Some-Err.field-0-is at (c.in-Some-Err.ensures.reported (g.S.Source.remaining c.loop-writer.trace)) in
+    stop_ends _ _ _ _ _ _ _ _ _ _ c.in-Some-Err.stop c.end_by.result c.loop-writer.invariant.said reported c.end_by.ensures.stops c.end_by.ensures.bytes
 
 pub returns-in-Err-step-clause-answer : goal.returns-in-Err-step-clause-answer
 returns-in-Err-step-clause-answer g c =
-    let told = rw c.in-Some-Ok.field-0-is at (c.in-Some-Ok.ensures.told (g.S.Source.remaining c.loop-writer.trace)) in
+    let reported = rw c.in-Some-Ok.field-0-is at (c.in-Some-Ok.ensures.reported (g.S.Source.remaining c.loop-writer.trace)) in
     refused_ends _ _ _ _ _ _ _ c.step.new.self _ _ _ _ c.in-Some-Ok.event c.in-Err-step.refusal c.end_refused.result
-    c.loop-writer.invariant.rows c.loop-writer.invariant.said told c.in-Err-step.ensures.step c.end_refused.ensures.bytes
+    c.loop-writer.invariant.rows c.loop-writer.invariant.said reported c.in-Err-step.ensures.step c.end_refused.ensures.bytes
 
 pub returns-in-Err-say-clause-answer : goal.returns-in-Err-say-clause-answer
 returns-in-Err-say-clause-answer g c =
-    let told = rw c.in-Some-Ok.field-0-is at (c.in-Some-Ok.ensures.told (g.S.Source.remaining c.loop-writer.trace)) in
+    let reported = rw c.in-Some-Ok.field-0-is at (c.in-Some-Ok.ensures.reported (g.S.Source.remaining c.loop-writer.trace)) in
     say_ends _ _ _ _ _ _ _ c.step.new.self _ _ _ _ c.say.new.writer c.in-Some-Ok.event c.in-Ok-step.step c.in-Err-say.failure
-    c.loop-writer.invariant.rows c.loop-writer.invariant.said told c.in-Ok-step.ensures.step c.in-Err-say.ensures.bytes.0 c.in-Err-say.ensures.sink
+    c.loop-writer.invariant.rows c.loop-writer.invariant.said reported c.in-Ok-step.ensures.step c.in-Err-say.ensures.bytes.0 c.in-Err-say.ensures.sink
 
 pub loop-writer-preserved : goal.loop-writer-preserved
 loop-writer-preserved g c =
     let before = c.loop-writer.invariant in
-    let told = rw c.in-Some-Ok.field-0-is at (c.in-Some-Ok.ensures.told (g.S.Source.remaining c.loop-writer.trace)) in
+    let reported = rw c.in-Some-Ok.field-0-is at (c.in-Some-Ok.ensures.reported (g.S.Source.remaining c.loop-writer.trace)) in
     let runs = rw c.in-Some-Ok.field-0-is at c.in-Some-Ok.ensures.more in
     let shorter = rw c.in-Some-Ok.field-0-is at c.in-Some-Ok.ensures.shorter in
     let ran = not_stopped _ _ c.in-Some-Ok.event _ _ c.in-Some-Ok.field-0-is c.in-Some-Ok.ensures.again in
     let steps = c.in-Ok-step.ensures.step before.said.done before.said.at in
     record {
-      said = said_next _ _ _ _ _ _ _ _ _ _ _ _ _ c.in-Some-Ok.event c.in-Ok-step.step before.rows before.said told c.in-Ok-step.ensures.step c.in-Ok-say.ensures.bytes;
+      said = said_next _ _ _ _ _ _ _ _ _ _ _ _ _ c.in-Some-Ok.event c.in-Ok-step.step before.rows before.said reported c.in-Ok-step.ensures.step c.in-Ok-say.ensures.bytes;
       rows = c.in-Ok-step.ensures.rows ∙ before.rows;
       early = step_early _ _ _ _ _ steps;
       within = omega (arith, before.within, shorter, step_count _ _ _ _ _ _ before.said.at steps);
@@ -78,7 +78,7 @@ loop-writer-preserved g c =
       asks = omega (
         arith,
         before.asks,
-        pulls_told c.loop-writer.lines.stopped c.advance.new.self.stopped c.loop-writer.lines.held c.advance.new.self.held c.loop-writer.lines.room c.advance.new.self.room ran runs shorter,
+        pulls_reported c.loop-writer.lines.stopped c.advance.new.self.stopped c.loop-writer.lines.held c.advance.new.self.held c.loop-writer.lines.room c.advance.new.self.room ran runs shorter,
       );
       dry = omega (arith, before.dry, ap dry_left (runs ∙ sym ran));
     }

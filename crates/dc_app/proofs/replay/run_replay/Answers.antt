@@ -1,5 +1,5 @@
 use Rattle.std.proofs.Common.{ap}
-use Rattle.dc_app.proofs.ReplayReports.{replay_reports, replay_told}
+use Rattle.dc_app.proofs.ReplayReports.{replay_reports, replay_reported}
 use Rattle.dc_app.proofs.replay.run_replay.Goals as goal
 
 pub returns-clause-reports : goal.returns-clause-reports
@@ -8,8 +8,8 @@ returns-clause-reports g c =
     let report = c.report.ensures in
     replay_reports _ _ _ _ _ _ c.replay-ended.result _ _ _ _ _ c.report.result ended.answer (λ e. ap (λ s. g.K.Sink.contents s) (ended.memory e)) ended.status ended.source ended.sink report.rise report.status report.reports
 
-pub returns-clause-told : goal.returns-clause-told
-returns-clause-told g c =
+pub returns-clause-reported : goal.returns-clause-reported
+returns-clause-reported g c =
     let ended = c.replay-ended.ensures in
     let report = c.report.ensures in
-    replay_told _ _ _ c.replay-ended.result _ _ _ _ _ c.report.result ended.some (λ e. ap (λ s. g.K.Sink.contents s) (ended.memory e)) ended.status ended.source ended.sink report.rise report.status report.reports
+    replay_reported _ _ _ c.replay-ended.result _ _ _ _ _ c.report.result ended.some (λ e. ap (λ s. g.K.Sink.contents s) (ended.memory e)) ended.status ended.source ended.sink report.rise report.status report.reports

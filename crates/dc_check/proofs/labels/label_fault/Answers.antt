@@ -20,13 +20,13 @@ returns c =
     ∙ ap (λ (r : OutputLabel). (output_bound (certificate_rows c.args.certificate.now) r.output).delay) c.label.ensures in
     let age : c.index-2.result.now.age ≡ slice_index (certificate_rows c.args.certificate.now).ages c.args.label = sym (age-read c.args.certificate.now c.args.label c.index-2.result.now label_there c.index-2.ensures) in
     let soon = rule-same _ _ _ _ _ c.fault_unless.ensures
-    (c.are_not_soon.ensures ∙ ap (λ d. list_all (λ g. nat_le ((label_row c.args.tables.now c.args.label).least + d) g) (gaps_of c.args.tables.now c.args.label)) delay) c.fault.ensures in
+    (c.are_not_soon.ensures ∙ ap (λ d. list_all (λ g. nat_le ((label_row c.args.tables.now c.args.label).minimum + d) g) (gaps_of c.args.tables.now c.args.label)) delay) c.fault.ensures in
     let late = rule-same _ _ _ _ _ c.fault_unless-2.ensures
-    (c.are_not_late.ensures ∙ ap (λ d. list_all (λ g. nat_le (g + d) (label_row c.args.tables.now c.args.label).greatest) (gaps_of c.args.tables.now c.args.label)) delay) c.fault-2.ensures in
+    (c.are_not_late.ensures ∙ ap (λ d. list_all (λ g. nat_le (g + d) (label_row c.args.tables.now c.args.label).maximum) (gaps_of c.args.tables.now c.args.label)) delay) c.fault-2.ensures in
     let aged = rule-same _ _ _ _ _ c.fault_unless-3.ensures
     (c.are_within.ensures ∙ ap (λ a. list_all (λ s. nat_le ((label_row c.args.tables.now c.args.label).stale + source_delay c.args.tables.now (certificate_rows c.args.certificate.now) s) a) (label_row c.args.tables.now c.args.label).sources) age) c.fault-3.ensures in
     let limited = rule-same _ _ _ _ _ c.fault_unless-4.ensures
-    (ap (λ a. nat_le a c.label-2.result.now.oldest) age ∙ ap (λ (r : OutputLabel). nat_le (slice_index (certificate_rows c.args.certificate.now).ages c.args.label) r.oldest) c.label-2.ensures) c.fault-4.ensures in
+    (ap (λ a. nat_le a c.label-2.result.now.age_limit) age ∙ ap (λ (r : OutputLabel). nat_le (slice_index (certificate_rows c.args.certificate.now).ages c.args.label) r.age_limit) c.label-2.ensures) c.fault-4.ensures in
     let fresh = rule-same _ _ _ _ _ c.fault_unless-5.ensures c.stay_fresh.ensures c.fault-5.ensures in
     c.first_fault.ensures
     ∙ ap first_of (rules-same _ _ _ _ soon (rules-same _ _ _ _ late (rules-same _ _ _ _ aged (rules-same _ _ _ _ limited (rules-same _ _ [] [] fresh refl)))))

@@ -1,7 +1,7 @@
 use Rattle.std.proofs.Common.{map}
-use Rattle.dc_cert.specs.Claims.{LabelClaim, label_claim}
+use Rattle.dc_cert.specs.NamedRows.{NamedLabel, named_label}
 use Rattle.dc_check.proofs.Naming.{AreSame}
 use Rattle.dc_check.proofs.names.are_labels.Given as goal
 
 abbrev pub invariant-loop-number : goal.invariant-loop-number
-invariant-loop-number l = AreSame (map (λ (x : LabelClaim). x.label) (map label_claim l.labels)) l.tables.keys.labels l.number
+invariant-loop-number l = AreSame (map (λ (x : NamedLabel). x.label) (map named_label l.labels)) l.tables.keys.labels l.number

@@ -6,7 +6,7 @@ use Rattle.dc_check.specs.lemmas.Exact.{ranges-none}
 use Rattle.dc_check.specs.lemmas.Firsts.{rule-same, rules-same, closing-same}
 use Rattle.dc_check.specs.Verdict.{first_of, at_window, is_closing}
 use Rattle.dc_check.specs.declared.fault.Condition.TheVariants.{BacklogTooSmall, DelayTooSmall}
-use Rattle.dc_check.specs.declared.fault.Part.TheVariants.{Inputs}
+use Rattle.dc_check.specs.declared.fault.CertificateList.TheVariants.{Inputs}
 use Rattle.dc_tables.specs.TableRows.{bus_cap, bus_floor}
 use Rattle.dc_check.proofs.queues.input_fault.Goals as goal
 

@@ -5,7 +5,7 @@ use Rattle.dc_check.specs.lemmas.CertificateReads.{inputs-count, input-read}
 use Rattle.dc_check.specs.lemmas.Exact.{ranges-none, job-input}
 use Rattle.dc_check.specs.lemmas.Firsts.{at_front, nothing, ranges-read, backlog-read, delay-read}
 use Rattle.dc_check.specs.Verdict.{first_of, input_rules}
-use Rattle.dc_check.specs.declared.fault.Part.TheVariants.{Inputs}
+use Rattle.dc_check.specs.declared.fault.CertificateList.TheVariants.{Inputs}
 use Rattle.dc_tables.specs.TableRows.{bus_cap, bus_floor}
 use Rattle.dc_check.proofs.queues.input_job.Goals as goal
 

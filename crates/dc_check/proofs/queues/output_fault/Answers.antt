@@ -5,7 +5,7 @@ use Rattle.dc_check.specs.lemmas.Exact.{ranges-none}
 use Rattle.dc_check.specs.lemmas.Firsts.{rule-same, rules-same, closing-same}
 use Rattle.dc_check.specs.Verdict.{first_of, at_window, is_closing}
 use Rattle.dc_check.specs.declared.fault.Condition.TheVariants.{DelayTooSmall}
-use Rattle.dc_check.specs.declared.fault.Part.TheVariants.{Outputs}
+use Rattle.dc_check.specs.declared.fault.CertificateList.TheVariants.{Outputs}
 use Rattle.dc_tables.specs.TableRows.{output_cap, output_floor}
 use Rattle.dc_check.proofs.queues.output_fault.Goals as goal
 

@@ -5,7 +5,7 @@ use Rattle.dc_check.specs.lemmas.CertificateReads.{outputs-count, output-read}
 use Rattle.dc_check.specs.lemmas.Exact.{ranges-none, job-output}
 use Rattle.dc_check.specs.lemmas.Firsts.{at_front, nothing, ranges-read, delay-read}
 use Rattle.dc_check.specs.Verdict.{first_of, output_rules}
-use Rattle.dc_check.specs.declared.fault.Part.TheVariants.{Outputs}
+use Rattle.dc_check.specs.declared.fault.CertificateList.TheVariants.{Outputs}
 use Rattle.dc_tables.specs.TableRows.{output_cap, output_floor}
 use Rattle.dc_check.proofs.queues.output_job.Goals as goal
 

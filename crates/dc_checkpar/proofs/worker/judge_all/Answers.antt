@@ -1,7 +1,7 @@
 use Rattle.std.proofs.Common.{◌<◌, sym, ap, subst, ◌∙◌, arith}
 use Rattle.dc_checkpar.proofs.Draws.{past-below}
 use Rattle.dc_checkpar.proofs.Joined.{judged-one}
-use Rattle.dc_checkpar.specs.Claims.{past}
+use Rattle.dc_checkpar.specs.Drawing.{past}
 use Rattle.dc_checkpar.specs.Reports.{AreJudged}
 use Rattle.dc_checkpar.proofs.worker.judge_all.Goals as goal
 

@@ -1,5 +1,5 @@
 use Rattle.std.proofs.Common.{◌≡◌}
-use Rattle.dc_checkpar.specs.Claims.{past}
+use Rattle.dc_checkpar.specs.Drawing.{past}
 use Rattle.dc_checkpar.specs.Reports.{AreJudged}
 use Rattle.dc_checkpar.proofs.worker.judge_all.Given as goal
 

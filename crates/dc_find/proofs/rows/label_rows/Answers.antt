@@ -1,5 +1,5 @@
 use Rattle.std.proofs.Common.{◌+◌, List, map, sym, subst}
-use Rattle.dc_cert.specs.Claims.{input_claim, label_claim}
+use Rattle.dc_cert.specs.NamedRows.{named_input, named_label}
 use Rattle.dc_cert.specs.declared.certificate.LabelRow.{LabelRow}
 use Rattle.dc_find.proofs.Lists.{AreRows, row_pushed}
 use Rattle.dc_find.specs.Rows.{IsLabelRow}
@@ -7,5 +7,5 @@ use Rattle.dc_find.proofs.rows.label_rows.Goals as goal
 
 pub loop-label-preserved : goal.loop-label-preserved
 loop-label-preserved c =
-    subst (λ (l : List LabelRow). AreRows (IsLabelRow c.args.tables.now (map input_claim c.args.inputs.now)) (c.loop-label.label + 1) (map label_claim l)) (sym c.in_ok-push.ensures.items)
-    (row_pushed label_claim (IsLabelRow c.args.tables.now (map input_claim c.args.inputs.now)) c.loop-label.label c.loop-label.rows.items c.in_ok-label_row.field-0 c.loop-label.invariant c.in_ok-label_row.ensures)
+    subst (λ (l : List LabelRow). AreRows (IsLabelRow c.args.tables.now (map named_input c.args.inputs.now)) (c.loop-label.label + 1) (map named_label l)) (sym c.in_ok-push.ensures.items)
+    (row_pushed named_label (IsLabelRow c.args.tables.now (map named_input c.args.inputs.now)) c.loop-label.label c.loop-label.rows.items c.in_ok-label_row.field-0 c.loop-label.invariant c.in_ok-label_row.ensures)

@@ -1,7 +1,7 @@
 use Rattle.std.proofs.Common.{◌≢◌, ◌+◌, List, length, map, sym, ap, subst, ◌∙◌, arith, rules}
 use Rattle.std.specs.Prelude.{not}
 use Rattle.std.specs.Result.{IfErr}
-use Rattle.dc_cert.specs.Claims.{output_claim}
+use Rattle.dc_cert.specs.NamedRows.{named_output}
 use Rattle.dc_cert.specs.declared.certificate.OutputRow.{OutputRow}
 use Rattle.dc_find.proofs.Claimed.{outputs-clear}
 use Rattle.dc_find.proofs.Lists.{AreRows, row_pushed, pushed, if_err-map}
@@ -15,10 +15,10 @@ pub returns-in_err-row-clause-fault : goal.returns-in_err-row-clause-fault
 returns-in_err-row-clause-fault c =
     let found : IfErr c.from_residual.result (λ fault. fault ≢ Memory → IsFirstOfPart c.args.tables.now (length c.args.tables.now.buses + c.loop-output.output) fault) = search rules in
     if_err-map c.from_residual.result (λ fault. fault ≢ Memory → IsFirstOfPart c.args.tables.now (length c.args.tables.now.buses + c.loop-output.output) fault) (λ fault. fault ≢ Memory → IsFirstInTheWay c.args.tables.now fault) (λ fault first other. first-of_all c.args.tables.now (length c.args.tables.now.buses + c.loop-output.output) fault
-    (outputs-clear c.args.tables.now c.loop-output.output (map output_claim c.loop-output.rows.items) (omega (arith, c.loop-output.auto.output-end, c.output_count-output-end.ensures)) c.requires c.loop-output.invariant) (first other)) found
+    (outputs-clear c.args.tables.now c.loop-output.output (map named_output c.loop-output.rows.items) (omega (arith, c.loop-output.auto.output-end, c.output_count-output-end.ensures)) c.requires c.loop-output.invariant) (first other)) found
 
 pub loop-output-preserved : goal.loop-output-preserved
 loop-output-preserved c =
-    subst (λ (l : List OutputRow). AreRows (IsOutputRow c.args.tables.now) (c.loop-output.output + 1) (map output_claim l))
+    subst (λ (l : List OutputRow). AreRows (IsOutputRow c.args.tables.now) (c.loop-output.output + 1) (map named_output l))
     (sym (pushed _ _ _ _ c.push.ensures.items (c.is_err.ensures.negation ∙ ap not c.if-is_err.false)))
-    (row_pushed output_claim (IsOutputRow c.args.tables.now) c.loop-output.output c.loop-output.rows.items c.in_ok-row.row c.loop-output.invariant c.in_ok-row.ensures.row)
+    (row_pushed named_output (IsOutputRow c.args.tables.now) c.loop-output.output c.loop-output.rows.items c.in_ok-row.row c.loop-output.invariant c.in_ok-row.ensures.row)

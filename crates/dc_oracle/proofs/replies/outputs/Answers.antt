@@ -3,7 +3,7 @@ use Rattle.dc_event.specs.Admissible.{IsNumbered}
 use Rattle.dc_event.specs.declared.event.Event.{Event}
 use Rattle.dc_oracle.specs.Police.{Polices}
 use Rattle.dc_oracle.specs.Replies.{Holds}
-use Rattle.dc_oracle.proofs.Entries.{none-told, holds-more, told-more}
+use Rattle.dc_oracle.proofs.Entries.{none-reported, holds-more, reported-more}
 use Rattle.dc_oracle.proofs.replies.outputs.Goals as goal
 
 pub loop-event-init : goal.loop-event-init
@@ -14,7 +14,7 @@ loop-event-init c = record {
   police_early = omega (arith, c.in_ok-police.ensures.tick);
   polices = λ n. c.in_ok-police.ensures.holds;
   holds = λ n. c.in_ok-watch.ensures.holds;
-  replies = λ n. c.new-replies.ensures.items ∙ none-told c.args.tables.now;
+  replies = λ n. c.new-replies.ensures.items ∙ none-reported c.args.tables.now;
 }
 
 pub loop-event-preserved : goal.loop-event-preserved
@@ -31,5 +31,5 @@ loop-event-preserved c =
       holds = λ n. (let s = c.in_ok-reply.ensures.reply (take c.loop-event.event-index c.args.run.now) (v.holds n) (v.polices n) (subst P (sym c.event-item.is) (n c.loop-event.event-index c.event-item.result c.loop-event-test.true)) in
           holds-more (Holds c.args.tables.now c.answer.new.watch) c.args.run.now c.loop-event.event-index c.event-item.result c.loop-event-test.true c.event-item.is s.holds);
       replies = λ n. (let s = c.in_ok-reply.ensures.reply (take c.loop-event.event-index c.args.run.now) (v.holds n) (v.polices n) (subst P (sym c.event-item.is) (n c.loop-event.event-index c.event-item.result c.loop-event-test.true)) in
-          c.in_ok-push.ensures.items ∙ told-more c.args.tables.now c.args.run.now c.loop-event.event-index c.event-item.result c.loop-event.replies.items c.in_ok-reply.reply c.loop-event-test.true c.event-item.is (v.replies n) s.answer);
+          c.in_ok-push.ensures.items ∙ reported-more c.args.tables.now c.args.run.now c.loop-event.event-index c.event-item.result c.loop-event.replies.items c.in_ok-reply.reply c.loop-event-test.true c.event-item.is (v.replies n) s.answer);
     }

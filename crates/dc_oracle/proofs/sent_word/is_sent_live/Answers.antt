@@ -4,7 +4,7 @@ use Rattle.dc_event.specs.Choice.{chosen_source}
 use Rattle.dc_event.specs.Claims.{UsesFirst, UsesAny}
 use Rattle.dc_event.specs.Time.{tick_after}
 use Rattle.dc_oracle.proofs.Choosing.{choice-is}
-use Rattle.dc_oracle.proofs.Judging.{second-told}
+use Rattle.dc_oracle.proofs.Judging.{second-reported}
 use Rattle.dc_oracle.proofs.sent_word.is_sent_live.Goals as goal
 
 pub returns-then-not-uses_first : goal.returns-then-not-uses_first
@@ -27,4 +27,4 @@ returns c = λ now h f.
     let Q : Bool → Type 0 = λ b. MatchBool b (UsesFirst c.args.tables.now c.in-Some.label now) (UsesFirst c.args.tables.now c.in-Some.label now → ⊥) in
     let first : UsesFirst c.args.tables.now c.in-Some.label now = subst Q c.if-not-uses_first.false (c.uses_first.ensures now f clock is) in
     let P : Option ℕ → Type 0 = λ o. MatchBool c.uses_any.result (IfSome o (λ x. UsesFirst c.args.tables.now x now × UsesAny c.args.tables.now x now)) (IfSome o (λ x. UsesFirst c.args.tables.now x now × UsesAny c.args.tables.now x now) → ⊥) in
-    subst P (sym c.in-Some.is) (second-told c.uses_any.result (UsesFirst c.args.tables.now c.in-Some.label now) (UsesAny c.args.tables.now c.in-Some.label now) first (c.uses_any.ensures now f clock is))
+    subst P (sym c.in-Some.is) (second-reported c.uses_any.result (UsesFirst c.args.tables.now c.in-Some.label now) (UsesAny c.args.tables.now c.in-Some.label now) first (c.uses_any.ensures now f clock is))

@@ -1,5 +1,5 @@
 use Rattle.std.proofs.Common.{subst}
-use Rattle.dc_cert.specs.Claims.{claims_of}
+use Rattle.dc_cert.specs.NamedRows.{named_rows}
 use Rattle.dc_check.proofs.Whole.{claims_hold}
 use Rattle.dc_check.specs.Accepts.{Accepts}
 use Rattle.dc_check.specs.Certified.{KeepsItsClaims}
@@ -9,5 +9,5 @@ use Rattle.dc_check.proofs.certified.Certified.keeps_its_claims.Goals as goal
 
 pub returns-clause-claims : goal.returns-clause-claims
 returns-clause-claims c =
-    let P : TableRows → Type 0 = λ t. Accepts t (claims_of (certificate_of c.args.self.now)) → KeepsItsClaims t (claims_of (certificate_of c.args.self.now)) in
-    subst P c.deref.ensures (λ ok. claims_hold c.deref.result.now c.valid.ensures (claims_of (certificate_of c.args.self.now)) ok) c.args.self.now.accepted
+    let P : TableRows → Type 0 = λ t. Accepts t (named_rows (certificate_of c.args.self.now)) → KeepsItsClaims t (named_rows (certificate_of c.args.self.now)) in
+    subst P c.deref.ensures (λ ok. claims_hold c.deref.result.now c.valid.ensures (named_rows (certificate_of c.args.self.now)) ok) c.args.self.now.accepted

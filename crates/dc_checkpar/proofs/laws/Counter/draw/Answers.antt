@@ -1,6 +1,6 @@
 use Rattle.std.proofs.Common.{◌≡◌, rules, ap, ◌∙◌}
 use Rattle.dc_checkpar.proofs.Draws.{draws}
-use Rattle.dc_checkpar.specs.Claims.{past}
+use Rattle.dc_checkpar.specs.Drawing.{past}
 use Rattle.dc_checkpar.proofs.laws.Counter.draw.Goals as goal
 
 pub fetch_add-requires : goal.fetch_add-requires

@@ -1,4 +1,4 @@
-use Rattle.dc_event.proofs.TraceSteps.{fits_more, next_event_told, next_refused_told}
+use Rattle.dc_event.proofs.TraceSteps.{fits_more, next_event_reported, next_refused_reported}
 use Rattle.dc_event.proofs.trace_lines.TraceLines.advance.Goals as goal
 
 pub invariant_of-self : goal.invariant_of-self
@@ -6,12 +6,12 @@ invariant_of-self c =
     fits_more c.self.inside.stopped c.self.inside.line.items c.read_next.new.line.items c.self.inside.reader c.read_next.new.reader c.self.inside.number
     c.in_default.is c.self.invariant c.in_err-event.ensures
 
-pub returns-in-Ok-clause-told : goal.returns-in-Ok-clause-told
-returns-in-Ok-clause-told c = λ coming.
-    next_event_told _ c.self.inside.stopped c.self.inside.tables.now c.self.inside.line.items c.read_next.new.line.items c.self.inside.reader c.read_next.new.reader
+pub returns-in-Ok-clause-reported : goal.returns-in-Ok-clause-reported
+returns-in-Ok-clause-reported c = λ coming.
+    next_event_reported _ c.self.inside.stopped c.self.inside.tables.now c.self.inside.line.items c.read_next.new.line.items c.self.inside.reader c.read_next.new.reader
     c.self.inside.number c.in-Ok.event _ coming c.self.view_is c.in_default.is c.self.invariant c.in_ok-event.ensures c.in-Ok.is
 
-pub returns-in-Err-clause-told : goal.returns-in-Err-clause-told
-returns-in-Err-clause-told c = λ coming.
-    next_refused_told _ c.self.inside.stopped c.self.inside.tables.now c.self.inside.line.items c.read_next.new.line.items c.self.inside.reader c.read_next.new.reader c.self.inside.number
+pub returns-in-Err-clause-reported : goal.returns-in-Err-clause-reported
+returns-in-Err-clause-reported c = λ coming.
+    next_refused_reported _ c.self.inside.stopped c.self.inside.tables.now c.self.inside.line.items c.read_next.new.line.items c.self.inside.reader c.read_next.new.reader c.self.inside.number
     c.in-Err.rule _ coming _ c.fault-refused.result c.self.view_is c.fault-refused.ensures c.in_default.is c.self.invariant c.in_ok-event.ensures c.in-Err.is

@@ -3,8 +3,8 @@ use Rattle.dc_event.specs.Reading.{AsksFor, Stays, ahead, new_failures, waits}
 use Rattle.dc_event.proofs.TraceNext.{Again, steps}
 use Rattle.dc_event.proofs.trace_reader.TraceReader.next.Given as goal
 
-abbrev pub invariant-loop-told : goal.invariant-loop-told
-invariant-loop-told g l =
+abbrev pub invariant-loop-reported : goal.invariant-loop-reported
+invariant-loop-reported g l =
     record {
       kept : Stays (ahead l.fn.self.lines l.fn.self.coming) (ahead l.self-inside.lines (g.S.Source.remaining l.self-inside.source));
       count : g.S.Source.failed l.self-inside.source ≡ l.fn.self.failed + new_failures l.fn.self.lines.stopped l.self-inside.lines.stopped;
@@ -14,5 +14,5 @@ invariant-loop-told g l =
       tables : l.self-inside.lines.tables ≡ l.fn.self.lines.tables;
     }
 
-abbrev pub decreases-loop-told : goal.decreases-loop-told
-decreases-loop-told g l = steps l.self-inside.lines.stopped (2 * l.self-inside.lines.room + waits l.self-inside.lines.held)
+abbrev pub decreases-loop-reported : goal.decreases-loop-reported
+decreases-loop-reported g l = steps l.self-inside.lines.stopped (2 * l.self-inside.lines.room + waits l.self-inside.lines.held)
