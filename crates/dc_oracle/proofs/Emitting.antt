@@ -125,12 +125,12 @@ in_time-reported t w run e tick limit is short h clock =
     ]
 
 -- the least over one label more
-pub limit-more : (t : TableRows) (last : List (Option ℕ)) (n first own least : ℕ) → IsLimit t last n first → own ≡ min (tick_of (get_or last n None) + (label_row t n).greatest) (2 ^ 64 - 1) → least ≡ min first own → IsLimit t last (n + 1) least
+pub limit-more : (t : TableRows) (last : List (Option ℕ)) (n first own least : ℕ) → IsLimit t last n first → own ≡ min (tick_of (get_or last n None) + (label_row t n).maximum) (2 ^ 64 - 1) → least ≡ min first own → IsLimit t last (n + 1) least
 limit-more t last n first own least h own_is least_is = record {
   lower = λ x l. elim (cases_eq n x) [
     | inl same ↦
         let P : ℕ → Type 0 = λ x. least ≤ tick_of (get_or last x None) + (label_row t x).maximum in
-        let here : least ≤ tick_of (get_or last n None) + (label_row t n).greatest = omega (arith, own_is, least_is) in
+        let here : least ≤ tick_of (get_or last n None) + (label_row t n).maximum = omega (arith, own_is, least_is) in
         subst P same here
     | inr other ↦ omega (arith, h.lower x (omega (arith, l, other)), least_is)
   ];

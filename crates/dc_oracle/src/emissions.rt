@@ -38,7 +38,7 @@ impl EmissionWatch {
         ensures { result ≡ min (tick_of (slice_index_or self.now.last.items label None) + (label_row tables.now label).maximum) (2 ^ 64 - 1) }
     {
         let last = self.last[label].unwrap_or(0);
-        last.saturating_add(tables.label(label).greatest as u64)
+        last.saturating_add(tables.label(label).maximum as u64)
     }
 
     /// The least of them.
@@ -77,9 +77,9 @@ impl EmissionWatch {
         let Some(label) = emitted else {
             return true;
         };
-        let least = tables.label(label).least;
+        let minimum = tables.label(label).minimum;
         match self.last[label] {
-            Some(last) => last.saturating_add(least as u64) <= tick,
+            Some(last) => last.saturating_add(minimum as u64) <= tick,
             None => true,
         }
     }

@@ -137,7 +137,7 @@ fn label_row(
     let _label = part.label.number();
     let _sdi = part.sdi.number();
     let sources = numbers_of(alloc, streams, &part.sources)?;
-    let (format, least, greatest) = match parameters.find(part.key()) {
+    let (format, minimum, maximum) = match parameters.find(part.key()) {
         None => (Format::Bnr, 0, 0),
         Some(p) => (
             p.format,
@@ -153,8 +153,8 @@ fn label_row(
         sources,
         stale: part.stale,
         age_limit: part.age,
-        least,
-        greatest,
+        minimum,
+        maximum,
     })
 }
 

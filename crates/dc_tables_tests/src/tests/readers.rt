@@ -53,7 +53,7 @@ struct WantedRouter {
 struct WantedLabel {
     source: usize,
     stale: u32,
-    oldest: u32,
+    age_limit: u32,
 }
 
 // The small tables.
@@ -243,7 +243,7 @@ fn assert_label(rt: &impl Abort, tables: &Tables, wanted: WantedLabel) {
         (0, 0o203, 0)
     );
     assert_eq!(rt; row.sources.as_slice(), [wanted.source].as_slice());
-    assert_eq!(rt; (row.stale, row.age_limit), (wanted.stale, wanted.oldest));
+    assert_eq!(rt; (row.stale, row.age_limit), (wanted.stale, wanted.age_limit));
     assert_eq!(rt;
         (row.format, row.minimum, row.maximum),
         (Format::Bnr, 11, 19)
@@ -357,7 +357,7 @@ const SMALL_STREAMS: [WantedStream; 2] = [
 const SMALL_LABEL: WantedLabel = WantedLabel {
     source: 0,
     stale: 22,
-    oldest: 30,
+    age_limit: 30,
 };
 
 fn assert_small_counts(rt: &impl Abort, tables: &Tables) {

@@ -12,12 +12,12 @@ returns-then-delay-greatest c =
     moved c.max_gap.result c.from-greatest.result c.from-delay.result c.if-delay-greatest.true
     ∙ ap (λ g. nat_le (g + c.from-delay.result) c.from-greatest.result) gap
     ∙ ap (λ d. nat_le (greatest_label_gap (schedule_of c.args.tables.now (label_row c.args.tables.now c.args.label).output) c.args.label + d) c.from-greatest.result) c.from-delay.ensures
-    ∙ ap (λ b. nat_le (greatest_label_gap (schedule_of c.args.tables.now (label_row c.args.tables.now c.args.label).output) c.args.label + c.args.delay) b) (c.from-greatest.ensures ∙ ap (λ r. r.greatest) c.label-row.ensures)
+    ∙ ap (λ b. nat_le (greatest_label_gap (schedule_of c.args.tables.now (label_row c.args.tables.now c.args.label).output) c.args.label + c.args.delay) b) (c.from-greatest.ensures ∙ ap (λ r. r.maximum) c.label-row.ensures)
     ∙ sym (late-test c.args.tables.now c.valid.ensures c.args.label c.requires (label_row c.args.tables.now c.args.label).maximum c.args.delay)
 
 pub returns-else-delay-greatest : goal.returns-else-delay-greatest
 returns-else-delay-greatest c =
     over (greatest_label_gap (schedule_of c.args.tables.now (label_row c.args.tables.now c.args.label).output) c.args.label) c.from-greatest.result c.from-delay.result c.if-delay-greatest.false
     ∙ ap (λ d. nat_le (greatest_label_gap (schedule_of c.args.tables.now (label_row c.args.tables.now c.args.label).output) c.args.label + d) c.from-greatest.result) c.from-delay.ensures
-    ∙ ap (λ b. nat_le (greatest_label_gap (schedule_of c.args.tables.now (label_row c.args.tables.now c.args.label).output) c.args.label + c.args.delay) b) (c.from-greatest.ensures ∙ ap (λ r. r.greatest) c.label-row.ensures)
+    ∙ ap (λ b. nat_le (greatest_label_gap (schedule_of c.args.tables.now (label_row c.args.tables.now c.args.label).output) c.args.label + c.args.delay) b) (c.from-greatest.ensures ∙ ap (λ r. r.maximum) c.label-row.ensures)
     ∙ sym (late-test c.args.tables.now c.valid.ensures c.args.label c.requires (label_row c.args.tables.now c.args.label).maximum c.args.delay)

@@ -7,7 +7,7 @@ use Rattle.dc_check.proofs.labels.are_not_soon.Goals as goal
 
 pub returns : goal.returns
 returns c =
-    let sum : c.from.result + c.from-2.result ≡ (label_row c.args.tables.now c.args.label).minimum + c.args.delay = omega (arith, c.from.ensures, c.from-2.ensures, ap (λ r. r.least) c.label-row.ensures) in
+    let sum : c.from.result + c.from-2.result ≡ (label_row c.args.tables.now c.args.label).minimum + c.args.delay = omega (arith, c.from.ensures, c.from-2.ensures, ap (λ r. r.minimum) c.label-row.ensures) in
     let gap : c.min_gap.result ≡ least_label_gap (schedule_of c.args.tables.now (label_row c.args.tables.now c.args.label).output) c.args.label =
     c.min_gap.ensures ∙ ap (λ s. least_label_gap s c.args.label) (c.of-schedule.ensures ∙ ap (λ r. schedule_of c.args.tables.now r.output) c.label-row.ensures) in
     ap (λ k. nat_le k c.min_gap.result) sum

@@ -252,7 +252,7 @@ const CROWDED_ROUTERS: [WantedRouter; 2] = [
 const CROWDED_LABEL: WantedLabel = WantedLabel {
     source: 2,
     stale: 26,
-    oldest: 40,
+    age_limit: 40,
 };
 
 fn assert_crowded_counts(rt: &impl Abort, tables: &Tables) {
