@@ -43,7 +43,7 @@ impl From<io::Error> for Failure {
     }
 }
 
-// Carries out what was asked: files are opened before anything is read. The answer is the exit status.
+// Opens the files that are asked for, and calls the engine on them. The answer is the exit status.
 fn carry_out<R: AllocGlobal + Files + Input + Print>(
     rt: &R,
     order: Order<'_>,
@@ -70,9 +70,21 @@ fn carry_out<R: AllocGlobal + Files + Input + Print>(
     }
 }
 
+// The end where the command line can't be had: one that is not UTF-8 is a wrong one.
+fn end_unread<R: Eprint>(rt: &R, error: io::Error) -> Result<u8, Failure> {
+    if error.kind() == io::ErrorKind::InvalidData {
+        rt.eprintln("error: an argument is not UTF-8")?;
+        return Ok(2);
+    }
+    Err(Failure::from(error))
+}
+
 // Reads the command line and carries it out, or shows clap's text. The answer is the exit status.
 fn run<R: AllocGlobal + Env + Files + Input + Print + Eprint>(rt: &R) -> Result<u8, Failure> {
-    let words: Vec<String> = env::args(rt)?.collect(rt.alloc())?;
+    let words: Vec<String> = match env::args(rt) {
+        Ok(words) => words.collect(rt.alloc())?,
+        Err(error) => return end_unread(rt, error),
+    };
     match parse(rt.alloc(), words.as_slice()) {
         Ok(order) => carry_out(rt, order),
         Err(error) => {

@@ -1,7 +1,7 @@
 //! What the concentrator refuses, and what its queue answers.
 
 use crate::fixture::{SMALL, Small, label};
-use crate::runs::{answers, small_core};
+use crate::runs::answers;
 use dc_core::StepFault;
 use dc_event::{Actor, Event, Reply};
 use dc_word::Word;
@@ -10,25 +10,26 @@ use std::test::Fail;
 
 #[test]
 fn numbers_that_are_not_in_the_tables_are_unknown(rt: HostRuntime) -> Result<(), Fail> {
-    let mut core = small_core(rt.alloc(), SMALL, &[0])?;
     answers(
         &rt,
-        &mut core,
+        rt.alloc(),
+        SMALL,
+        &[0],
         &[
             (Event::Route(1), Err(StepFault::Unknown)),
             (Event::Send(1), Err(StepFault::Unknown)),
             (Event::Arrive(1, Word(0x6000_00C1)), Err(StepFault::Unknown)),
         ],
-    );
-    Ok(())
+    )
 }
 
 #[test]
 fn the_third_step_of_a_router_in_a_tick_is_spent(rt: HostRuntime) -> Result<(), Fail> {
-    let mut core = small_core(rt.alloc(), SMALL, &[0])?;
     answers(
         &rt,
-        &mut core,
+        rt.alloc(),
+        SMALL,
+        &[0],
         &[
             (Event::Route(0), Ok(Reply::Empty(0))),
             (Event::Route(0), Ok(Reply::Empty(0))),
@@ -36,38 +37,37 @@ fn the_third_step_of_a_router_in_a_tick_is_spent(rt: HostRuntime) -> Result<(), 
             (Event::Tick, Ok(Reply::Now(1))),
             (Event::Route(0), Ok(Reply::Empty(0))),
         ],
-    );
-    Ok(())
+    )
 }
 
 #[test]
 fn the_second_send_in_a_tick_is_too_soon(rt: HostRuntime) -> Result<(), Fail> {
-    let mut core = small_core(rt.alloc(), SMALL, &[0])?;
+    let label = label(0o203)?;
     answers(
         &rt,
-        &mut core,
+        rt.alloc(),
+        SMALL,
+        &[0],
         &[
-            (
-                Event::Send(0),
-                Ok(Reply::Sent(label(0o203)?, Word(0xA000_00C1))),
-            ),
+            (Event::Send(0), Ok(Reply::Sent(label, Word(0xA000_00C1)))),
             (Event::Send(0), Err(StepFault::TooSoon)),
             (Event::Route(0), Ok(Reply::Empty(0))),
             (Event::Tick, Ok(Reply::Now(1))),
             (Event::Send(0), Ok(Reply::Idle)),
         ],
-    );
-    Ok(())
+    )
 }
 
 #[test]
 fn a_tick_waits_for_the_steps_that_are_owed(rt: HostRuntime) -> Result<(), Fail> {
-    let mut core = small_core(rt.alloc(), SMALL, &[0])?;
+    let label = label(0o203)?;
     let router = Err(StepFault::Owed(Actor::Router(0)));
     let output = Err(StepFault::Owed(Actor::Output(0)));
     answers(
         &rt,
-        &mut core,
+        rt.alloc(),
+        SMALL,
+        &[0],
         &[
             (Event::Tick, router),
             (Event::Route(0), Ok(Reply::Empty(0))),
@@ -75,24 +75,22 @@ fn a_tick_waits_for_the_steps_that_are_owed(rt: HostRuntime) -> Result<(), Fail>
             (Event::Tick, router),
             (Event::Route(0), Ok(Reply::Empty(0))),
             (Event::Tick, output),
-            (
-                Event::Send(0),
-                Ok(Reply::Sent(label(0o203)?, Word(0xA000_00C1))),
-            ),
+            (Event::Send(0), Ok(Reply::Sent(label, Word(0xA000_00C1)))),
             (Event::Tick, Ok(Reply::Now(2))),
         ],
-    );
-    Ok(())
+    )
 }
 
 #[test]
 fn a_full_queue_loses_a_word_and_latches(rt: HostRuntime) -> Result<(), Fail> {
+    let label = label(0o203)?;
     let small = Small { queue: 1, ..SMALL };
-    let mut core = small_core(rt.alloc(), small, &[0])?;
     let first = Word(0x6000_00C1);
     answers(
         &rt,
-        &mut core,
+        rt.alloc(),
+        small,
+        &[0],
         &[
             (Event::Arrive(0, first), Ok(Reply::Queued(1))),
             (Event::Arrive(0, Word(0xE000_0021)), Ok(Reply::Overrun)),
@@ -100,27 +98,23 @@ fn a_full_queue_loses_a_word_and_latches(rt: HostRuntime) -> Result<(), Fail> {
             (Event::Route(0), Ok(Reply::Took(0, first))),
             (Event::Arrive(0, first), Ok(Reply::Latched)),
             (Event::Route(0), Ok(Reply::Empty(0))),
-            (
-                Event::Send(0),
-                Ok(Reply::Sent(label(0o203)?, Word(0xA000_00C1))),
-            ),
+            (Event::Send(0), Ok(Reply::Sent(label, Word(0xA000_00C1)))),
         ],
-    );
-    Ok(())
+    )
 }
 
 #[test]
 fn even_parity_is_reported_before_the_label(rt: HostRuntime) -> Result<(), Fail> {
-    let mut core = small_core(rt.alloc(), SMALL, &[0])?;
     answers(
         &rt,
-        &mut core,
+        rt.alloc(),
+        SMALL,
+        &[0],
         &[
             (Event::Arrive(0, Word(0x2000_00C1)), Ok(Reply::BadParity)),
             (Event::Arrive(0, Word(0x6000_0081)), Ok(Reply::BadParity)),
             (Event::Arrive(0, Word(0xE000_0081)), Ok(Reply::Undeclared)),
             (Event::Route(0), Ok(Reply::Empty(0))),
         ],
-    );
-    Ok(())
+    )
 }

@@ -15,9 +15,22 @@ pub fn small_core(alloc: Global, small: Small, offsets: &[u32]) -> Result<Core, 
 }
 
 /// Applies the events in order, and compares each answer.
-pub fn answers(rt: &impl Abort, core: &mut Core, steps: &[(Event, Result<Reply, StepFault>)]) {
+pub fn compare(rt: &impl Abort, core: &mut Core, steps: &[(Event, Result<Reply, StepFault>)]) {
     for k in 0..steps.len() {
         let (event, wanted) = steps[k];
         assert_eq!(rt; core.apply(event), wanted, "event {k}");
     }
+}
+
+/// The same on a concentrator of small tables before its first event.
+pub fn answers(
+    rt: &impl Abort,
+    alloc: Global,
+    small: Small,
+    offsets: &[u32],
+    steps: &[(Event, Result<Reply, StepFault>)],
+) -> Result<(), Fail> {
+    let mut core = small_core(alloc, small, offsets)?;
+    compare(rt, &mut core, steps);
+    Ok(())
 }

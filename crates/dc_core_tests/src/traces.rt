@@ -100,35 +100,45 @@ fn reads_lines(
     }
 }
 
-/// A line is refused with this code.
+/// Both on the small tables.
+fn reads_text(
+    rt: &impl Abort,
+    alloc: Global,
+    text: &[u8],
+    limit: u32,
+    events: &[Event],
+    stop: TraceStop,
+) -> Result<(), Fail> {
+    let tables = small_tables(alloc, SMALL, &[0])?;
+    reads(rt, &tables, text, limit, events, stop);
+    reads_lines(rt, &tables, text, limit, events, stop);
+    Ok(())
+}
+
+/// A line is refused by this rule.
 fn refused(rule: LineRule, line: u64) -> TraceStop {
     TraceStop::Fault(TraceFault { rule, line })
 }
 
+/// A reader without a limit of its own reads the trace.
+fn reads_unlimited(rt: &impl Abort, tables: &Tables) {
+    let mut reader = TraceReader::new(tables, MemSource::new(TRACE, 7, 0));
+    for event in events() {
+        assert_eq!(rt; next_of(rt, &mut reader), Ok(event));
+    }
+    assert_eq!(rt; next_of(rt, &mut reader), Err(TraceStop::End));
+}
+
 #[test]
 fn a_trace_is_read_in_pieces_of_any_size(rt: HostRuntime) -> Result<(), Fail> {
+    reads_text(&rt, rt.alloc(), TRACE, 24, &events(), TraceStop::End)?;
+    reads_text(&rt, rt.alloc(), b"", 0, &[], TraceStop::End)?;
     let tables = small_tables(rt.alloc(), SMALL, &[0])?;
-    reads(&rt, &tables, TRACE, 24, &events(), TraceStop::End);
-    reads_lines(&rt, &tables, TRACE, 24, &events(), TraceStop::End);
-    reads(&rt, &tables, b"", 0, &[], TraceStop::End);
-    reads_lines(&rt, &tables, b"", 0, &[], TraceStop::End);
-    let mut reader = TraceReader::new(&tables, MemSource::new(TRACE, 7, 0));
-    for event in events() {
-        assert_eq!(rt; next_of(&rt, &mut reader), Ok(event));
-    }
-    assert_eq!(rt; next_of(&rt, &mut reader), Err(TraceStop::End));
+    reads_unlimited(&rt, &tables);
     Ok(())
 }
 
-/// Reads a tick, a route and a line, which is refused.
-fn refuses(rt: &impl Abort, tables: &Tables, text: &str, rule: LineRule) {
-    let events = [Event::Tick, Event::Route(0)];
-    let stop = refused(rule, 3);
-    reads(rt, tables, text.as_bytes(), 1000, &events, stop);
-    reads_lines(rt, tables, text.as_bytes(), 1000, &events, stop);
-}
-
-/// The same for each of these lines, with this after it.
+/// Reads a tick, a route and each of these lines with this after it, which is refused.
 fn refuses_each(
     rt: &impl Abort,
     alloc: Global,
@@ -136,10 +146,17 @@ fn refuses_each(
     end: &str,
     rule: LineRule,
 ) -> Result<(), Fail> {
-    let tables = small_tables(alloc, SMALL, &[0])?;
+    let stop = refused(rule, 3);
     for line in lines.lines() {
         let text = format!(in alloc; "T\nR R1\n{line}{end}")?;
-        refuses(rt, &tables, text.as_str(), rule);
+        reads_text(
+            rt,
+            alloc,
+            text.as_bytes(),
+            1000,
+            &[Event::Tick, Event::Route(0)],
+            stop,
+        )?;
     }
     Ok(())
 }
@@ -206,7 +223,6 @@ fn a_line_names_what_is_there_and_a_word(rt: HostRuntime) -> Result<(), Fail> {
 
 #[test]
 fn a_text_past_its_limit_is_refused_where_it_passes_it(rt: HostRuntime) -> Result<(), Fail> {
-    let tables = small_tables(rt.alloc(), SMALL, &[0])?;
     let ticks = [Event::Tick; 3];
     for (limit, reported, stop) in [
         (6, 3, TraceStop::End),
@@ -216,8 +232,7 @@ fn a_text_past_its_limit_is_refused_where_it_passes_it(rt: HostRuntime) -> Resul
         (0, 0, refused(LineRule::LineTooLong, 1)),
     ] {
         let (events, _) = ticks.split_at(reported.min(3));
-        reads(&rt, &tables, b"T\nT\nT\n", limit, events, stop);
-        reads_lines(&rt, &tables, b"T\nT\nT\n", limit, events, stop);
+        reads_text(&rt, rt.alloc(), b"T\nT\nT\n", limit, events, stop)?;
     }
     Ok(())
 }
@@ -250,15 +265,20 @@ fn breaks_lines(rt: &impl Abort, tables: &Tables, fails_at: u64, reported: &[Eve
     assert_eq!(rt; source.failures(), 1);
 }
 
-#[test]
-fn a_source_may_fail_at_any_pull(rt: HostRuntime) -> Result<(), Fail> {
-    let tables = small_tables(rt.alloc(), SMALL, &[0])?;
+/// Each pull fails in turn.
+fn breaks_at_any_pull(rt: &impl Abort, tables: &Tables) {
     let all = events();
     for (fails_at, reported) in [(1, 0), (2, 0), (3, 0), (4, 0), (5, 1), (6, 2), (7, 4)] {
         let (reported, _) = all.split_at(reported.min(4));
-        breaks(&rt, &tables, fails_at, reported);
-        breaks_lines(&rt, &tables, fails_at, reported);
+        breaks(rt, tables, fails_at, reported);
+        breaks_lines(rt, tables, fails_at, reported);
     }
+}
+
+#[test]
+fn a_source_may_fail_at_any_pull(rt: HostRuntime) -> Result<(), Fail> {
+    let tables = small_tables(rt.alloc(), SMALL, &[0])?;
+    breaks_at_any_pull(&rt, &tables);
     Ok(())
 }
 
