@@ -6,7 +6,7 @@ use crate::chance::Chance;
 use crate::fixture::{LARGEST, MANY, Plan, SMALL, certificate_of, tables_of};
 use crate::gates::{Counting, Meeting};
 use dc_cert::Certificate;
-use dc_check::{CheckFault, Condition, Part, verdict};
+use dc_check::{CheckFault, Condition, CertificateList, verdict};
 use dc_checkpar::{Gate, Open, ParFault, check_par};
 use dc_tables::Tables;
 use std::alloc::Global;
@@ -40,7 +40,7 @@ fn answer<G: Gate, R: Threads + Wait + Sync>(
 fn refused(condition: Condition, index: usize, window: u32) -> Answer {
     Err(ParFault::Refused(CheckFault {
         condition,
-        part: Part::Inputs,
+        part: CertificateList::Inputs,
         index,
         window,
     }))
