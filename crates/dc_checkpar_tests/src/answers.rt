@@ -6,7 +6,7 @@ use crate::chance::Chance;
 use crate::fixture::{LARGEST, MANY, Plan, SMALL, certificate_of, tables_of};
 use crate::gates::{Counting, Meeting};
 use dc_cert::Certificate;
-use dc_check::{CheckFault, Condition, CertificateList, verdict};
+use dc_check::{CertificateList, CheckFault, Condition, verdict};
 use dc_checkpar::{Gate, Open, ParFault, check_par};
 use dc_tables::Tables;
 use std::alloc::Global;
@@ -100,12 +100,27 @@ fn the_answer_is_that_of_one_thread(rt: HostRuntime) -> Result<(), Fail> {
     let tables = Arc::new(rt.alloc(), tables_of(rt.alloc(), SMALL)?)?;
     for (one, wanted) in [
         (Change::Window(0, 3), Ok(1)),
-        (Change::Window(0, 0), refused(Condition::WindowOutOfRange, 0, 0)),
-        (Change::Window(0, 2), refused(Condition::WindowDoesNotClose, 0, 0)),
-        (Change::Backlog(0, 1), refused(Condition::BacklogTooSmall, 0, 1)),
-        (Change::Backlog(0, 3), refused(Condition::QueueTooShort, 0, 0)),
+        (
+            Change::Window(0, 0),
+            refused(Condition::WindowOutOfRange, 0, 0),
+        ),
+        (
+            Change::Window(0, 2),
+            refused(Condition::WindowDoesNotClose, 0, 0),
+        ),
+        (
+            Change::Backlog(0, 1),
+            refused(Condition::BacklogTooSmall, 0, 1),
+        ),
+        (
+            Change::Backlog(0, 3),
+            refused(Condition::QueueTooShort, 0, 0),
+        ),
         (Change::Delay(0, 1), refused(Condition::DelayTooSmall, 0, 1)),
-        (Change::Delay(0, 100_001), refused(Condition::DelayOutOfRange, 0, 0)),
+        (
+            Change::Delay(0, 100_001),
+            refused(Condition::DelayOutOfRange, 0, 0),
+        ),
     ] {
         judges(&rt, rt.alloc(), SMALL, &tables, &[one], wanted)?;
     }
@@ -117,7 +132,10 @@ fn long_windows_of_the_largest_tables(rt: HostRuntime) -> Result<(), Fail> {
     let tables = Arc::new(rt.alloc(), tables_of(rt.alloc(), LARGEST)?)?;
     for (one, wanted) in [
         (Change::Window(0, 100_000), Ok(64)),
-        (Change::Window(0, 100_001), refused(Condition::WindowOutOfRange, 0, 0)),
+        (
+            Change::Window(0, 100_001),
+            refused(Condition::WindowOutOfRange, 0, 0),
+        ),
     ] {
         judges(&rt, rt.alloc(), LARGEST, &tables, &[one], wanted)?;
     }
@@ -128,8 +146,14 @@ fn long_windows_of_the_largest_tables(rt: HostRuntime) -> Result<(), Fail> {
     };
     for (one, wanted) in [
         (Change::Backlog(40, 14), Ok(64)),
-        (Change::Backlog(40, 13), refused(Condition::BacklogTooSmall, 40, 11)),
-        (Change::Delay(40, 5), refused(Condition::DelayTooSmall, 40, 11)),
+        (
+            Change::Backlog(40, 13),
+            refused(Condition::BacklogTooSmall, 40, 11),
+        ),
+        (
+            Change::Delay(40, 5),
+            refused(Condition::DelayTooSmall, 40, 11),
+        ),
     ] {
         let changes = [Change::Window(40, 100_000), one];
         judges(&rt, rt.alloc(), short, &tables, &changes, wanted)?;
