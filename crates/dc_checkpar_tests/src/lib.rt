@@ -1,0 +1,11 @@
+//! Trials of the check by several threads: the answers of one thread, gates, and certificates by chance.
+#![tactic(auto)]
+
+#[cfg(test)]
+mod answers;
+#[cfg(test)]
+mod chance;
+#[cfg(test)]
+mod fixture;
+#[cfg(test)]
+mod gates;
