@@ -99,9 +99,9 @@ fn has_room(tables: &Tables, input: Numbers, output: Numbers) -> bool {
     let (stale, late) = (label.stale as u64, output.delay as u64);
     let delay = input.delay as u64;
     input.backlog <= tables.queue(0)
-        && label.least as u64 + late <= frame
-        && frame + late <= label.greatest as u64
-        && stale + delay <= label.oldest as u64
+        && label.minimum as u64 + late <= frame
+        && frame + late <= label.maximum as u64
+        && stale + delay <= label.age_limit as u64
         && delay + 20 <= stale
 }
 
