@@ -1,7 +1,7 @@
 //! A certificate whose numbers are lowered by one, one after another: each time it is refused.
 
 use dc_cert::Certificate;
-use dc_check::{Condition, CertificateList, verdict};
+use dc_check::{CertificateList, Condition, verdict};
 use dc_tables::Tables;
 use std::process::Abort;
 
@@ -39,15 +39,36 @@ fn lower_input(rt: &impl Abort, tables: &Tables, certificate: &mut Certificate, 
     let (window, backlog, delay) = (row.window, row.backlog, row.delay);
     if window > 1 {
         set_input(certificate, bus, window - 1, backlog, delay);
-        assert_refused(rt, tables, certificate, CertificateList::Inputs, bus, Condition::WindowDoesNotClose);
+        assert_refused(
+            rt,
+            tables,
+            certificate,
+            CertificateList::Inputs,
+            bus,
+            Condition::WindowDoesNotClose,
+        );
     }
     if backlog > 0 {
         set_input(certificate, bus, window, backlog - 1, delay);
-        assert_refused(rt, tables, certificate, CertificateList::Inputs, bus, Condition::BacklogTooSmall);
+        assert_refused(
+            rt,
+            tables,
+            certificate,
+            CertificateList::Inputs,
+            bus,
+            Condition::BacklogTooSmall,
+        );
     }
     if delay > 0 {
         set_input(certificate, bus, window, backlog, delay - 1);
-        assert_refused(rt, tables, certificate, CertificateList::Inputs, bus, Condition::DelayTooSmall);
+        assert_refused(
+            rt,
+            tables,
+            certificate,
+            CertificateList::Inputs,
+            bus,
+            Condition::DelayTooSmall,
+        );
     }
     set_input(certificate, bus, window, backlog, delay);
 }
@@ -66,11 +87,25 @@ fn lower_output(rt: &impl Abort, tables: &Tables, certificate: &mut Certificate,
     let (window, delay) = (row.window, row.delay);
     if window > 1 {
         set_output(certificate, output, window - 1, delay);
-        assert_refused(rt, tables, certificate, CertificateList::Outputs, output, Condition::WindowDoesNotClose);
+        assert_refused(
+            rt,
+            tables,
+            certificate,
+            CertificateList::Outputs,
+            output,
+            Condition::WindowDoesNotClose,
+        );
     }
     if delay > 0 {
         set_output(certificate, output, window, delay - 1);
-        assert_refused(rt, tables, certificate, CertificateList::Outputs, output, Condition::DelayTooSmall);
+        assert_refused(
+            rt,
+            tables,
+            certificate,
+            CertificateList::Outputs,
+            output,
+            Condition::DelayTooSmall,
+        );
     }
     set_output(certificate, output, window, delay);
 }
@@ -88,7 +123,14 @@ fn lower_age(rt: &impl Abort, tables: &Tables, certificate: &mut Certificate, la
     let age = row.age;
     if age > 0 {
         set_age(certificate, label, age - 1);
-        assert_refused(rt, tables, certificate, CertificateList::Labels, label, Condition::AgeTooSmall);
+        assert_refused(
+            rt,
+            tables,
+            certificate,
+            CertificateList::Labels,
+            label,
+            Condition::AgeTooSmall,
+        );
     }
     set_age(certificate, label, age);
 }

@@ -4,7 +4,7 @@ use crate::lowered::assert_least;
 use crate::texts::{small_tables, tables_of};
 use dc_cert::cert_text;
 use dc_check::Condition;
-use dc_find::{FindCode, FindFault, Queue, find};
+use dc_find::{FindFault, Queue, find};
 use dc_tables::Tables;
 use std::alloc::Global;
 use std::process::Abort;
@@ -96,17 +96,20 @@ fn tables_without_parts_have_an_empty_certificate(rt: HostRuntime) -> Result<(),
     Ok(())
 }
 
+/// The code of what a fault says stands in the way.
+fn code_of(fault: FindFault) -> Option<&'static str> {
+    match fault.obstacle() {
+        Some(obstacle) => Some(obstacle.code()),
+        None => None,
+    }
+}
+
 #[test]
 fn a_fault_has_its_code(rt: HostRuntime) {
-    let queue = Queue::Input(0);
-    assert_eq!(rt;
-        FindFault::WindowNeverCloses(queue).code(),
-        Some(FindCode::F1)
-    );
-    assert_eq!(rt; FindFault::QueueTooShort(0).code(), Some(FindCode::F2));
-    assert_eq!(rt;
-        FindFault::LabelRule(0, Condition::SentTooSoon).code(),
-        Some(FindCode::F3)
-    );
-    assert_eq!(rt; FindFault::Memory.code(), None);
+    let rule = FindFault::LabelRule(0, Condition::SentTooSoon);
+    let window = FindFault::WindowNeverCloses(Queue::Input(0));
+    assert_eq!(rt; code_of(window), Some("F1"));
+    assert_eq!(rt; code_of(FindFault::QueueTooShort(0)), Some("F2"));
+    assert_eq!(rt; code_of(rule), Some("F3"));
+    assert_eq!(rt; code_of(FindFault::Memory), None);
 }
