@@ -16,6 +16,11 @@ pub enum Order<'a> {
         /// The path of the certificate.
         certificate: &'a str,
     },
+    /// Find the least certificate for the tables in a file.
+    Find {
+        /// The path of the tables.
+        tables: &'a str,
+    },
     /// Replay the trace on standard input through the concentrator of the tables in a file.
     Replay {
         /// The path of the tables.
@@ -43,6 +48,9 @@ fn make<'a>(alloc: Global) -> Result<Command<'a>, Error> {
         .about("Judges a certificate for tables, and prints the verdict")
         .arg(file(alloc, "TABLES", "The tables, in TOML"))?
         .arg(file(alloc, "CERT", "The certificate, in JSON"))?;
+    let find = Command::new(alloc, "find")
+        .about("Finds the least certificate for tables, or what stands in the way of one")
+        .arg(file(alloc, "TABLES", "The tables, in TOML"))?;
     let all = Arg::new(alloc, "all")
         .long("all")
         .help("Prints every reply, and not only words that are sent or lost")
@@ -58,6 +66,7 @@ fn make<'a>(alloc: Global) -> Result<Command<'a>, Error> {
             .subcommand_required(true)
             .subcommand(decode)?
             .subcommand(check)?
+            .subcommand(find)?
             .subcommand(replay)?,
     )
 }
@@ -75,6 +84,9 @@ fn order_in<'a>(matches: &ArgMatches<'a>) -> Option<Order<'a>> {
         "check" => Some(Order::Check {
             tables: matches.get_str("TABLES")?,
             certificate: matches.get_str("CERT")?,
+        }),
+        "find" => Some(Order::Find {
+            tables: matches.get_str("TABLES")?,
         }),
         "replay" => Some(Order::Replay {
             tables: matches.get_str("TABLES")?,

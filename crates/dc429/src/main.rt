@@ -4,7 +4,7 @@
 mod command;
 
 use command::{Order, parse};
-use dc_app::{run_check, run_decode, run_replay};
+use dc_app::{run_check, run_decode, run_find, run_replay};
 use dc_device::{ReadSource, WriteSink};
 use std::alloc::AllocError;
 use std::process::ExitCode;
@@ -61,6 +61,10 @@ fn carry_out<R: AllocGlobal + Files + Input + Print>(
             let mut tables = ReadSource::new(fs::open(rt, tables)?);
             let mut certificate = ReadSource::new(fs::open(rt, certificate)?);
             Ok(run_check(rt.alloc(), &mut tables, &mut certificate, &mut sink))
+        }
+        Order::Find { tables } => {
+            let mut tables = ReadSource::new(fs::open(rt, tables)?);
+            Ok(run_find(rt.alloc(), &mut tables, &mut sink))
         }
         Order::Replay { tables, all } => {
             let mut tables = ReadSource::new(fs::open(rt, tables)?);

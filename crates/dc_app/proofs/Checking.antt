@@ -16,9 +16,9 @@ use Rattle.dc_tables.specs.TableRows.{TableRows}
 use Rattle.dc_parts.specs.declared.fault.TableFault.{TableFault}
 use Rattle.dc_toml.specs.Reading.{tables_of}
 use Rattle.dc_toml.specs.Reported.{AreTablesOf}
-use Rattle.dc_app.specs.Answer.{Answer, Any, Raises, Reports, Reported, failed_by, one_line, sink_failures_of, status_of}
+use Rattle.dc_app.specs.Answer.{Answer, Raises, Reports, Reported, failed_by, judged_answer, one_line, sink_failures_of, status_of}
 use Rattle.dc_parts.specs.declared.fault.BuildError.TheVariants.{Refused as RefusedTables}
-use Rattle.dc_app.specs.Check.{AreCertified, Certifies, CheckAnswers, Judges, JudgesTexts, ReportsCheck, accepted_text, judged_answer}
+use Rattle.dc_app.specs.Check.{AreCertified, Certifies, CheckAnswers, Judges, JudgesTexts, ReportsCheck, accepted_text}
 use Rattle.dc_app.specs.Inputs.{Loads}
 use Rattle.dc_app.specs.declared.answer.Failure.{Failure}
 use Rattle.dc_app.specs.declared.answer.Failure.TheVariants.{Source, Sink, Memory}
@@ -127,12 +127,12 @@ module _ (line : List ℕ) (old new : Option (List ℕ)) (a a' k mid k' : ℕ) w
         memory = λ e f. rw (other memory_not_sink) refl;
       }
 
-  pub check_reported : (judged ended : Result ℕ Failure) (status : ℕ) → Raises a a' judged → mid ≡ k + sink_failures_of ended → mid ≤ k' → IfOk ended (λ status. status < 3)
-      → IfErr ended (λ e. e ≢ Sink → judged ≡ Err e) → status ≡ status_of ended → Reports old new (failed_by ended) (k' - k) (judged_answer line judged) status
-      → Reported Any old new a a' k k' status
-  check_reported judged ended status raised counted rise low other is reported =
+  pub judged_reported : (Is : Answer → Type 0) (judged ended : Result ℕ Failure) (status : ℕ) → Is (judged_answer line judged) → Raises a a' judged → mid ≡ k + sink_failures_of ended → mid ≤ k'
+      → IfOk ended (λ status. status < 3) → IfErr ended (λ e. e ≢ Sink → judged ≡ Err e) → status ≡ status_of ended
+      → Reports old new (failed_by ended) (k' - k) (judged_answer line judged) status → Reported Is old new a a' k k' status
+  judged_reported Is judged ended status answers raised counted rise low other is reported =
       let P : ℕ → Type 0 = λ n. Reports old new (failed_by ended) (k' - k) (judged_answer line judged) n in
-      subst (λ n. Reported Any old new a a' k k' n) (sym is) (tells Any judged ended tt raised counted rise low other (subst P is reported))
+      subst (λ n. Reported Is old new a a' k k' n) (sym is) (tells Is judged ended answers raised counted rise low other (subst P is reported))
 
 module _ (rows text line : List ℕ) (old new : Option (List ℕ)) (a a' k mid k' : ℕ) where
   -- a line or none, which is not there whole

@@ -1,5 +1,6 @@
 pub mod Checking
 pub mod Exits
+pub mod Finding
 pub mod LineAnswers
 pub mod Loading
 pub mod ReplayExits

@@ -40,6 +40,11 @@ failure_text Source = codes "failed device"
 failure_text Sink = codes "failed device"
 failure_text Memory = codes "failed memory"
 
+-- the answer that is to be written where an engine judged first: its line and the status
+abbrev pub judged_answer : List ℕ → Result ℕ Failure → Answer
+judged_answer line (Ok status) = one_line line status
+judged_answer line (Err failure) = record { lines = []; status = 3 }
+
 -- Until something fails: what is written after what waited, where the answer is known.
 abbrev pub Ends : Option (List ℕ) → List ℕ → Option (List ℕ) → Answer → Result ℕ Failure → Type 0
 Ends old waiting new answer (Ok status) = Appends old new (waiting ++ spelled answer.lines) × (status ≡ answer.status)

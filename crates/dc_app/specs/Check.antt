@@ -125,11 +125,6 @@ JudgesTexts tables certificate line (Err Source) = Unit {0}
 JudgesTexts tables certificate line (Err Memory) = Unit {0}
 JudgesTexts tables certificate line (Err Sink) = ⊥
 
--- the answer that is to be written then
-abbrev pub judged_answer : List ℕ → Result ℕ Failure → Answer
-judged_answer line (Ok status) = one_line line status
-judged_answer line (Err failure) = record { lines = []; status = 3 }
-
 -- ---- what is reported
 
 -- What `check` reports, where its sources and its sink failed so often before and after it; with status 0 the certificate

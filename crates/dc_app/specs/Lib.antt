@@ -1,6 +1,7 @@
 pub mod Answer
 pub mod Check
 pub mod Decode
+pub mod Find
 pub mod Inputs
 pub mod Printed
 pub mod Refusals

@@ -1,8 +1,8 @@
 //! What every engine does alike: it ends with a fault, with a failure, or asks for more.
-ghost use Rattle.std.specs.Prelude.{◌≡◌, ◌≢◌, ℕ, List, Option, [], ◌∷◌, ◌++◌, ◌+◌, ◌-◌, ◌^◌, ◌<◌, ◌≤◌, length, IfErr, IfOk, Err, false};
+ghost use Rattle.std.specs.Prelude.{◌≡◌, ◌≢◌, ℕ, List, Option, [], ◌∷◌, ◌++◌, ◌+◌, ◌-◌, ◌^◌, ◌<◌, ◌≤◌, length, IfErr, IfOk, Err, Ok, false};
 ghost use Rattle.dc_device.specs.Bytes.{Writes};
 ghost use Rattle.dc_device.specs.Device.{Settles, failures_of};
-ghost use Rattle.dc_app.specs.Answer.{Answer, Asks, Causes, Ends, LeavesSink, Reports, SettlesBy, dry_in, failed_by, fault, fault_text, sink_failures_of, status_of};
+ghost use Rattle.dc_app.specs.Answer.{Answer, Asks, Causes, Ends, LeavesSink, Reports, SettlesBy, dry_in, failed_by, fault, fault_text, judged_answer, sink_failures_of, status_of};
 
 use crate::text::{Text, append, append_number};
 use dc_device::{Broken, LineReader, LineWriter, Sink, Source};
@@ -94,6 +94,34 @@ pub fn ask<S: Source, K: Sink>(
             Ok(more) => Ok(more),
             Err(_) => Err(Failure::Source),
         },
+    }
+}
+
+/// Writes the line of what was judged, where there is one.
+pub fn say<K: Sink>(
+    judged: Result<u8, Failure>,
+    line: &[u8],
+    writer: &mut LineWriter,
+    sink: &mut K,
+) -> Result<u8, Failure>
+    requires new { writer.old ≡ [] }
+    requires countable { K.failed sink.old + 1 < 2 ^ 64 }
+    requires sink { IfErr judged (λ e. e ≢ Failure.Sink) }
+    requires status { IfOk judged (λ status. status < 3) }
+    ensures bytes { Ends (K.contents sink.old) [] (K.contents sink.new) (judged_answer line.now judged) result }
+    ensures empty { writer.new ≡ [] }
+    ensures count { K.failed sink.new ≡ K.failed sink.old + sink_failures_of result }
+    ensures status { IfOk result (λ status. status < 3) }
+    ensures same { IfOk result (λ status. judged ≡ Ok status) }
+    ensures failure { IfErr result (λ e. e ≢ Failure.Sink → judged ≡ Err e) }
+    ensures settled { SettlesBy result (K.last_failed sink.new) (K.hidden sink.new) }
+{
+    match judged {
+        Ok(status) => match end_with(writer, sink, line) {
+            Ok(()) => Ok(status),
+            Err(_) => Err(Failure::Sink),
+        },
+        Err(failure) => Err(failure),
     }
 }
 

@@ -1,14 +1,14 @@
 //! `check`: the verdict on a certificate, in one line.
-ghost use Rattle.std.specs.Prelude.{◌≡◌, ◌≢◌, ℕ, List, [], ◌+◌, ◌-◌, ◌^◌, ◌<◌, ◌≤◌, IfErr, IfOk, IfSome, Some, Ok};
+ghost use Rattle.std.specs.Prelude.{◌≡◌, ◌≢◌, ℕ, List, ◌+◌, ◌^◌, ◌<◌, ◌≤◌, IfErr, IfOk, IfSome, Some, Ok};
 ghost use Rattle.dc_device.specs.Device.{AsksUpTo};
 ghost use Rattle.dc_toml.specs.Reading.{tables_of};
 ghost use Rattle.dc_cert.specs.NamedRows.{named_rows};
 ghost use Rattle.dc_cert.specs.Reading.{certificate_of};
-ghost use Rattle.dc_app.specs.Answer.{Any, Ends, LeavesSink, Raises, SettlesBy, Reported, sink_failures_of};
-ghost use Rattle.dc_app.specs.Check.{Judges, JudgesTexts, ReportsCheck, judged_answer};
+ghost use Rattle.dc_app.specs.Answer.{Any, LeavesSink, Raises, Reported};
+ghost use Rattle.dc_app.specs.Check.{Judges, JudgesTexts, ReportsCheck};
 ghost use Rattle.dc_app.specs.Inputs.{OnlyBehind};
 
-use crate::answer::{Failure, end_with, report};
+use crate::answer::{Failure, report, say};
 use crate::inputs::{Unloaded, load};
 use crate::judgement::{print_accepted, print_cert_fault, print_refused};
 use crate::print::print_table_fault;
@@ -111,34 +111,6 @@ fn judge_sources<T: Source, C: Source>(
             Ok(2)
         }
         Err(Unloaded::Failed(failure)) => Err(failure),
-    }
-}
-
-// Writes the line, where there is one.
-fn say<K: Sink>(
-    judged: Result<u8, Failure>,
-    line: &[u8],
-    writer: &mut LineWriter,
-    sink: &mut K,
-) -> Result<u8, Failure>
-    requires new { writer.old ≡ [] }
-    requires countable { K.failed sink.old + 1 < 2 ^ 64 }
-    requires sink { IfErr judged (λ e. e ≢ Failure.Sink) }
-    requires status { IfOk judged (λ status. status < 3) }
-    ensures bytes { Ends (K.contents sink.old) [] (K.contents sink.new) (judged_answer line.now judged) result }
-    ensures empty { writer.new ≡ [] }
-    ensures count { K.failed sink.new ≡ K.failed sink.old + sink_failures_of result }
-    ensures status { IfOk result (λ status. status < 3) }
-    ensures same { IfOk result (λ status. judged ≡ Ok status) }
-    ensures failure { IfErr result (λ e. e ≢ Failure.Sink → judged ≡ Err e) }
-    ensures settled { SettlesBy result (K.last_failed sink.new) (K.hidden sink.new) }
-{
-    match judged {
-        Ok(status) => match end_with(writer, sink, line) {
-            Ok(()) => Ok(status),
-            Err(_) => Err(Failure::Sink),
-        },
-        Err(failure) => Err(failure),
     }
 }
 

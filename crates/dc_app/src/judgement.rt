@@ -65,6 +65,17 @@ fn name(tables: &Tables, part: CertificateList, index: usize) -> &[u8]
     }
 }
 
+/// Puts what a member of a list is called and its name at the end.
+pub fn append_member(text: &mut Text, tables: &Tables, part: CertificateList, index: usize)
+    requires room { array_vec_len text.old ≤ 60 }
+    requires place { index < part_count tables.now part }
+    ensures items { text.new.items ≡ text.old.items ++ member_text part ++ member_name tables.now part index }
+    ensures len { array_vec_len text.new ≤ array_vec_len text.old + 23 }
+{
+    append(text, member(part));
+    append(text, name(tables, part, index));
+}
+
 // Puts the window at the end, where the condition names one.
 fn append_window(text: &mut Text, fault: CheckFault)
     requires { array_vec_len text.old ≤ 60 }
@@ -86,8 +97,7 @@ fn append_place(text: &mut Text, tables: &Tables, fault: CheckFault)
         append(text, list(fault.part));
         return;
     }
-    append(text, member(fault.part));
-    append(text, name(tables, fault.part, fault.index));
+    append_member(text, tables, fault.part, fault.index);
     append_window(text, fault);
 }
 

@@ -4,8 +4,10 @@
 mod answer;
 mod check;
 mod decode;
+mod find;
 mod inputs;
 mod judgement;
+mod obstacles;
 mod print;
 mod replay;
 mod replies;
@@ -14,4 +16,5 @@ mod text;
 
 pub use check::run_check;
 pub use decode::run_decode;
+pub use find::run_find;
 pub use replay::run_replay;

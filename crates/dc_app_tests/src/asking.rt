@@ -1,14 +1,14 @@
 //! Asks an engine, and compares its line and its status with what is wanted.
 
-use dc_app::{run_check, run_replay};
+use dc_app::{run_check, run_find, run_replay};
 use dc_device::{MemSink, MemSource, Sink, Source};
 use std::alloc::Global;
 use std::process::Abort;
 use std::test::Fail;
 
-/// The status that belongs to the line of a check.
+/// The status that belongs to the line of a check, or of a search for a certificate.
 pub fn status_of(line: &str) -> u8 {
-    if line.starts_with("accepted") {
+    if line.starts_with("accepted") || line.starts_with("{") {
         0
     } else if line.starts_with("refused") {
         1
@@ -37,6 +37,22 @@ pub fn check_says(
     let mut tables = MemSource::new(tables, 4096, 0);
     let mut certificate = MemSource::new(certificate, 4096, 0);
     let status = run_check(alloc, &mut tables, &mut certificate, &mut sink);
+    assert_eq!(rt; line_of(sink.bytes()), want.as_bytes(), "{want}");
+    assert_eq!(rt; status, status_of(want), "{want}");
+    Ok(())
+}
+
+/// Finds the least certificate for tables that come in pieces of this size: this line is written, with its status.
+pub fn find_says(
+    rt: &impl Abort,
+    alloc: Global,
+    tables: &[u8],
+    piece: usize,
+    want: &str,
+) -> Result<(), Fail> {
+    let mut sink = MemSink::new(alloc, 1000, 0)?;
+    let mut tables = MemSource::new(tables, piece, 0);
+    let status = run_find(alloc, &mut tables, &mut sink);
     assert_eq!(rt; line_of(sink.bytes()), want.as_bytes(), "{want}");
     assert_eq!(rt; status, status_of(want), "{want}");
     Ok(())

@@ -12,6 +12,8 @@ mod decodes;
 #[cfg(test)]
 mod example;
 #[cfg(test)]
+mod finds;
+#[cfg(test)]
 mod large;
 #[cfg(test)]
 mod replays;

@@ -102,7 +102,7 @@ sdi = \"any\"
 const TAIL: &str = "[[router]]
 name = \"R1\"
 steps = <steps=1>
-within = 1
+within = <within=1>
 most = <most=2>
 visits = [<visits=\"A\">]
 [[output]]

@@ -1,5 +1,7 @@
 -- The least certificate, and what stands in the way of one.
 pub mod Least
 pub mod Ways
+-- How it is printed.
+pub mod FaultText
 -- What the parts of a certificate are, one by one.
 pub mod Rows

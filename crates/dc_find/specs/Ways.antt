@@ -5,8 +5,8 @@ use Rattle.dc_cert.specs.Bounds.{CertificateRows, input_bound, output_bound}
 use Rattle.dc_check.specs.Accepts.{WindowCloses, BacklogFits, AcceptsInput, AcceptsOutput, AgeHolds, SourcesStayFresh, gaps_of, label_delay}
 use Rattle.dc_check.specs.declared.fault.Condition.{Condition}
 use Rattle.dc_check.specs.declared.fault.Condition.TheVariants.{SentTooSoon, SentTooLate, AgeOverLimit, SourceGoesStale}
-use Rattle.dc_find.specs.declared.fault.FindCode.{FindCode}
-use Rattle.dc_find.specs.declared.fault.FindCode.TheVariants.{F1, F2, F3}
+use Rattle.dc_find.specs.declared.fault.Obstacle.{Obstacle}
+use Rattle.dc_find.specs.declared.fault.Obstacle.TheVariants.{NoWindowCloses, QueueTooSmall, LabelRuleBroken}
 use Rattle.dc_find.specs.declared.fault.FindFault.{FindFault}
 use Rattle.dc_find.specs.declared.fault.FindFault.TheVariants.{WindowNeverCloses, QueueTooShort, LabelRule, Memory}
 use Rattle.dc_find.specs.declared.fault.Queue.TheVariants.{Input, Output}
@@ -45,12 +45,12 @@ StandsInTheWay t (QueueTooShort b) = (b < length t.buses) × NeverFits t b
 StandsInTheWay t (LabelRule x condition) = (x < length t.labels) × NeverKeeps t x condition
 StandsInTheWay t Memory = ⊥
 
--- its code, where it stands in the way
-abbrev pub code_of : FindFault → Option FindCode
-code_of (WindowNeverCloses queue) = Some F1
-code_of (QueueTooShort b) = Some F2
-code_of (LabelRule x condition) = Some F3
-code_of Memory = None
+-- what it is, where it stands in the way
+abbrev pub obstacle_of : FindFault → Option Obstacle
+obstacle_of (WindowNeverCloses queue) = Some NoWindowCloses
+obstacle_of (QueueTooShort b) = Some QueueTooSmall
+obstacle_of (LabelRule x condition) = Some LabelRuleBroken
+obstacle_of Memory = None
 
 -- ---- the order of faults
 

@@ -1,7 +1,8 @@
 //! Why no certificate is accepted.
 
-ghost use Rattle.std.specs.Prelude.{◌≡◌};
-ghost use Rattle.dc_find.specs.Ways.{code_of};
+ghost use Rattle.std.specs.Prelude.{◌≡◌, ◌≤◌, length};
+ghost use Rattle.dc_find.specs.FaultText.{obstacle_code};
+ghost use Rattle.dc_find.specs.Ways.{obstacle_of};
 ghost use Rattle.dc_find.specs.declared.fault.FindFault.TheVariants.{Memory};
 
 use dc_check::Condition;
@@ -19,18 +20,32 @@ pub enum Queue {
     Output(usize),
 }
 
-/// The kind of a thing that stands in the way of every certificate.
+/// What may stand in the way of every certificate, in the order of the codes.
 #[derive(Clone, Copy, Debug, PartialEq, Eq, Error)]
-pub enum FindCode {
-    /// No window closes.
-    #[error("F1")]
-    F1,
-    /// The queue is too short.
-    #[error("F2")]
-    F2,
-    /// A rule on a label is broken.
-    #[error("F3")]
-    F3,
+pub enum Obstacle {
+    /// F1: no window of an input or output closes.
+    #[error("no window closes")]
+    NoWindowCloses,
+    /// F2: more may wait than the queue of an input holds.
+    #[error("more may wait than the queue holds")]
+    QueueTooSmall,
+    /// F3: a rule on a label is broken.
+    #[error("a rule on a label is broken")]
+    LabelRuleBroken,
+}
+
+impl Obstacle {
+    /// The code as it is printed, as `F1`.
+    pub fn code(self) -> &'static str
+        ensures text { result.now ≡ obstacle_code self }
+        ensures short { length result.now ≤ 2 }
+    {
+        match self {
+            Obstacle::NoWindowCloses => "F1",
+            Obstacle::QueueTooSmall => "F2",
+            Obstacle::LabelRuleBroken => "F3",
+        }
+    }
 }
 
 /// Why there is no certificate.
@@ -60,13 +75,13 @@ impl From<AllocError> for FindFault {
 
 impl FindFault {
     /// What stands in the way; `None` where memory was refused.
-    pub fn code(self) -> Option<FindCode>
-        ensures { result ≡ code_of self }
+    pub fn obstacle(self) -> Option<Obstacle>
+        ensures { result ≡ obstacle_of self }
     {
         match self {
-            FindFault::WindowNeverCloses(_) => Some(FindCode::F1),
-            FindFault::QueueTooShort(_) => Some(FindCode::F2),
-            FindFault::LabelRule(_, _) => Some(FindCode::F3),
+            FindFault::WindowNeverCloses(_) => Some(Obstacle::NoWindowCloses),
+            FindFault::QueueTooShort(_) => Some(Obstacle::QueueTooSmall),
+            FindFault::LabelRule(_, _) => Some(Obstacle::LabelRuleBroken),
             FindFault::Memory => None,
         }
     }

@@ -6,5 +6,5 @@ mod finder;
 mod queues;
 mod rows;
 
-pub use fault::{FindCode, FindFault, Queue};
+pub use fault::{FindFault, Obstacle, Queue};
 pub use finder::find;

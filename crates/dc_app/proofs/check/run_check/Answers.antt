@@ -1,6 +1,6 @@
 use Rattle.std.proofs.Common.{◌≡◌}
-use Rattle.dc_app.specs.Check.{judged_answer}
-use Rattle.dc_app.proofs.Checking.{check_reports, check_reported}
+use Rattle.dc_app.specs.Answer.{Any, judged_answer}
+use Rattle.dc_app.proofs.Checking.{check_reports, judged_reported}
 use Rattle.dc_app.proofs.check.run_check.Goals as goal
 
 pub returns-clause-reported : goal.returns-clause-reported
@@ -9,7 +9,7 @@ returns-clause-reported g c =
     let said = c.say-ended.ensures in
     let ends = rw c.as_slice.ensures.value at said.bytes in
     let reported = c.report.ensures.reports (g.K.Sink.contents c.args.sink.now) (judged_answer judged.new.line.items judged.result) (g.K.Sink.failed c.args.sink.now) said.status said.count ends in
-    check_reported judged.new.line.items _ _ _ _ _ _ _ judged.result c.say-ended.result _ judged.ensures.source said.count c.report.ensures.rise said.status said.failure c.report.ensures.status reported
+    judged_reported judged.new.line.items _ _ _ _ _ _ _ Any judged.result c.say-ended.result _ tt judged.ensures.source said.count c.report.ensures.rise said.status said.failure c.report.ensures.status reported
 
 pub returns-clause-reports : goal.returns-clause-reports
 returns-clause-reports g c = λ rows text e f.

@@ -1,0 +1,139 @@
+//! `find`: the least certificate, or what stands in the way of one, in one line.
+ghost use Rattle.std.specs.Prelude.{◌≡◌, ◌≢◌, ℕ, List, ◌++◌, ◌+◌, ◌^◌, ◌<◌, ◌≤◌, codes, length, IfErr, IfOk, IfSome, Some};
+ghost use Rattle.std.specs.Vec.{vec_len};
+ghost use Rattle.dc_cert.specs.NamedRows.{named_rows};
+ghost use Rattle.dc_device.specs.Device.{AsksUpTo};
+ghost use Rattle.dc_find.specs.Ways.{IsFirstInTheWay};
+ghost use Rattle.dc_parts.specs.FaultText.{table_fault_text};
+ghost use Rattle.dc_app.specs.Answer.{Any, LeavesSink, Raises, Reported};
+ghost use Rattle.dc_app.specs.Find.{JudgesRows, JudgesTables, ReportsFind, Tells, obstacle_text};
+
+use crate::answer::{Failure, report, say};
+use crate::inputs::{Unloaded, load};
+use crate::obstacles::print_obstacle;
+use crate::print::print_table_fault;
+use crate::text::Text;
+use dc_cert::{Certificate, cert_text};
+use dc_check::laws::accepted_certificates_keep_their_claims;
+use dc_device::{LineWriter, Sink, Source};
+use dc_find::FindFault;
+use dc_parts::TableFault;
+use dc_tables::Tables;
+use std::alloc::Global;
+
+// Keeps a line for a status.
+fn keep(bytes: &[u8], status: u8, line: &mut Vec<u8>) -> Result<u8, Failure>
+    ensures kept { IfOk result (λ _. line.new.items ≡ bytes.now) }
+    ensures len { IfOk result (λ _. vec_len line.new ≡ length bytes.now) }
+    ensures status { IfOk result (λ s. s ≡ status) }
+    ensures memory { IfErr result (λ e. e ≡ Failure.Memory) }
+{
+    line.clear();
+    match line.extend_from_slice(bytes) {
+        Ok(()) => Ok(status),
+        Err(_) => Err(Failure::Memory),
+    }
+}
+
+// Keeps the text of a certificate.
+fn keep_certificate(
+    alloc: Global,
+    certificate: &Certificate,
+    line: &mut Vec<u8>,
+) -> Result<u8, Failure>
+    ensures kept { IfOk result (λ _. Tells (named_rows certificate.now) line.new.items) }
+    ensures status { IfOk result (λ s. s ≡ 0) }
+    ensures memory { IfErr result (λ e. e ≡ Failure.Memory) }
+{
+    match cert_text(alloc, certificate) {
+        Ok(text) => {
+            let kept = keep(text.as_bytes(), 0, line);
+            let _ = line.pop();
+            kept
+        }
+        Err(_) => Err(Failure::Memory),
+    }
+}
+
+// Keeps what stands in the way, where that is not want of memory.
+fn keep_obstacle(tables: &Tables, fault: FindFault, line: &mut Vec<u8>) -> Result<u8, Failure>
+    requires { fault ≢ FindFault.Memory → IsFirstInTheWay tables.now fault }
+    ensures kept { IfOk result (λ _. line.new.items ≡ obstacle_text tables.now fault) }
+    ensures status { IfOk result (λ s. s ≡ 1) }
+    ensures memory { IfErr result (λ e. e ≡ Failure.Memory) }
+    ensures fault { IfOk result (λ _. fault ≢ FindFault.Memory) }
+{
+    if fault.obstacle().is_none() {
+        return Err(Failure::Memory);
+    }
+    let mut text = Text::new();
+    print_obstacle(&mut text, tables, fault);
+    keep(text.as_slice(), 1, line)
+}
+
+// Keeps the first fault of the tables' text.
+fn keep_unreadable(fault: TableFault, line: &mut Vec<u8>) -> Result<u8, Failure>
+    ensures kept { IfOk result (λ _. line.new.items ≡ codes "unreadable " ++ table_fault_text fault) }
+    ensures status { IfOk result (λ s. s ≡ 2) }
+    ensures memory { IfErr result (λ e. e ≡ Failure.Memory) }
+{
+    let mut text = Text::new();
+    print_table_fault(&mut text, fault);
+    keep(text.as_slice(), 2, line)
+}
+
+// Finds the least certificate for tables, and keeps the line. The answer is the status.
+fn judge(alloc: Global, tables: &Tables, line: &mut Vec<u8>) -> Result<u8, Failure>
+    ensures answer { JudgesRows tables.now line.new.items result }
+    ensures memory { IfErr result (λ e. e ≡ Failure.Memory) }
+    ensures status { IfOk result (λ status. status < 3) }
+{
+    accepted_certificates_keep_their_claims(tables);
+    match dc_find::find(alloc, tables) {
+        Ok(certificate) => keep_certificate(alloc, &certificate, line),
+        Err(fault) => keep_obstacle(tables, fault, line),
+    }
+}
+
+// Finds the least certificate for the tables that a source gives.
+fn judge_source<T: Source>(alloc: Global, tables: &mut T, line: &mut Vec<u8>) -> Result<u8, Failure>
+    requires { T.failed tables.old + 1 < 2 ^ 64 }
+    ensures answer { (rows : List ℕ) → T.remaining tables.old ≡ Some rows → JudgesTables rows line.new.items result }
+    ensures source { Raises (T.failed tables.old) (T.failed tables.new) result }
+    ensures asks { AsksUpTo 1048576 (T.asked tables.old) (T.asked tables.new) (T.dry tables.old) (T.dry tables.new) }
+    ensures sink { IfErr result (λ e. e ≢ Failure.Sink) }
+    ensures status { IfOk result (λ status. status < 3) }
+{
+    match load(alloc, tables) {
+        Ok(tables) => judge(alloc, &tables, line),
+        Err(Unloaded::Refused(fault)) => keep_unreadable(fault, line),
+        Err(Unloaded::Failed(failure)) => Err(failure),
+    }
+}
+
+/// Finds the least certificate for tables that are read whole from their source, and writes its text onto a sink; where
+/// none is accepted, one line that says what stands first in the way of every certificate.
+///
+/// The answer is the exit status: 0 where a certificate was found, and then it keeps its claims in every admissible run
+/// of the tables; 1 where none is accepted; 2 where the tables can't be read; 3 where a device failed or memory was
+/// refused: then `failed device` or `failed memory` was written, and nothing else. A push or flush that failed is the last
+/// call of the sink, and a pull that gave no byte the last of the source.
+pub fn run_find<T: Source, K: Sink>(alloc: Global, tables: &mut T, sink: &mut K) -> u8
+    requires tables { T.failed tables.old + 1 < 2 ^ 64 }
+    requires sink { K.failed sink.old + 1 < 2 ^ 64 }
+    ensures reports { (rows : List ℕ) → T.remaining tables.old ≡ Some rows
+        → ReportsFind rows (K.contents sink.old) (K.contents sink.new) (T.failed tables.old) (T.failed tables.new)
+        (K.failed sink.old) (K.failed sink.new) result }
+    ensures reported { Reported Any (K.contents sink.old) (K.contents sink.new) (T.failed tables.old) (T.failed tables.new)
+        (K.failed sink.old) (K.failed sink.new) result }
+    ensures asks { AsksUpTo 1048576 (T.asked tables.old) (T.asked tables.new) (T.dry tables.old) (T.dry tables.new) }
+    ensures left { LeavesSink (K.failed sink.old) (K.failed sink.new) (K.last_failed sink.new) (K.hidden sink.new) }
+    ensures quiet { result < 3 → T.failed tables.new + K.failed sink.new ≡ T.failed tables.old + K.failed sink.old }
+    ensures status { result ≤ 3 }
+{
+    let mut line = Vec::new(alloc);
+    let judged = judge_source(alloc, tables, &mut line);
+    let mut writer = LineWriter::new();
+    let ended = say(judged, line.as_slice(), &mut writer, sink);
+    report(ended, &mut writer, sink)
+}
