@@ -1,7 +1,10 @@
+pub mod Auditing
 pub mod Checking
 pub mod Exits
 pub mod LineAnswers
 pub mod Loading
+pub mod Numbers
+pub mod Recorded
 pub mod ReplayExits
 pub mod ReplayReports
 pub mod Said

@@ -2,16 +2,19 @@
 #![tactic(auto)]
 
 mod answer;
+mod audit;
 mod check;
 mod decode;
 mod inputs;
 mod judgement;
 mod print;
+mod recording;
 mod replay;
 mod replies;
 mod steps;
 mod text;
 
+pub use audit::run_audit;
 pub use check::run_check;
 pub use decode::run_decode;
 pub use replay::run_replay;
