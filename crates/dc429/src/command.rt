@@ -59,7 +59,9 @@ fn make<'a>(alloc: Global) -> Result<Command<'a>, Error> {
         .arg(file(alloc, "TABLES", "The tables, in TOML"))?
         .arg(all)?;
     let audit = Command::new(alloc, "audit")
-        .about("Audits the trace on standard input: its budgets, its sources, and the claims of a certificate")
+        .about(
+            "Audits the trace on standard input: its budgets, its sources, and the claims of a certificate",
+        )
         .arg(file(alloc, "TABLES", "The tables, in TOML"))?
         .arg(file(alloc, "CERT", "The certificate, in JSON"))?;
     Ok(

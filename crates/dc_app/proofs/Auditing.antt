@@ -2,11 +2,10 @@
 use Rattle.std.proofs.Common.{◌≡◌, ◌≢◌, ℕ, ◌+◌, ◌-◌, ◌<◌, ◌≤◌, ◌++◌, Bool, true, false, List, [], ◌∷◌, refl, sym, ◌∙◌, ap, subst, arith, codes, Option, Some, None, IfErr, IfOk, IfSome, Result, Ok, Err, ◌⊎◌, inl, inr}
 use Rattle.std.specs.Prelude.{nat_lt}
 use Rattle.std.proofs.lemmas.Bool.{lt-ltb}
-use Rattle.dc_cert.specs.Bounds.{certificate_rows, numbers_of}
+use Rattle.dc_cert.specs.Bounds.{numbers_of}
 use Rattle.dc_cert.specs.Faults.{fault_text as certificate_fault_text}
-use Rattle.dc_cert.specs.NamedRows.{NamedRows, named_rows}
+use Rattle.dc_cert.specs.NamedRows.{NamedRows}
 use Rattle.dc_cert.specs.Reading.{Reading, certificate_of}
-use Rattle.dc_cert.specs.declared.certificate.Certificate.{Certificate}
 use Rattle.dc_cert.specs.declared.fault.Fault.{Fault}
 use Rattle.dc_check.specs.Verdict.{verdict_of}
 use Rattle.dc_check.specs.declared.fault.CheckFault.{CheckFault}
@@ -24,7 +23,7 @@ use Rattle.dc_toml.specs.Reading.{tables_of}
 use Rattle.dc_app.specs.Answer.{Answer, Any, Ends, Raises, Reports, Reported, failed_by, fault_text, one_line, sink_failures_of, status_of}
 use Rattle.dc_app.specs.Audit.{AnswersAudit, AnswersClaims, AnswersRun, AnswersVerdict, AreFound, AuditAnswers, Judged, OnlyCertified, answer_findings, findings_lines, run_of}
 use Rattle.dc_app.specs.Check.{Certifies, Judges, answer_claims, answer_verdict, judged_answer, refused_text}
-use Rattle.dc_app.specs.Inputs.{Loads, LoadsCertificate}
+use Rattle.dc_app.specs.Inputs.{Loads}
 use Rattle.dc_app.specs.declared.answer.Failure.{Failure}
 use Rattle.dc_app.specs.declared.answer.Failure.TheVariants.{Source, Sink, Memory}
 use Rattle.dc_app.specs.declared.audit.Findings.{Findings}
@@ -62,12 +61,15 @@ module _ (t : TableRows) (ages : List ℕ) (events : Option (List ℕ)) where
         rw at (judged (run_numbered t keyed trace items at))
 
   -- its first fault was printed
-  pub fault_judged : (f : TraceFault) (text : List ℕ) → IfSome events (λ trace. run_of t trace ≡ Err f) → text ≡ fault_text (line_rule_code f.rule) f.line
+  pub fault_judged : (f printed : TraceFault) (text : List ℕ) → IfSome events (λ trace. run_of t trace ≡ Err f) → printed ≡ f → text ≡ fault_text (line_rule_code printed.rule) printed.line
       → IfSome events (λ trace. Judged (λ answer. AnswersRun t ages answer (run_of t trace)) text (Ok 2))
-  fault_judged f text told is = by events told where
+  fault_judged f printed text told at is = by events told where
+    same : text ≡ fault_text (line_rule_code f.rule) f.line
+    same = is ∙ ap (λ (x : TraceFault). fault_text (line_rule_code x.rule) x.line) at
+
     by : (from : Option (List ℕ)) → IfSome from (λ trace. run_of t trace ≡ Err f) → IfSome from (λ trace. Judged (λ answer. AnswersRun t ages answer (run_of t trace)) text (Ok 2))
     by None told = tt
-    by (Some trace) told = rw told (one_said (λ answer. AnswersRun t ages answer (Err f)) text (fault_text (line_rule_code f.rule) f.line) 2 is refl)
+    by (Some trace) told = rw told (one_said (λ answer. AnswersRun t ages answer (Err f)) text (fault_text (line_rule_code f.rule) f.line) 2 same refl)
 
 -- nothing was judged
 pub failed_judged : (events : Option (List ℕ)) (Is : List ℕ → Answer → Type 0) (text : List ℕ) (failure : Failure) → failure ≢ Sink → IfSome events (λ trace. Judged (Is trace) text (Err failure))
@@ -105,24 +107,27 @@ module _ (t : TableRows) (claims : NamedRows) (events : Option (List ℕ)) (text
 
 module _ (t : TableRows) (r events : Option (List ℕ)) (text : List ℕ) where
   -- it was read
-  pub claims_judged : (certificate : Certificate) (result : Result ℕ Failure) → IfSome r (λ claims. LoadsCertificate (certificate_of claims) (Ok certificate))
-      → IfSome events (λ trace. Judged (λ answer. AnswersClaims t trace answer (Ok (named_rows certificate))) text result)
+  pub claims_judged : (named : NamedRows) (result : Result ℕ Failure) → IfSome r (λ claims. certificate_of claims ≡ Ok named)
+      → IfSome events (λ trace. Judged (λ answer. AnswersClaims t trace answer (Ok named)) text result)
       → IfSome r (λ claims. IfSome events (λ trace. Judged (λ answer. AnswersClaims t trace answer (certificate_of claims)) text result))
-  claims_judged certificate result loads judged = by r loads where
-    by : (from : Option (List ℕ)) → IfSome from (λ claims. LoadsCertificate (certificate_of claims) (Ok certificate))
+  claims_judged named result loads judged = by r loads where
+    by : (from : Option (List ℕ)) → IfSome from (λ claims. certificate_of claims ≡ Ok named)
         → IfSome from (λ claims. IfSome events (λ trace. Judged (λ answer. AnswersClaims t trace answer (certificate_of claims)) text result))
     by None loads = tt
     by (Some claims) loads = rw loads judged
 
   -- its first fault was printed
-  pub unread_judged : (f : Fault) → IfSome r (λ claims. LoadsCertificate (certificate_of claims) (Err (Refused f))) → text ≡ codes "unreadable " ++ certificate_fault_text f
+  pub unread_judged : (f printed : Fault) → IfSome r (λ claims. certificate_of claims ≡ Err f) → printed ≡ f → text ≡ codes "unreadable " ++ certificate_fault_text printed
       → IfSome r (λ claims. IfSome events (λ trace. Judged (λ answer. AnswersClaims t trace answer (certificate_of claims)) text (Ok 2)))
-  unread_judged f loads is = by r loads where
+  unread_judged f printed loads at is = by r loads where
+    same : text ≡ codes "unreadable " ++ certificate_fault_text f
+    same = is ∙ ap (λ x. codes "unreadable " ++ certificate_fault_text x) at
+
     said : (from : Option (List ℕ)) → IfSome from (λ trace. Judged (λ answer. AnswersClaims t trace answer (Err f)) text (Ok 2))
     said None = tt
-    said (Some trace) = one_said (λ answer. AnswersClaims t trace answer (Err f)) text (codes "unreadable " ++ certificate_fault_text f) 2 is refl
+    said (Some trace) = one_said (λ answer. AnswersClaims t trace answer (Err f)) text (codes "unreadable " ++ certificate_fault_text f) 2 same refl
 
-    by : (from : Option (List ℕ)) → IfSome from (λ claims. LoadsCertificate (certificate_of claims) (Err (Refused f)))
+    by : (from : Option (List ℕ)) → IfSome from (λ claims. certificate_of claims ≡ Err f)
         → IfSome from (λ claims. IfSome events (λ trace. Judged (λ answer. AnswersClaims t trace answer (certificate_of claims)) text (Ok 2)))
     by None loads = tt
     by (Some claims) loads = rw loads (said events)
@@ -135,10 +140,10 @@ module _ (t : TableRows) (r events : Option (List ℕ)) (text : List ℕ) where
     by (Some claims) = failed_judged events (λ trace answer. AnswersClaims t trace answer (certificate_of claims)) text failure other
 
 -- what follows it was asked for where it is accepted
-pub certified_order : (t : TableRows) (r : Option (List ℕ)) (certificate : Certificate) (untouched : Type 0) → IfSome r (λ claims. LoadsCertificate (certificate_of claims) (Ok certificate))
-    → Certifies t (Ok (named_rows certificate)) ⊎ untouched → IfSome r (λ claims. Certifies t (certificate_of claims) ⊎ untouched)
-certified_order t None certificate untouched loads order = tt
-certified_order t (Some claims) certificate untouched loads order = rw loads order
+pub certified_order : (t : TableRows) (r : Option (List ℕ)) (named : NamedRows) (untouched : Type 0) → IfSome r (λ claims. certificate_of claims ≡ Ok named)
+    → Certifies t (Ok named) ⊎ untouched → IfSome r (λ claims. Certifies t (certificate_of claims) ⊎ untouched)
+certified_order t None named untouched loads order = tt
+certified_order t (Some claims) named untouched loads order = rw loads order
 
 pub certificate_kept : (t : TableRows) (r : Option (List ℕ)) (untouched : Type 0) → untouched → IfSome r (λ claims. Certifies t (certificate_of claims) ⊎ untouched)
 certificate_kept t None untouched h = tt
@@ -156,11 +161,11 @@ all_judged t r s events rows claims trace text result e f g loads judged =
     judged_as (λ answer. AnswersClaims t trace answer (certificate_of claims)) (AnswersAudit rows claims trace) text result (λ answer is. (Ok t, reported, is)) said
 
 -- they were refused
-pub tables_judged : (r : Option (List ℕ)) (rows claims trace text : List ℕ) (f : TableFault) → r ≡ Some rows → IfSome r (λ x. Loads (tables_of x) (Err (Refused f)))
-    → text ≡ codes "unreadable " ++ table_fault_text f → Judged (AnswersAudit rows claims trace) text (Ok 2)
-tables_judged r rows claims trace text f e loads is =
+pub tables_judged : (r : Option (List ℕ)) (rows claims trace text : List ℕ) (f printed : TableFault) → r ≡ Some rows → IfSome r (λ x. Loads (tables_of x) (Err (Refused f)))
+    → printed ≡ f → text ≡ codes "unreadable " ++ table_fault_text printed → Judged (AnswersAudit rows claims trace) text (Ok 2)
+tables_judged r rows claims trace text f printed e loads at is =
     let reported = rw e at loads in
-    one_said (AnswersAudit rows claims trace) text (codes "unreadable " ++ table_fault_text f) 2 is (Err (RefusedTables f), reported, refl)
+    one_said (AnswersAudit rows claims trace) text (codes "unreadable " ++ table_fault_text f) 2 (is ∙ ap (λ x. codes "unreadable " ++ table_fault_text x) at) (Err (RefusedTables f), reported, refl)
 
 -- they were not read
 pub failed_tables : (Is : Answer → Type 0) (text : List ℕ) (failure : Failure) → failure ≢ Sink → Judged Is text (Err failure)
@@ -199,8 +204,8 @@ raised a a' (Err Sink) (Err Sink) h same other = h
 raised a a' (Err Memory) (Err Sink) h same other = omega (arith, h)
 
 -- the answer, where there is one
-chosen : (Is : Answer → Type 0) (text : List ℕ) (judged : Result ℕ Failure) → Judged Is text judged → Answer
-chosen Is text (Ok status) (answer, rest) = answer
+abbrev chosen : (Is : Answer → Type 0) (text : List ℕ) (judged : Result ℕ Failure) → Judged Is text judged → Answer
+chosen Is text (Ok status) (answer, is, same, ends) = answer
 chosen Is text (Err failure) h = record { lines = []; status = 3 }
 
 module _ (Is : Answer → Type 0) (text : List ℕ) (old mid : Option (List ℕ)) where
@@ -208,7 +213,6 @@ module _ (Is : Answer → Type 0) (text : List ℕ) (old mid : Option (List ℕ)
   written : (judged ended : Result ℕ Failure) (h : Judged Is text judged) → Ends old [] mid (judged_answer text judged) ended → IfOk ended (λ status. judged ≡ Ok status)
       → IfErr ended (λ e. e ≢ Sink → judged ≡ Err e) → Ends old [] mid (chosen Is text judged h) ended
   written (Ok status) (Ok ended) (answer, is, same, ends) (appends, was) kept other =
-      let P : List ℕ → Type 0 = λ l. Ends old [] mid answer (Ok ended) in
       rw (sym same) (appends, was ∙ ends)
   written (Ok status) (Err Source) h ends kept other = let no : Ok status ≡ Err Source = other (λ e. cc) in absurd (cc)
   written (Ok status) (Err Memory) h ends kept other = let no : Ok status ≡ Err Memory = other (λ e. cc) in absurd (cc)
@@ -223,8 +227,8 @@ module _ (Is : Answer → Type 0) (text : List ℕ) (old mid : Option (List ℕ)
   module _ (Answers : Bool → Answer → Type 0) (whole : (answer : Answer) → Is answer → Answers true answer) (part : (answer : Answer) → Is answer → Answers false answer)
       (none : (answer : Answer) → answer.lines ≡ [] → Answers false answer) where
     answered : (judged ended : Result ℕ Failure) (h : Judged Is text judged) → IfOk ended (λ status. status < 3) → IfOk ended (λ status. judged ≡ Ok status) → Answers (nat_lt (status_of ended) 3) (chosen Is text judged h)
-    answered (Ok status) (Ok ended) (answer, is, rest) low kept = rw (lt-ltb ended 3 low) (whole answer is)
-    answered (Ok status) (Err f) (answer, is, rest) low kept = part answer is
+    answered (Ok status) (Ok ended) (answer, is, same, ends) low kept = rw (lt-ltb ended 3 low) (whole answer is)
+    answered (Ok status) (Err f) (answer, is, same, ends) low kept = part answer is
     answered (Err failure) (Ok ended) h low kept = absurd (cc)
     answered (Err failure) (Err f) h low kept = none (record { lines = []; status = 3 }) refl
 

@@ -2,10 +2,9 @@
 use Rattle.std.proofs.Common.{◌≡◌, ◌≢◌, ℕ, ◌+◌, ◌-◌, ◌<◌, ◌≤◌, ◌++◌, List, [], ◌∷◌, length, refl, sym, ◌∙◌, ap, subst, arith, true, false, codes, Option, Some, None, IfErr, IfOk, IfSome, Result, Ok, Err, inl, inr}
 use Rattle.std.specs.Prelude.{nat_le, nat_lt}
 use Rattle.std.proofs.lemmas.Bool.{lt-ltb}
-use Rattle.dc_cert.specs.NamedRows.{NamedRows, named_rows}
+use Rattle.dc_cert.specs.NamedRows.{NamedRows}
 use Rattle.dc_cert.specs.Faults.{fault_text}
 use Rattle.dc_cert.specs.Reading.{certificate_of}
-use Rattle.dc_cert.specs.declared.certificate.Certificate.{Certificate}
 use Rattle.dc_cert.specs.declared.fault.Fault.{Fault}
 use Rattle.dc_check.specs.Accepts.{Accepts}
 use Rattle.dc_check.specs.Certified.{AcceptedKeepTheirClaims}
@@ -18,7 +17,7 @@ use Rattle.dc_toml.specs.Reported.{AreTablesOf}
 use Rattle.dc_app.specs.Answer.{Answer, Any, Raises, Reports, Reported, failed_by, one_line, sink_failures_of, status_of}
 use Rattle.dc_parts.specs.declared.fault.BuildError.TheVariants.{Refused as RefusedTables}
 use Rattle.dc_app.specs.Check.{AreCertified, Certifies, CheckAnswers, Judges, JudgesTexts, ReportsCheck, accepted_text, judged_answer}
-use Rattle.dc_app.specs.Inputs.{Loads, LoadsCertificate}
+use Rattle.dc_app.specs.Inputs.{Loads}
 use Rattle.dc_app.specs.declared.answer.Failure.{Failure}
 use Rattle.dc_app.specs.declared.answer.Failure.TheVariants.{Source, Sink, Memory}
 use Rattle.dc_app.specs.declared.inputs.Unloaded.TheVariants.{Refused}
@@ -32,16 +31,16 @@ accepted_judged t claims line keep ok none is =
     (rw (none, is) refl, (λ zero_is. record { claims = claims; read = refl; accepted = ok; kept = keep claims ok }))
 
 -- it can't be read, and its fault was printed
-pub unread_judged : (t : TableRows) (r : Option (List ℕ)) (line : List ℕ) (fault : Fault) → IfSome r (λ text. LoadsCertificate (certificate_of text) (Err (Refused fault)))
-    → line ≡ codes "unreadable " ++ fault_text fault → IfSome r (λ text. Judges t (certificate_of text) line (Ok 2))
-unread_judged t None line fault loads is = tt
-unread_judged t (Some text) line fault loads is = (rw (loads, is) refl, (λ e. absurd (omega arith)))
+pub unread_judged : (t : TableRows) (r : Option (List ℕ)) (line : List ℕ) (fault printed : Fault) → IfSome r (λ text. certificate_of text ≡ Err fault) → printed ≡ fault
+    → line ≡ codes "unreadable " ++ fault_text printed → IfSome r (λ text. Judges t (certificate_of text) line (Ok 2))
+unread_judged t None line fault printed loads at is = tt
+unread_judged t (Some text) line fault printed loads at is = (rw (loads, is, at) refl, (λ e. absurd (omega arith)))
 
 -- it was read, and judged
-pub read_judged : (t : TableRows) (r : Option (List ℕ)) (line : List ℕ) (certificate : Certificate) (status : ℕ) → IfSome r (λ text. LoadsCertificate (certificate_of text) (Ok certificate))
-    → Judges t (Ok (named_rows certificate)) line (Ok status) → IfSome r (λ text. Judges t (certificate_of text) line (Ok status))
-read_judged t None line certificate status loads judges = tt
-read_judged t (Some text) line certificate status loads judges = rw loads judges
+pub read_judged : (t : TableRows) (r : Option (List ℕ)) (line : List ℕ) (named : NamedRows) (status : ℕ) → IfSome r (λ text. certificate_of text ≡ Ok named)
+    → Judges t (Ok named) line (Ok status) → IfSome r (λ text. Judges t (certificate_of text) line (Ok status))
+read_judged t None line named status loads judges = tt
+read_judged t (Some text) line named status loads judges = rw loads judges
 
 -- ---- both texts
 

@@ -34,8 +34,8 @@ told_more run e more full =
 
 module _ (t : TableRows) (from : Option (List ℕ)) where
   -- nothing was read
-  pub heard_first : (left : Option Trace) → ((text : List ℕ) → from ≡ Some text → left ≡ Some (trace_of t 1073741824 text)) → Heard t from left []
-  heard_first left whole = record { ahead = λ text is. (trace_of t 1073741824 text, whole text is, refl) }
+  pub heard_first : (left : Option Trace) (run : List Event) → run ≡ [] → ((text : List ℕ) → from ≡ Some text → left ≡ Some (trace_of t 1073741824 text)) → Heard t from left run
+  heard_first left run none whole = record { ahead = λ text is. (trace_of t 1073741824 text, whole text is, ap (λ r. behind r (trace_of t 1073741824 text)) (sym none)) }
 
   -- one more event
   pub heard_next : (left later : Option Trace) (run : List Event) (e : Event) → Heard t from left run → TellsEvent left later e → Heard t from later (run ++ e ∷ [])

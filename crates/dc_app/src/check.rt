@@ -59,7 +59,7 @@ fn judge_source<C: Source>(
             print_cert_fault(line, fault);
             Ok(2)
         }
-        Err(Unloaded::Failed(failure)) => Err(failure),
+        Err(Unloaded::Failed(cause)) => Err(cause),
     }
 }
 

@@ -131,7 +131,11 @@ pub fn fills_its_sink(rt: &impl Abort, alloc: Global, case: &Case) -> Result<(),
         let mut certificate = MemSource::new(case.certificate, 4096, 0);
         let mut trace = MemSource::new(case.trace, 4096, 0);
         let status = run_audit(alloc, &mut tables, &mut certificate, &mut trace, &mut sink);
-        assert_eq!(rt; sink.bytes(), case.want.get(..room).unwrap_or(&[]), "in {room} bytes");
+        assert_eq!(rt;
+            sink.bytes(),
+            case.want.get(..room).unwrap_or(&[]),
+            "in {room} bytes"
+        );
         assert_eq!(rt; status, 3, "in {room} bytes");
     }
     Ok(())

@@ -31,7 +31,8 @@ A A 600000C/|unreadable E5 at line 1/|2
 T/T|unreadable E6 at line 2/|2";
 
 /// Runs of the same tables with a policed bus: nothing is asked of its sources.
-const POLICED: &str = "A A 600000C1/;9*R R1/S O/T/;A A 600000C1/|budgets hold/sources hold/claims hold/|0
+const POLICED: &str =
+    "A A 600000C1/;9*R R1/S O/T/;A A 600000C1/|budgets hold/sources hold/claims hold/|0
 A A 600000C1/A A E0000021/A A 600000C1/|budgets hold/sources hold/claims hold/|0
 21*T/|budgets fail at 1/sources hold/claim 4 fails at 21/|1";
 
@@ -103,7 +104,12 @@ fn the_certificate_is_judged_before_the_trace(rt: HostRuntime) -> Result<(), Fai
     push_tables(&mut tables, false)?;
     for (tables, certificate, want, status) in [
         (tables.as_str(), QUICK, "refused C06 input A window 1\n", 1),
-        (tables.as_str(), "{\"inputs\":[", "unreadable K1 at top\n", 2),
+        (
+            tables.as_str(),
+            "{\"inputs\":[",
+            "unreadable K1 at top\n",
+            2,
+        ),
         ("version = 3", QUICK, "unreadable T02 at top\n", 2),
     ] {
         ends_before_the_trace(&rt, rt.alloc(), tables, certificate, want, status)?;

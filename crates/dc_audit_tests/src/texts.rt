@@ -58,10 +58,12 @@ offsets = [0]
 ";
 
 /// What certifies them.
-pub const CERTIFICATE: &str = "{\"inputs\":[{\"backlog\":2,\"bus\":\"A\",\"delay\":2,\"window\":3}],\"labels\":[{\"age\":24,\"label\":\"x\"}],\"outputs\":[{\"delay\":2,\"output\":\"O\",\"window\":3}],\"version\":1}";
+pub const CERTIFICATE: &str =
+    "{\"inputs\":[{\"backlog\":2,\"bus\":\"A\",\"delay\":2,\"window\":3}],\"labels\":[{\"age\":24,\"label\":\"x\"}],\"outputs\":[{\"delay\":2,\"output\":\"O\",\"window\":3}],\"version\":1}";
 
 /// The same with a delay of bus A that is too small.
-pub const QUICK: &str = "{\"inputs\":[{\"backlog\":2,\"bus\":\"A\",\"delay\":1,\"window\":3}],\"labels\":[{\"age\":24,\"label\":\"x\"}],\"outputs\":[{\"delay\":2,\"output\":\"O\",\"window\":3}],\"version\":1}";
+pub const QUICK: &str =
+    "{\"inputs\":[{\"backlog\":2,\"bus\":\"A\",\"delay\":1,\"window\":3}],\"labels\":[{\"age\":24,\"label\":\"x\"}],\"outputs\":[{\"delay\":2,\"output\":\"O\",\"window\":3}],\"version\":1}";
 
 /// What stands in a hole of the tables.
 fn filling(hole: &str, policed: bool) -> &'static str {

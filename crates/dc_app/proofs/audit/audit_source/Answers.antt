@@ -15,7 +15,7 @@ returns-in-Ok-clause-order g c = certified_order _ _ _ _ c.in-Ok.ensures.certifi
 pub returns-in-Err-Refused-clause-answer : goal.returns-in-Err-Refused-clause-answer
 returns-in-Err-Refused-clause-answer g c =
     let loads = rw c.in-Err-Refused.field-0-is at c.in-Err-Refused.ensures.certificate in
-    unread_judged _ _ _ _ _ loads c.print_cert_fault.ensures
+    unread_judged _ _ _ _ _ _ loads c.in-Err-Refused.fault-is c.print_cert_fault.ensures
 
 pub returns-in-Err-Refused-clause-order : goal.returns-in-Err-Refused-clause-order
 returns-in-Err-Refused-clause-order g c = certificate_kept _ _ _ refl

@@ -19,7 +19,7 @@ returns-in-Ok-clause-order_trace g c = only_certified c.in-Ok.tables _ _ _ c.in-
 pub returns-in-Err-Refused-clause-answer : goal.returns-in-Err-Refused-clause-answer
 returns-in-Err-Refused-clause-answer g c = λ rows claims events e f h.
     let loads = rw c.in-Err-Refused.field-0-is at c.in-Err-Refused.ensures.tables in
-    tables_judged _ rows claims events _ _ e loads c.print_table_fault.ensures
+    tables_judged _ rows claims events _ _ _ e loads c.in-Err-Refused.fault-is c.print_table_fault.ensures
 
 pub returns-in-Err-Refused-clause-order_certificate : goal.returns-in-Err-Refused-clause-order_certificate
 returns-in-Err-Refused-clause-order_certificate g c = behind_kept _ _ refl

@@ -4,8 +4,8 @@ use Rattle.dc_app.proofs.Recorded.{Heard}
 use Rattle.dc_app.proofs.Said.{steps}
 use Rattle.dc_app.proofs.recording.load_run.Given as goal
 
-abbrev pub invariant-loop-run : goal.invariant-loop-run
-invariant-loop-run g l =
+abbrev pub invariant-loop-lines : goal.invariant-loop-lines
+invariant-loop-lines g l =
     record {
       heard : Heard l.tables (g.S.Source.remaining l.fn.trace) (ahead l.lines (g.S.Source.remaining l.trace)) l.run.items;
       few : length l.run.items ≤ 100000;
@@ -14,5 +14,5 @@ invariant-loop-run g l =
       dry : g.S.Source.dry l.trace + dry_left l.lines.stopped ≤ g.S.Source.dry l.fn.trace + 1;
     }
 
-abbrev pub decreases-loop-run : goal.decreases-loop-run
-decreases-loop-run g l = steps l.lines.stopped (2 * l.lines.room + waits l.lines.held)
+abbrev pub decreases-loop-lines : goal.decreases-loop-lines
+decreases-loop-lines g l = steps l.lines.stopped (2 * l.lines.room + waits l.lines.held)
