@@ -16,7 +16,7 @@ use std::process::Abort;
 use std::rt::HostRuntime;
 use std::test::Fail;
 
-/// How many runs there are, each of other tables, and how many events are drawn for each.
+/// How many runs there are, each of other tables, and how many events are drawn for each at most.
 const RUNS: u32 = 300;
 
 const DRAWN: u32 = 60;
@@ -48,7 +48,7 @@ fn random_run(
     tables: &Tables,
 ) -> Result<Vec<Event>, AllocError> {
     let mut run = Vec::new(alloc);
-    for _drawn in 0..DRAWN {
+    for _drawn in 0..chance.below(DRAWN) {
         let event = random_event(chance, tables);
         if is_known(tables, &event) {
             run.push(event)?;
