@@ -28,6 +28,13 @@ pub enum Order<'a> {
         /// Whether every reply is printed.
         all: bool,
     },
+    /// Audit the trace on standard input against the certificate in a file, for the tables in another.
+    Audit {
+        /// The path of the tables.
+        tables: &'a str,
+        /// The path of the certificate.
+        certificate: &'a str,
+    },
 }
 
 // A file that is read.
@@ -59,6 +66,12 @@ fn make<'a>(alloc: Global) -> Result<Command<'a>, Error> {
         .about("Replays the trace on standard input through the concentrator of the tables")
         .arg(file(alloc, "TABLES", "The tables, in TOML"))?
         .arg(all)?;
+    let audit = Command::new(alloc, "audit")
+        .about(
+            "Audits the trace on standard input: its budgets, its sources, and the claims of a certificate",
+        )
+        .arg(file(alloc, "TABLES", "The tables, in TOML"))?
+        .arg(file(alloc, "CERT", "The certificate, in JSON"))?;
     Ok(
         Command::new(alloc, "dc429")
             .about("An ARINC 429 concentrator that is certified before it flies")
@@ -67,7 +80,8 @@ fn make<'a>(alloc: Global) -> Result<Command<'a>, Error> {
             .subcommand(decode)?
             .subcommand(check)?
             .subcommand(find)?
-            .subcommand(replay)?,
+            .subcommand(replay)?
+            .subcommand(audit)?,
     )
 }
 
@@ -91,6 +105,10 @@ fn order_in<'a>(matches: &ArgMatches<'a>) -> Option<Order<'a>> {
         "replay" => Some(Order::Replay {
             tables: matches.get_str("TABLES")?,
             all: matches.get_flag("all"),
+        }),
+        "audit" => Some(Order::Audit {
+            tables: matches.get_str("TABLES")?,
+            certificate: matches.get_str("CERT")?,
         }),
         _ => None,
     }

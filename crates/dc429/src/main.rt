@@ -4,7 +4,7 @@
 mod command;
 
 use command::{Order, parse};
-use dc_app::{run_check, run_decode, run_find, run_replay};
+use dc_app::{run_audit, run_check, run_decode, run_find, run_replay};
 use dc_device::{ReadSource, WriteSink};
 use std::alloc::AllocError;
 use std::process::ExitCode;
@@ -70,6 +70,21 @@ fn carry_out<R: AllocGlobal + Files + Input + Print>(
             let mut tables = ReadSource::new(fs::open(rt, tables)?);
             let mut trace = ReadSource::new(rt.reader());
             Ok(run_replay(rt.alloc(), all, &mut tables, &mut trace, &mut sink))
+        }
+        Order::Audit {
+            tables,
+            certificate,
+        } => {
+            let mut tables = ReadSource::new(fs::open(rt, tables)?);
+            let mut certificate = ReadSource::new(fs::open(rt, certificate)?);
+            let mut trace = ReadSource::new(rt.reader());
+            Ok(run_audit(
+                rt.alloc(),
+                &mut tables,
+                &mut certificate,
+                &mut trace,
+                &mut sink,
+            ))
         }
     }
 }

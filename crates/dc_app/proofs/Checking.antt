@@ -4,10 +4,8 @@ use Rattle.std.specs.Prelude.{nat_le, nat_lt}
 use Rattle.std.proofs.lemmas.Bool.{lt-ltb}
 use Rattle.dc_cert.specs.NamedRows.{NamedRows}
 use Rattle.dc_cert.specs.Faults.{fault_text}
-use Rattle.dc_cert.specs.Reading.{certificate_of, document_of}
+use Rattle.dc_cert.specs.Reading.{certificate_of}
 use Rattle.dc_cert.specs.declared.fault.Fault.{Fault}
-use Rattle.dc_cert.specs.declared.fault.CertRule.TheVariants.{NotJson}
-use Rattle.dc_cert.specs.declared.fault.TextPlace.TheVariants.{Top}
 use Rattle.dc_check.specs.Accepts.{Accepts}
 use Rattle.dc_check.specs.Certified.{AcceptedKeepTheirClaims}
 use Rattle.dc_check.specs.Verdict.{verdict_of}
@@ -23,7 +21,6 @@ use Rattle.dc_app.specs.Inputs.{Loads}
 use Rattle.dc_app.specs.declared.answer.Failure.{Failure}
 use Rattle.dc_app.specs.declared.answer.Failure.TheVariants.{Source, Sink, Memory}
 use Rattle.dc_app.specs.declared.inputs.Unloaded.TheVariants.{Refused}
-use Rattle.dc_app.proofs.Loading.{over}
 
 -- ---- a certificate for tables
 
@@ -33,18 +30,17 @@ pub accepted_judged : (t : TableRows) (claims : NamedRows) (line : List ℕ) →
 accepted_judged t claims line keep ok none is =
     (rw (none, is) refl, (λ zero_is. record { claims = claims; read = refl; accepted = ok; kept = keep claims ok }))
 
-no_json : Fault
-no_json = record { rule = NotJson; place = Top }
+-- it can't be read, and its fault was printed
+pub unread_judged : (t : TableRows) (r : Option (List ℕ)) (line : List ℕ) (fault printed : Fault) → IfSome r (λ text. certificate_of text ≡ Err fault) → printed ≡ fault
+    → line ≡ codes "unreadable " ++ fault_text printed → IfSome r (λ text. Judges t (certificate_of text) line (Ok 2))
+unread_judged t None line fault printed loads at is = tt
+unread_judged t (Some text) line fault printed loads at is = (rw (loads, is, at) refl, (λ e. absurd (omega arith)))
 
--- a text past its limit is no certificate
-long_text : (text : List ℕ) → 1048576 < length text → certificate_of text ≡ Err (record { rule = NotJson; place = Top })
-unfolding document_of
-long_text text h = rw (over (length text) 1048576 h) refl
-
-pub long_judged : (t : TableRows) (r : Option (List ℕ)) (line : List ℕ) (fault : Fault) → IfSome r (λ text. 1048576 < length text) → fault ≡ record { rule = NotJson; place = Top }
-    → line ≡ codes "unreadable " ++ fault_text fault → IfSome r (λ text. Judges t (certificate_of text) line (Ok 2))
-long_judged t None line fault long at is = tt
-long_judged t (Some text) line fault long at is = (rw (long_text text long, is, at) refl, (λ e. absurd (omega arith)))
+-- it was read, and judged
+pub read_judged : (t : TableRows) (r : Option (List ℕ)) (line : List ℕ) (named : NamedRows) (status : ℕ) → IfSome r (λ text. certificate_of text ≡ Ok named)
+    → Judges t (Ok named) line (Ok status) → IfSome r (λ text. Judges t (certificate_of text) line (Ok status))
+read_judged t None line named status loads judges = tt
+read_judged t (Some text) line named status loads judges = rw loads judges
 
 -- ---- both texts
 

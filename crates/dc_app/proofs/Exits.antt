@@ -370,7 +370,7 @@ no_lines : (ended : Result ℕ Failure) (answer : Answer) → (ended ≡ Err Mem
 no_lines (Ok status) answer none low is = absurd (cc)
 no_lines (Err failure) answer none low is = none (ap (λ f. let r : Result ℕ Failure = Err f in r) is)
 
-reported_of : (Is : Answer → Type 0) (old mid new : Option (List ℕ)) (ended : Result ℕ Failure) (answer : Answer) (source source' sink sink' sink'' status : ℕ) → Is answer
+pub reported_of : (Is : Answer → Type 0) (old mid new : Option (List ℕ)) (ended : Result ℕ Failure) (answer : Answer) (source source' sink sink' sink'' status : ℕ) → Is answer
     → (ended ≡ Err Memory → answer.lines ≡ []) → Ends old [] mid answer ended → IfOk ended (λ status. status < 3) → Raises source source' ended → sink' ≡ sink + sink_failures_of ended
     → sink' ≤ sink'' → status ≡ status_of ended
     → ((old : Option (List ℕ)) (answer : Answer) (before : ℕ) → IfOk ended (λ status. status < 3) → sink' ≡ before + sink_failures_of ended → Ends old [] mid answer ended

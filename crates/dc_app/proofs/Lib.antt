@@ -1,8 +1,11 @@
+pub mod Auditing
 pub mod Checking
 pub mod Exits
 pub mod Finding
 pub mod LineAnswers
 pub mod Loading
+pub mod Numbers
+pub mod Recorded
 pub mod ReplayExits
 pub mod ReplayReports
 pub mod Said

@@ -1,11 +1,13 @@
 -- Tables from the text of a source.
 use Rattle.std.proofs.Common.{◌≡◌, ℕ, ◌<◌, ◌≤◌, List, length, refl, sym, ◌∙◌, ap, subst, arith, true, false, nat_le, Option, Some, None, IfSome, Result, Ok, Err, inl, inr}
 use Rattle.std.proofs.lemmas.Bool.Decides.{nat_tests}
+use Rattle.dc_cert.specs.Reading.{certificate_of, document_of as certificate_document_of}
+use Rattle.dc_cert.specs.declared.fault.Fault.{Fault}
 use Rattle.dc_tables.specs.TableRows.{TableRows}
 use Rattle.dc_parts.specs.declared.fault.TableFault.{TableFault}
 use Rattle.dc_toml.specs.Reading.{document_of, tables_of}
 use Rattle.dc_toml.specs.Reported.{TellsTables}
-use Rattle.dc_app.specs.Inputs.{Loads, OnlyBehind, ReadsText, no_document}
+use Rattle.dc_app.specs.Inputs.{Loads, LoadsCertificate, OnlyBehind, ReadsText, no_document, no_json}
 use Rattle.dc_app.specs.declared.inputs.Unloaded.{Unloaded}
 use Rattle.dc_app.specs.declared.inputs.Unloaded.TheVariants.{Refused, Failed}
 
@@ -17,15 +19,25 @@ long_text : (text : List ℕ) → 1048576 < length text → tables_of text ≡ E
 unfolding document_of
 long_text text h = rw (over (length text) 1048576 h) refl
 
-pub refused_loads : (r : Option (List ℕ)) (u : Unloaded) → IfSome r (λ text. ReadsText text (Err u)) → IfSome r (λ text. Loads (tables_of text) (Err u))
+-- nor is it a certificate
+long_certificate : (text : List ℕ) → 1048576 < length text → certificate_of text ≡ Err no_json
+unfolding certificate_document_of
+long_certificate text h = rw (over (length text) 1048576 h) refl
+
+pub refused_loads : (r : Option (List ℕ)) (u : Unloaded TableFault) → IfSome r (λ text. ReadsText no_document text (Err u)) → IfSome r (λ text. Loads (tables_of text) (Err u))
 refused_loads None u h = tt
 refused_loads (Some text) (Refused fault) (long, is) = inl (rw is (long_text text long))
 refused_loads (Some text) (Failed failure) h = tt
 
-pub read_loads : (r : Option (List ℕ)) (bytes items : List ℕ) (result : Result TableRows Unloaded) → bytes ≡ items → IfSome r (λ text. items ≡ text) → Loads (tables_of bytes) result
-    → IfSome r (λ text. Loads (tables_of text) result)
-read_loads None bytes items result e h reported = tt
-read_loads (Some text) bytes items result e h reported = subst (λ text. Loads (tables_of text) result) (e ∙ h) reported
+pub refused_certificate : (r : Option (List ℕ)) (u : Unloaded Fault) → IfSome r (λ text. ReadsText no_json text (Err u)) → IfSome r (λ text. LoadsCertificate (certificate_of text) (Err u))
+refused_certificate None u h = tt
+refused_certificate (Some text) (Refused fault) (long, is) = rw is (long_certificate text long)
+refused_certificate (Some text) (Failed failure) h = tt
+
+-- what is said of the bytes that were read is so of the text
+pub read_text : (r : Option (List ℕ)) (bytes items : List ℕ) (P : List ℕ → Type 0) → bytes ≡ items → IfSome r (λ text. items ≡ text) → P bytes → IfSome r P
+read_text None bytes items P e h reported = tt
+read_text (Some text) bytes items P e h reported = subst P (e ∙ h) reported
 
 -- the tables were read, and what comes after them may be asked for
 pub behind_read : (r : Option (List ℕ)) (t : TableRows) (untouched : Type 0) → IfSome r (λ text. Loads (tables_of text) (Ok t)) → IfSome r (λ text. OnlyBehind (tables_of text) untouched)

@@ -51,21 +51,21 @@ follow-push t past (x ∷ xs) e (first, more) may = (first, follow-push t (past 
 
 -- ---- what is left of a trace
 
-over : (left : Option Trace) (rest : Trace) (fault : Option TraceFault) → left ≡ Some rest → IsOver left fault → rest ≡ no_more fault
+pub over : (left : Option Trace) (rest : Trace) (fault : Option TraceFault) → left ≡ Some rest → IsOver left fault → rest ≡ no_more fault
 over None rest fault at h = cc
 over (Some t) rest fault at h = cc
 
-next : (left later : Option Trace) (rest : Trace) (e : Event) → left ≡ Some rest → TellsEvent left later e
+pub next : (left later : Option Trace) (rest : Trace) (e : Event) → left ≡ Some rest → TellsEvent left later e
     → (more : Trace) × (later ≡ Some more) × (rest ≡ event_in_front e more)
 next None later rest e at h = cc
 next (Some t) later rest e at (more, is, whole) = (more, is, cc)
 
-stayed : (left later : Option Trace) (rest : Trace) → left ≡ Some rest → Stays left later → later ≡ Some rest
+pub stayed : (left later : Option Trace) (rest : Trace) → left ≡ Some rest → Stays left later → later ≡ Some rest
 stayed None later rest at h = cc
 stayed (Some t) later rest at h = cc
 
 -- the trace after one more event
-behind_next : (done : List Event) (e : Event) (trace rest more : Trace) → trace ≡ behind done rest → rest ≡ event_in_front e more → trace ≡ behind (done ++ e ∷ []) more
+pub behind_next : (done : List Event) (e : Event) (trace rest more : Trace) → trace ≡ behind done rest → rest ≡ event_in_front e more → trace ≡ behind (done ++ e ∷ []) more
 behind_next done e trace rest more whole first =
     whole ∙ ap (λ r. behind done r) first ∙ ap (λ es. let t : Trace = record { events = es; fault = more.fault } in t) (sym (append_assoc done (e ∷ []) more.events))
 

@@ -1,6 +1,12 @@
--- Tables from a source.
+-- Tables and certificates from a source.
 use Rattle.std.specs.Prelude.{◌≡◌, ◌⊎◌, ℕ, ◌<◌, List, length, Result, Ok, Err, alloc_error}
 use Rattle.std.specs.Global.{Vec}
+use Rattle.dc_cert.specs.NamedRows.{NamedRows, named_rows}
+use Rattle.dc_cert.specs.Reading.{Reading as CertificateReading}
+use Rattle.dc_cert.specs.declared.certificate.Certificate.{Certificate}
+use Rattle.dc_cert.specs.declared.fault.CertRule.TheVariants.{NotJson}
+use Rattle.dc_cert.specs.declared.fault.Fault.{Fault}
+use Rattle.dc_cert.specs.declared.fault.TextPlace.TheVariants.{Top as TopPlace}
 use Rattle.dc_parts.specs.declared.fault.BuildError.TheVariants.{Refused as RefusedTables}
 use Rattle.dc_parts.specs.declared.fault.TableRule.TheVariants.{NotToml}
 use Rattle.dc_parts.specs.declared.fault.Section.TheVariants.{Top}
@@ -17,20 +23,30 @@ use Rattle.dc_app.specs.declared.inputs.Unloaded.TheVariants.{Refused, Failed}
 abbrev pub no_document : TableFault
 no_document = record { rule = NotToml; section = Top; index = 0 }
 
--- the whole text, or that it is longer than tables may be; something else may fail with any text
-abbrev pub ReadsText : List ℕ → Result (Vec ℕ) Unloaded → Type 0
-ReadsText text (Ok bytes) = bytes.items ≡ text
-ReadsText text (Err (Refused fault)) = (1048576 < length text) × (fault ≡ no_document)
-ReadsText text (Err (Failed failure)) = Unit {0}
+-- the fault of a text that is too long, not UTF-8 or no JSON document
+abbrev pub no_json : Fault
+no_json = record { rule = NotJson; place = TopPlace }
+
+-- the whole text, or this fault where it is longer than a text may be; something else may fail with any text
+abbrev pub ReadsText : {F : Type 0} → F → List ℕ → Result (Vec ℕ) (Unloaded F) → Type 0
+ReadsText too_long text (Ok bytes) = bytes.items ≡ text
+ReadsText too_long text (Err (Refused fault)) = (1048576 < length text) × (fault ≡ too_long)
+ReadsText too_long text (Err (Failed failure)) = Unit {0}
 
 -- the tables of a text that reads so, or its first fault; something else may fail with any text
-abbrev pub Loads : Reading Written → Result TableRows Unloaded → Type 0
+abbrev pub Loads : Reading Written → Result TableRows (Unloaded TableFault) → Type 0
 Loads reading (Ok rows) = TellsTables reading (Ok rows)
 Loads reading (Err (Refused fault)) = TellsTables reading (Err (RefusedTables fault))
 Loads reading (Err (Failed failure)) = Unit {0}
 
+-- the certificate of a text that reads so, or its first fault; something else may fail with any text
+abbrev pub LoadsCertificate : CertificateReading NamedRows → Result Certificate (Unloaded Fault) → Type 0
+LoadsCertificate reading (Ok certificate) = reading ≡ Ok (named_rows certificate)
+LoadsCertificate reading (Err (Refused fault)) = reading ≡ Err fault
+LoadsCertificate reading (Err (Failed failure)) = Unit {0}
+
 -- how many failures of the source a result counts
-abbrev pub failed_in : {T : Type 0} → Result T Unloaded → ℕ
+abbrev pub failed_in : {T F : Type 0} → Result T (Unloaded F) → ℕ
 failed_in (Ok x) = 0
 failed_in (Err (Refused fault)) = 0
 failed_in (Err (Failed Source)) = 1

@@ -1,4 +1,5 @@
 pub mod Answer
+pub mod Audit
 pub mod Check
 pub mod Decode
 pub mod Find

@@ -19,8 +19,8 @@ pub enum Failure {
 /// centuries.
 pub const LIMIT: u64 = 9_223_372_036_854_775_807;
 
-// The line of a fault.
-fn print_fault(text: &mut Text, code: &[u8], number: u64)
+/// The line of a fault.
+pub fn print_fault(text: &mut Text, code: &[u8], number: u64)
     requires { length code.now ≤ 8 }
     ensures { text.new.items ≡ fault_text code.now number }
 {

@@ -9,19 +9,19 @@ ghost use Rattle.dc_app.specs.Check.{Judges, JudgesTexts, ReportsCheck};
 ghost use Rattle.dc_app.specs.Inputs.{OnlyBehind};
 
 use crate::answer::{Failure, report, say};
-use crate::inputs::{Unloaded, load};
+use crate::inputs::{Unloaded, load, load_certificate};
 use crate::judgement::{print_accepted, print_cert_fault, print_refused};
 use crate::print::print_table_fault;
 use crate::text::Text;
-use dc_cert::{CertFault, CertRule, Certificate, Fault, TEXT_LIMIT, TextPlace, read_cert};
+use dc_cert::Certificate;
 use dc_check::laws::{accepted_certificates_keep_their_claims, no_fault_is_acceptance};
 use dc_check::verdict;
-use dc_device::{LineWriter, Sink, Source, Unread, read_at_most};
+use dc_device::{LineWriter, Sink, Source};
 use dc_tables::Tables;
 use std::alloc::Global;
 
-// Judges a certificate, and prints the verdict. The answer is the status.
-fn judge(tables: &Tables, certificate: &Certificate, line: &mut Text) -> u8
+/// Judges a certificate, and prints the verdict. The answer is the status.
+pub fn judge(tables: &Tables, certificate: &Certificate, line: &mut Text) -> u8
     ensures answer { Judges tables.now (Ok (named_rows certificate.now)) line.new.items (Ok result) }
     ensures status { result < 3 }
 {
@@ -39,22 +39,6 @@ fn judge(tables: &Tables, certificate: &Certificate, line: &mut Text) -> u8
     }
 }
 
-// Judges the text of a certificate.
-fn judge_text(alloc: Global, tables: &Tables, text: &[u8], line: &mut Text) -> Result<u8, Failure>
-    ensures answer { Judges tables.now (certificate_of text.now) line.new.items result }
-    ensures memory { IfErr result (λ e. e ≡ Failure.Memory) }
-    ensures status { IfOk result (λ status. status < 3) }
-{
-    match read_cert(alloc, text) {
-        Ok(certificate) => Ok(judge(tables, &certificate, line)),
-        Err(CertFault::Unreadable(fault)) => {
-            print_cert_fault(line, fault);
-            Ok(2)
-        }
-        Err(CertFault::Memory) => Err(Failure::Memory),
-    }
-}
-
 // Judges the text of a certificate that a source gives.
 fn judge_source<C: Source>(
     alloc: Global,
@@ -69,20 +53,13 @@ fn judge_source<C: Source>(
     ensures sink { IfErr result (λ e. e ≢ Failure.Sink) }
     ensures status { IfOk result (λ status. status < 3) }
 {
-    match read_at_most(alloc, certificate, TEXT_LIMIT) {
-        Ok(text) => judge_text(alloc, tables, text.as_slice(), line),
-        Err(Unread::TooLong) => {
-            print_cert_fault(
-                line,
-                Fault {
-                    rule: CertRule::NotJson,
-                    place: TextPlace::Top,
-                },
-            );
+    match load_certificate(alloc, certificate) {
+        Ok(certificate) => Ok(judge(tables, &certificate, line)),
+        Err(Unloaded::Refused(fault)) => {
+            print_cert_fault(line, fault);
             Ok(2)
         }
-        Err(Unread::Memory) => Err(Failure::Memory),
-        Err(Unread::Device) => Err(Failure::Source),
+        Err(Unloaded::Failed(cause)) => Err(cause),
     }
 }
 

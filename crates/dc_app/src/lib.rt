@@ -2,6 +2,7 @@
 #![tactic(auto)]
 
 mod answer;
+mod audit;
 mod check;
 mod decode;
 mod find;
@@ -9,11 +10,13 @@ mod inputs;
 mod judgement;
 mod obstacles;
 mod print;
+mod recording;
 mod replay;
 mod replies;
 mod steps;
 mod text;
 
+pub use audit::run_audit;
 pub use check::run_check;
 pub use decode::run_decode;
 pub use find::run_find;

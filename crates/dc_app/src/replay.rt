@@ -28,8 +28,8 @@ use dc_tables::Tables;
 use std::alloc::Global;
 use std::sync::Arc;
 
-// The code of a rule that a line breaks.
-fn code_of(rule: LineRule) -> &'static [u8]
+/// The code of a rule that a line breaks.
+pub fn code_of(rule: LineRule) -> &'static [u8]
     ensures text { result.now ≡ line_rule_code rule }
     ensures short { length result.now ≤ 2 }
 {

@@ -7,12 +7,12 @@ ghost use Rattle.dc_event.specs.WordText.{digit, eight_hex};
 use arrayvec::ArrayVec;
 use itoa::Buffer;
 
-/// A line that is written, without its line feed.
-pub type Text = ArrayVec<u8, 96>;
+/// A line that is written, or several that are parted by line feeds, without the last line feed.
+pub type Text = ArrayVec<u8, 144>;
 
 /// Puts bytes at the end.
 pub fn append(text: &mut Text, bytes: &[u8])
-    requires { array_vec_len text.old + length bytes.now ≤ 96 }
+    requires { array_vec_len text.old + length bytes.now ≤ 144 }
     ensures items { text.new.items ≡ text.old.items ++ bytes.now }
     ensures len { array_vec_len text.new ≡ array_vec_len text.old + length bytes.now }
 {
@@ -21,7 +21,7 @@ pub fn append(text: &mut Text, bytes: &[u8])
 
 /// Puts a number in decimal at the end.
 pub fn append_number(text: &mut Text, number: u64)
-    requires { array_vec_len text.old + 20 ≤ 96 }
+    requires { array_vec_len text.old + 20 ≤ 144 }
     ensures items { text.new.items ≡ text.old.items ++ decimal number }
     ensures len { array_vec_len text.new ≤ array_vec_len text.old + 20 }
 {

@@ -15,9 +15,13 @@ mod floods;
 #[cfg(test)]
 mod judging;
 #[cfg(test)]
+mod plain;
+#[cfg(test)]
 mod recorded;
 #[cfg(test)]
 mod runs;
+#[cfg(test)]
+mod searched;
 #[cfg(test)]
 mod tables;
 #[cfg(test)]

@@ -1,0 +1,135 @@
+-- What `audit` answers to the texts of tables, of a certificate and of a trace.
+use Rattle.std.specs.Prelude.{◌≡◌, ◌⊎◌, ℕ, ◌<◌, nat_lt, Bool, true, false, ◌&&◌, is_none, if◌then◌else◌, Option, Some, None, List, [], ◌∷◌, ◌++◌, length, Result, Ok, Err, codes, decimal}
+use Rattle.std.specs.Global.{Vec}
+use Rattle.dc_cert.specs.Bounds.{numbers_of}
+use Rattle.dc_cert.specs.NamedRows.{NamedRows}
+use Rattle.dc_cert.specs.Reading.{Reading, certificate_of}
+use Rattle.dc_check.specs.Verdict.{verdict_of}
+use Rattle.dc_check.specs.declared.fault.CheckFault.{CheckFault}
+use Rattle.dc_device.specs.Lines.{spelled}
+use Rattle.dc_event.specs.Breaks.{BreaksBudgetsAt, BreaksSourcesAt, BreaksClaimsAt}
+use Rattle.dc_event.specs.ClaimNumber.{claim_number}
+use Rattle.dc_event.specs.TraceText.{Trace, trace_of}
+use Rattle.dc_event.specs.declared.event.Claim.{Claim}
+use Rattle.dc_event.specs.declared.event.Event.{Event}
+use Rattle.dc_event.specs.declared.trace.LineRule.TheVariants.{LineTooLong}
+use Rattle.dc_event.specs.declared.trace.TraceFault.{TraceFault}
+use Rattle.dc_parts.specs.declared.fault.BuildError.{BuildError}
+use Rattle.dc_parts.specs.declared.fault.BuildError.TheVariants.{Refused, Memory as NoMemory}
+use Rattle.dc_tables.specs.TableRows.{TableRows}
+use Rattle.dc_toml.specs.Reading.{tables_of}
+use Rattle.dc_toml.specs.Reported.{TellsTables}
+use Rattle.dc_app.specs.Answer.{Answer, Reported}
+use Rattle.dc_app.specs.Check.{AreCertified, answer_claims, answer_verdict}
+use Rattle.dc_app.specs.Refusals.{tables_end, trace_end}
+use Rattle.dc_app.specs.declared.answer.Failure.{Failure}
+use Rattle.dc_app.specs.declared.answer.Failure.TheVariants.{Source, Sink, Memory}
+use Rattle.dc_app.specs.declared.audit.Findings.{Findings}
+use Rattle.dc_app.specs.declared.inputs.Unloaded.{Unloaded}
+use Rattle.dc_app.specs.declared.inputs.Unloaded.TheVariants.{Refused as Faulty, Failed}
+
+-- ---- the run of a trace
+
+-- the events before a fault, where there is none
+abbrev pub unless_faulty : List Event → Option TraceFault → Result (List Event) TraceFault
+unless_faulty events None = Ok events
+unless_faulty events (Some fault) = Err fault
+
+-- the run that a trace tells, or its first fault: after 100,000 events a line is one too many
+abbrev pub run_reported : Trace → Result (List Event) TraceFault
+run_reported trace =
+    if nat_lt 100000 (length trace.events) then Err (record { rule = LineTooLong; line = 100001 })
+    else unless_faulty trace.events trace.fault
+
+-- the same of a text of at most 2^30 bytes
+abbrev pub run_of : TableRows → List ℕ → Result (List Event) TraceFault
+run_of t text = run_reported (trace_of t 1073741824 text)
+
+-- ---- the three lines
+
+-- as `budgets hold` or `budgets fail at 3`
+abbrev pub holds_text : List ℕ → Option ℕ → List ℕ
+holds_text subject None = subject ++ codes " hold"
+holds_text subject (Some place) = subject ++ codes " fail at " ++ decimal place
+
+-- as `claims hold` or `claim 4 fails at 21`
+abbrev pub claims_text : Option (Claim × ℕ) → List ℕ
+claims_text None = codes "claims hold"
+claims_text (Some failure) = codes "claim " ++ decimal (claim_number failure.0) ++ codes " fails at " ++ decimal failure.1
+
+abbrev pub findings_lines : Findings → List (List ℕ)
+findings_lines f = holds_text (codes "budgets") f.budgets ∷ holds_text (codes "sources") f.sources ∷ claims_text f.claims ∷ []
+
+-- whether nothing fails
+abbrev pub all_hold : Findings → Bool
+all_hold f = is_none f.budgets && is_none f.sources && is_none f.claims
+
+abbrev pub answer_findings : Findings → Answer
+answer_findings f = record { lines = findings_lines f; status = if all_hold f then 0 else 1 }
+
+-- Where a run first breaks the budgets, what is asked of the sources, and the claims by these ages, of which the least that
+-- fails there; places are counted from 1, and the event of a place is that of its line.
+pub record AreFound (t : TableRows) (ages : List ℕ) (run : List Event) (f : Findings) : Type 0 where
+  pub budgets : BreaksBudgetsAt t run f.budgets
+  pub sources : BreaksSourcesAt t run f.sources
+  pub claims : BreaksClaimsAt t ages run f.claims
+
+-- ---- the answer
+
+-- to the run of a trace, or its first fault: then that alone
+abbrev pub AnswersRun : TableRows → List ℕ → Answer → Result (List Event) TraceFault → Type 0
+AnswersRun t ages answer (Ok run) = (f : Findings) × AreFound t ages run f × (answer ≡ answer_findings f)
+AnswersRun t ages answer (Err fault) = answer ≡ trace_end (Some fault)
+
+-- to a trace, where this is the verdict on the certificate: where it is refused, as `check`
+abbrev pub AnswersVerdict : TableRows → NamedRows → List ℕ → Answer → Option CheckFault → Type 0
+AnswersVerdict t claims trace answer None = AnswersRun t (numbers_of claims).ages answer (run_of t trace)
+AnswersVerdict t claims trace answer (Some fault) = answer ≡ answer_verdict t (Some fault)
+
+-- to a trace, where the certificate reads so: where it can't be read, as `check`
+abbrev pub AnswersClaims : TableRows → List ℕ → Answer → Reading NamedRows → Type 0
+AnswersClaims t trace answer (Ok claims) = AnswersVerdict t claims trace answer (verdict_of t claims)
+AnswersClaims t trace answer (Err fault) = answer ≡ answer_claims t (Err fault)
+
+-- to the texts of a certificate and of a trace, where the tables read so: they are judged first
+abbrev pub AnswersTables : List ℕ → List ℕ → Answer → Result TableRows BuildError → Type 0
+AnswersTables certificate trace answer (Ok t) = AnswersClaims t trace answer (certificate_of certificate)
+AnswersTables certificate trace answer (Err (Refused fault)) = answer ≡ tables_end fault
+AnswersTables certificate trace answer (Err (NoMemory e)) = ⊥
+
+-- to all three texts
+abbrev pub AnswersAudit : List ℕ → List ℕ → List ℕ → Answer → Type 0
+AnswersAudit tables certificate trace answer =
+    (read : Result TableRows BuildError) × TellsTables (tables_of tables) read × AnswersTables certificate trace answer read
+
+-- what `audit` answers: where it is not whole, that or no line
+abbrev pub AuditAnswers : List ℕ → List ℕ → List ℕ → Bool → Answer → Type 0
+AuditAnswers tables certificate trace true answer = AnswersAudit tables certificate trace answer
+AuditAnswers tables certificate trace false answer = AnswersAudit tables certificate trace answer ⊎ (answer.lines ≡ [])
+
+-- ---- what is judged, before it is written
+
+-- The text and the status are those of an answer that is such, its lines parted by line feeds; or memory was refused, or
+-- a source failed.
+abbrev pub Judged : (Answer → Type 0) → List ℕ → Result ℕ Failure → Type 0
+Judged Is text (Ok status) = (answer : Answer) × Is answer × (text ++ 10 ∷ [] ≡ spelled answer.lines) × (status ≡ answer.status)
+Judged Is text (Err Source) = Unit {0}
+Judged Is text (Err Memory) = Unit {0}
+Judged Is text (Err Sink) = ⊥
+
+-- the run that a trace tells, or its first fault; something else may fail with any trace
+abbrev pub LoadsRun : Result (List Event) TraceFault → Result (Vec Event) (Unloaded TraceFault) → Type 0
+LoadsRun reported (Ok run) = reported ≡ Ok run.items
+LoadsRun reported (Err (Faulty fault)) = reported ≡ Err fault
+LoadsRun reported (Err (Failed failure)) = Unit {0}
+
+-- ---- what is reported
+
+-- What `audit` reports, where its sources and its sink failed so often before and after it
+abbrev pub ReportsAudit : List ℕ → List ℕ → List ℕ → Option (List ℕ) → Option (List ℕ) → ℕ → ℕ → ℕ → ℕ → ℕ → Type 0
+ReportsAudit tables certificate trace old new sources sources' sink sink' status =
+    Reported (AuditAnswers tables certificate trace (nat_lt status 3)) old new sources sources' sink sink' status
+
+-- the trace is asked for only where the texts are those of tables and of a certificate that is accepted for them; else it is untouched
+abbrev pub OnlyCertified : List ℕ → List ℕ → Type 0 → Type 0
+OnlyCertified tables certificate untouched = AreCertified tables certificate ⊎ untouched

@@ -1,0 +1,290 @@
+//! `audit`: a recorded run judged by the definitions, against a certificate.
+ghost use Rattle.std.specs.Prelude.{◌≡◌, ◌≢◌, ℕ, List, [], ◌∷◌, ◌++◌, ◌⊎◌, ◌+◌, ◌-◌, ◌^◌, ◌<◌, ◌≤◌, IfErr, IfOk, IfSome, Some, Ok, length};
+ghost use Rattle.arrayvec.specs.ArrayVec.{array_vec_len};
+ghost use Rattle.dc_cert.specs.Bounds.{certificate_rows};
+ghost use Rattle.dc_cert.specs.NamedRows.{named_rows};
+ghost use Rattle.dc_cert.specs.Reading.{certificate_of};
+ghost use Rattle.dc_device.specs.Device.{AsksUpTo};
+ghost use Rattle.dc_device.specs.Lines.{spelled};
+ghost use Rattle.dc_event.specs.Admissible.{IsRun};
+ghost use Rattle.dc_toml.specs.Reading.{tables_of};
+ghost use Rattle.dc_app.specs.Answer.{Any, LeavesSink, Raises, Reported};
+ghost use Rattle.dc_app.specs.Audit.{AnswersAudit, AnswersClaims, AnswersRun, AreFound, Judged, OnlyCertified, ReportsAudit, answer_findings, claims_text, findings_lines, holds_text, run_of};
+ghost use Rattle.dc_app.specs.Check.{Certifies};
+ghost use Rattle.dc_app.specs.Inputs.{OnlyBehind};
+
+use crate::answer::{Failure, print_fault, report, say};
+use crate::check::judge;
+use crate::inputs::{Unloaded, load, load_certificate};
+use crate::judgement::print_cert_fault;
+use crate::print::print_table_fault;
+use crate::recording::load_run;
+use crate::replay::code_of;
+use crate::text::{Text, append, append_number};
+use dc_cert::Certificate;
+use dc_device::{LineWriter, Sink, Source};
+use dc_event::{Claim, Event};
+use dc_oracle::{claims, keeps_budgets, keeps_sources};
+use dc_tables::Tables;
+use std::alloc::{AllocError, Global};
+
+/// Where a run first fails, by places that count from 1.
+#[derive(Clone, Copy, Debug, PartialEq, Eq)]
+pub struct Findings {
+    /// The first event that breaks the budgets.
+    pub budgets: Option<usize>,
+    /// The first event that breaks what is asked of the sources.
+    pub sources: Option<usize>,
+    /// The least claim that fails at the first event at which any does.
+    pub claims: Option<(Claim, usize)>,
+}
+
+// Judges a run.
+fn findings_of(
+    alloc: Global,
+    tables: &Tables,
+    certificate: &Certificate,
+    run: &[Event],
+) -> Result<Findings, AllocError>
+    ensures { IsRun tables.now run.now → IfOk result (AreFound tables.now (certificate_rows certificate.now).ages run.now) }
+{
+    let budgets = keeps_budgets(alloc, tables, run)?;
+    let sources = keeps_sources(alloc, tables, run)?;
+    let claims = claims(alloc, tables, certificate, run)?;
+    Ok(Findings {
+        budgets,
+        sources,
+        claims,
+    })
+}
+
+// Puts the line of the budgets or of the sources at the end.
+fn append_holds(text: &mut Text, subject: &[u8], place: Option<usize>)
+    requires { array_vec_len text.old + length subject.now + 30 ≤ 144 }
+    ensures items { text.new.items ≡ text.old.items ++ holds_text subject.now place }
+    ensures len { array_vec_len text.new ≤ array_vec_len text.old + length subject.now + 29 }
+{
+    append(text, subject);
+    match place {
+        None => append(text, b" hold"),
+        Some(place) => {
+            append(text, b" fail at ");
+            append_number(text, place as u64);
+        }
+    }
+}
+
+// Puts the line of the claims at the end.
+fn append_claims(text: &mut Text, failure: Option<(Claim, usize)>)
+    requires { array_vec_len text.old ≤ 75 }
+    ensures { text.new.items ≡ text.old.items ++ claims_text failure }
+{
+    match failure {
+        None => append(text, b"claims hold"),
+        Some((claim, place)) => {
+            append(text, b"claim ");
+            append_number(text, u64::from(claim.number()));
+            append(text, b" fails at ");
+            append_number(text, place as u64);
+        }
+    }
+}
+
+// The lines of what was found.
+fn print_findings(text: &mut Text, found: Findings)
+    ensures { text.new.items ++ 10 ∷ [] ≡ spelled (findings_lines found) }
+{
+    text.clear();
+    append_holds(text, b"budgets", found.budgets);
+    append(text, b"\n");
+    append_holds(text, b"sources", found.sources);
+    append(text, b"\n");
+    append_claims(text, found.claims);
+}
+
+// The exit status that belongs to what was found.
+fn status(found: Findings) -> u8
+    ensures is { result ≡ (answer_findings found).status }
+    ensures low { result < 3 }
+{
+    if found.budgets.is_none() && found.sources.is_none() && found.claims.is_none() {
+        0
+    } else {
+        1
+    }
+}
+
+// Judges a run, and prints what was found.
+fn audit_run(
+    alloc: Global,
+    tables: &Tables,
+    certificate: &Certificate,
+    run: &[Event],
+    text: &mut Text,
+) -> Result<u8, Failure>
+    ensures answer { IsRun tables.now run.now → Judged (λ answer. AnswersRun tables.now (certificate_rows certificate.now).ages answer (Ok run.now)) text.new.items result }
+    ensures memory { IfErr result (λ e. e ≡ Failure.Memory) }
+    ensures status { IfOk result (λ status. status < 3) }
+{
+    match findings_of(alloc, tables, certificate, run) {
+        Ok(found) => {
+            print_findings(text, found);
+            Ok(status(found))
+        }
+        Err(_) => Err(Failure::Memory),
+    }
+}
+
+// Judges the run of a trace.
+fn audit_trace<S: Source>(
+    alloc: Global,
+    tables: &Tables,
+    certificate: &Certificate,
+    trace: &mut S,
+    text: &mut Text,
+) -> Result<u8, Failure>
+    requires { S.failed trace.old + 1 < 2 ^ 64 }
+    ensures answer { IfSome (S.remaining trace.old) (λ events. Judged (λ answer. AnswersRun tables.now (certificate_rows certificate.now).ages answer (run_of tables.now events)) text.new.items result) }
+    ensures source { Raises (S.failed trace.old) (S.failed trace.new) result }
+    ensures asks { AsksUpTo 1073741824 (S.asked trace.old) (S.asked trace.new) (S.dry trace.old) (S.dry trace.new) }
+    ensures sink { IfErr result (λ e. e ≢ Failure.Sink) }
+    ensures status { IfOk result (λ status. status < 3) }
+{
+    tables.keyed();
+    match load_run(alloc, tables, trace) {
+        Ok(run) => audit_run(alloc, tables, certificate, run.as_slice(), text),
+        Err(Unloaded::Refused(fault)) => {
+            print_fault(text, code_of(fault.rule), fault.line);
+            Ok(2)
+        }
+        Err(Unloaded::Failed(failure)) => Err(failure),
+    }
+}
+
+// Judges a certificate, and then the run of a trace.
+fn audit_certificate<S: Source>(
+    alloc: Global,
+    tables: &Tables,
+    certificate: &Certificate,
+    trace: &mut S,
+    text: &mut Text,
+) -> Result<u8, Failure>
+    requires { S.failed trace.old + 1 < 2 ^ 64 }
+    ensures answer { IfSome (S.remaining trace.old) (λ events. Judged (λ answer. AnswersClaims tables.now events answer (Ok (named_rows certificate.now))) text.new.items result) }
+    ensures source { Raises (S.failed trace.old) (S.failed trace.new) result }
+    ensures asks { AsksUpTo 1073741824 (S.asked trace.old) (S.asked trace.new) (S.dry trace.old) (S.dry trace.new) }
+    ensures order { Certifies tables.now (Ok (named_rows certificate.now)) ⊎ (trace.new ≡ trace.old) }
+    ensures sink { IfErr result (λ e. e ≢ Failure.Sink) }
+    ensures status { IfOk result (λ status. status < 3) }
+{
+    let status = judge(tables, certificate, text);
+    if status == 0 {
+        audit_trace(alloc, tables, certificate, trace, text)
+    } else {
+        Ok(status)
+    }
+}
+
+// Judges the text of a certificate that a source gives, and then the run of a trace.
+fn audit_source<C: Source, S: Source>(
+    alloc: Global,
+    tables: &Tables,
+    certificate: &mut C,
+    trace: &mut S,
+    text: &mut Text,
+) -> Result<u8, Failure>
+    requires certificate { C.failed certificate.old + 1 < 2 ^ 64 }
+    requires trace { S.failed trace.old + 1 < 2 ^ 64 }
+    ensures answer { IfSome (C.remaining certificate.old) (λ claims. IfSome (S.remaining trace.old) (λ events.
+        Judged (λ answer. AnswersClaims tables.now events answer (certificate_of claims)) text.new.items result)) }
+    ensures source { Raises (C.failed certificate.old + S.failed trace.old) (C.failed certificate.new + S.failed trace.new) result }
+    ensures asks_certificate { AsksUpTo 1048576 (C.asked certificate.old) (C.asked certificate.new) (C.dry certificate.old) (C.dry certificate.new) }
+    ensures asks_trace { AsksUpTo 1073741824 (S.asked trace.old) (S.asked trace.new) (S.dry trace.old) (S.dry trace.new) }
+    ensures order { IfSome (C.remaining certificate.old) (λ claims. Certifies tables.now (certificate_of claims) ⊎ (trace.new ≡ trace.old)) }
+    ensures sink { IfErr result (λ e. e ≢ Failure.Sink) }
+    ensures status { IfOk result (λ status. status < 3) }
+{
+    match load_certificate(alloc, certificate) {
+        Ok(certificate) => audit_certificate(alloc, tables, &certificate, trace, text),
+        Err(Unloaded::Refused(fault)) => {
+            print_cert_fault(text, fault);
+            Ok(2)
+        }
+        Err(Unloaded::Failed(failure)) => Err(failure),
+    }
+}
+
+// Judges the texts of tables, of a certificate and of a trace, in this order.
+fn audit_sources<T: Source, C: Source, S: Source>(
+    alloc: Global,
+    tables: &mut T,
+    certificate: &mut C,
+    trace: &mut S,
+    text: &mut Text,
+) -> Result<u8, Failure>
+    requires tables { T.failed tables.old + 1 < 2 ^ 64 }
+    requires certificate { C.failed certificate.old + 1 < 2 ^ 64 }
+    requires trace { S.failed trace.old + 1 < 2 ^ 64 }
+    ensures answer { (rows claims events : List ℕ) → T.remaining tables.old ≡ Some rows → C.remaining certificate.old ≡ Some claims → S.remaining trace.old ≡ Some events
+        → Judged (AnswersAudit rows claims events) text.new.items result }
+    ensures source { Raises (T.failed tables.old + (C.failed certificate.old + S.failed trace.old)) (T.failed tables.new + (C.failed certificate.new + S.failed trace.new)) result }
+    ensures asks_tables { AsksUpTo 1048576 (T.asked tables.old) (T.asked tables.new) (T.dry tables.old) (T.dry tables.new) }
+    ensures asks_certificate { AsksUpTo 1048576 (C.asked certificate.old) (C.asked certificate.new) (C.dry certificate.old) (C.dry certificate.new) }
+    ensures asks_trace { AsksUpTo 1073741824 (S.asked trace.old) (S.asked trace.new) (S.dry trace.old) (S.dry trace.new) }
+    ensures order_certificate { IfSome (T.remaining tables.old) (λ rows. OnlyBehind (tables_of rows) (certificate.new ≡ certificate.old)) }
+    ensures order_trace { IfSome (T.remaining tables.old) (λ rows. IfSome (C.remaining certificate.old) (λ claims. OnlyCertified rows claims (trace.new ≡ trace.old))) }
+    ensures sink { IfErr result (λ e. e ≢ Failure.Sink) }
+    ensures status { IfOk result (λ status. status < 3) }
+{
+    match load(alloc, tables) {
+        Ok(tables) => audit_source(alloc, &tables, certificate, trace, text),
+        Err(Unloaded::Refused(fault)) => {
+            print_table_fault(text, fault);
+            Ok(2)
+        }
+        Err(Unloaded::Failed(failure)) => Err(failure),
+    }
+}
+
+/// Audits a recorded run: judges a certificate for tables, and then, by the definitions over the whole history, whether the
+/// run of a trace keeps the budgets, what is asked of the sources, and the four claims by the certificate's ages. Each of
+/// the three is reported in a line, with the first place at which it fails.
+///
+/// The answer is the exit status: 0 where all three hold, 1 where one fails or the certificate is refused, 2 where a text
+/// can't be read; 3 where a device failed or memory was refused: then `failed device` or `failed memory` was written, and
+/// nothing else. Each text is read whole and judged before the next is asked for, and nothing is written before all are. A
+/// push or flush that failed is the last call of the sink, and a pull that gave no byte the last of its source.
+pub fn run_audit<T: Source, C: Source, S: Source, K: Sink>(
+    alloc: Global,
+    tables: &mut T,
+    certificate: &mut C,
+    trace: &mut S,
+    sink: &mut K,
+) -> u8
+    requires tables { T.failed tables.old + 1 < 2 ^ 64 }
+    requires certificate { C.failed certificate.old + 1 < 2 ^ 64 }
+    requires trace { S.failed trace.old + 1 < 2 ^ 64 }
+    requires sink { K.failed sink.old + 1 < 2 ^ 64 }
+    ensures reports { (rows claims events : List ℕ) → T.remaining tables.old ≡ Some rows → C.remaining certificate.old ≡ Some claims → S.remaining trace.old ≡ Some events
+        → ReportsAudit rows claims events (K.contents sink.old) (K.contents sink.new)
+        (T.failed tables.old + (C.failed certificate.old + S.failed trace.old)) (T.failed tables.new + (C.failed certificate.new + S.failed trace.new))
+        (K.failed sink.old) (K.failed sink.new) result }
+    ensures reported { Reported Any (K.contents sink.old) (K.contents sink.new)
+        (T.failed tables.old + (C.failed certificate.old + S.failed trace.old)) (T.failed tables.new + (C.failed certificate.new + S.failed trace.new))
+        (K.failed sink.old) (K.failed sink.new) result }
+    ensures asks_tables { AsksUpTo 1048576 (T.asked tables.old) (T.asked tables.new) (T.dry tables.old) (T.dry tables.new) }
+    ensures asks_certificate { AsksUpTo 1048576 (C.asked certificate.old) (C.asked certificate.new) (C.dry certificate.old) (C.dry certificate.new) }
+    ensures asks_trace { AsksUpTo 1073741824 (S.asked trace.old) (S.asked trace.new) (S.dry trace.old) (S.dry trace.new) }
+    ensures order_certificate { IfSome (T.remaining tables.old) (λ rows. OnlyBehind (tables_of rows) (certificate.new ≡ certificate.old)) }
+    ensures order_trace { IfSome (T.remaining tables.old) (λ rows. IfSome (C.remaining certificate.old) (λ claims. OnlyCertified rows claims (trace.new ≡ trace.old))) }
+    ensures left { LeavesSink (K.failed sink.old) (K.failed sink.new) (K.last_failed sink.new) (K.hidden sink.new) }
+    ensures quiet { result < 3 → (T.failed tables.new + (C.failed certificate.new + S.failed trace.new)) + K.failed sink.new
+        ≡ (T.failed tables.old + (C.failed certificate.old + S.failed trace.old)) + K.failed sink.old }
+    ensures status { result ≤ 3 }
+{
+    let mut text = Text::new();
+    let judged = audit_sources(alloc, tables, certificate, trace, &mut text);
+    let mut writer = LineWriter::new();
+    let ended = say(judged, text.as_slice(), &mut writer, sink);
+    report(ended, &mut writer, sink)
+}
