@@ -1,0 +1,7 @@
+mod Backlogs
+mod Faults
+mod Legal
+mod Marks
+mod Opens
+mod Places
+mod Receipts
