@@ -2,7 +2,7 @@
 
 ghost use Rattle.std.specs.Prelude.{◌≡◌, length};
 ghost use Rattle.dc_cert.specs.Bounds.{numbers_of};
-ghost use Rattle.dc_cert.specs.Claims.{claims_of};
+ghost use Rattle.dc_cert.specs.NamedRows.{named_rows};
 ghost use Rattle.dc_check.specs.Lent.{tables_of, certificate_of};
 ghost use Rattle.dc_event.specs.Admissible.{KeepsSources};
 ghost use Rattle.dc_event.specs.Claims.{ClaimsHold};
@@ -16,7 +16,7 @@ use std::sync::ledger::Ledger;
 /// Where the words of the entries' run come no sooner than their sources' intervals let them, the claims of the
 /// certificate hold at each entry. The call does nothing.
 pub fn keeps_the_claims(closed: &Closed)
-    ensures { KeepsSources (tables_of closed.now.certified) (events closed.now.entries) → ClaimsHold (tables_of closed.now.certified) (numbers_of (claims_of (certificate_of closed.now.certified))).ages (events closed.now.entries) }
+    ensures { KeepsSources (tables_of closed.now.certified) (events closed.now.entries) → ClaimsHold (tables_of closed.now.certified) (numbers_of (named_rows (certificate_of closed.now.certified))).ages (events closed.now.entries) }
 {
     closed.legal();
     closed.certified.keeps_its_claims();
