@@ -4,14 +4,14 @@ use Rattle.atomic_table.specs.Seated.{TableId}
 use Rattle.dc_event.specs.declared.event.Actor.{Actor}
 use Rattle.dc_hub.specs.Views.{SeatView, WireView, unused, IsNewWire, AreNewWires, AreNewSeats}
 
-some-same : {X : Type 0} (x y : X) → Some x ≡ Some y → x ≡ y
+pub some-same : {X : Type 0} (x y : X) → Some x ≡ Some y → x ≡ y
 some-same {X} x y e = ap (λ (o : Option X). given o) e
   where
     given : Option X → X
     given None = x
     given (Some z) = z
 
-none-some : {X : Type 0} (y : X) → None ≡ Some y → ⊥
+pub none-some : {X : Type 0} (y : X) → None ≡ Some y → ⊥
 none-some {X} y e = subst (λ (o : Option X). is_none o) e tt
   where
     is_none : Option X → Type 0
