@@ -1,8 +1,9 @@
 -- Legal entries with one more.
 use Rattle.std.proofs.Common.{◌≡◌, ℕ, ◌+◌, ◌<◌, List, [], ◌∷◌, ◌++◌, map, length, subst, sym, ap, ◌∙◌, refl}
 use Rattle.std.proofs.lemmas.List.{map-append}
-use Rattle.std.proofs.lemmas.List.Elements.{All-push}
+use Rattle.std.proofs.lemmas.List.Elements.{All-nil, All-push}
 use Rattle.std.specs.List.{All}
+use Rattle.dc_bound.specs.Places.{each_place}
 use Rattle.dc_core.specs.Standing.{MayFollow}
 use Rattle.dc_core.specs.Steps.{StandsFor}
 use Rattle.dc_core.specs.declared.machine.State.{State}
@@ -20,6 +21,11 @@ events-push es e r = map-append (λ (x : Entry). x.event) es (entry e r ∷ [])
 
 replies-push : (es : List Entry) (e : Event) (r : Reply) → replies (es ++ entry e r ∷ []) ≡ replies es ++ r ∷ []
 replies-push es e r = map-append (λ (x : Entry). x.reply) es (entry e r ∷ [])
+
+-- no entries are legal where a state stands for no events
+pub legal_none : (t : TableRows) (s : State) → StandsFor t s [] → IsLegal t []
+unfolding outputs_of each_place
+legal_none t s h = record { numbers = All-nil (IsNumbered t); budgets = h.0.kept; answers = refl }
 
 -- where the event may follow, and the reply is the one that the run calls for, the entries with theirs are legal
 pub legal_after : (t : TableRows) (es : List Entry) (e : Event) (r : Reply) → IsLegal t es → MayFollow t (events es) e → r ≡ reply t (events es) e → IsLegal t (es ++ entry e r ∷ [])

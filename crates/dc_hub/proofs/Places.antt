@@ -1,7 +1,7 @@
 -- Seats by their places.
-use Rattle.std.proofs.Common.{◌≡◌, ◌≢◌, ℕ, zero, suc, ◌+◌, ◌<◌, ◌≤◌, Option, Some, None, List, [], ◌∷◌, length, refl, sym, ap, subst, ◌∙◌, arith, slice_get}
+use Rattle.std.proofs.Common.{◌≡◌, ◌≢◌, ℕ, zero, suc, ◌+◌, ◌-◌, ◌<◌, ◌≤◌, Bool, true, false, not, is_some, MatchOption, Option, Some, None, List, [], ◌∷◌, length, refl, sym, ap, subst, ◌∙◌, arith, slice_get}
 use mathlib.Core.Logic.{dite}
-use native.Mathlib.Decide.{dec_le}
+use native.Mathlib.Decide.{dec_le, ℕ_discrete}
 use Rattle.dc_hub.specs.Closing.{actor_at, actor_count, AreOneEach}
 use Rattle.dc_hub.specs.Views.{SeatView}
 use Rattle.dc_tables.specs.TableRows.{TableRows}
@@ -41,3 +41,27 @@ one_more t seats n s is there each = let h = below_some seats n s there in absur
 
 pub one_other : (t : TableRows) (seats : List SeatView) (p : ℕ) (s : SeatView) → slice_get seats p ≡ Some s → s.actor ≢ actor_at t p → ¬ AreOneEach t seats
 one_other t seats p s there other each = other (each.1 p s there)
+
+-- one place further
+pub one_further : (t : TableRows) (seats : List SeatView) (n : ℕ) (s : SeatView) → ((p : ℕ) → p < n → (s : SeatView) × (slice_get seats p ≡ Some s) × (s.actor ≡ actor_at t p)) → slice_get seats n ≡ Some s → s.actor ≡ actor_at t n
+    → (p : ℕ) → p < n + 1 → (s : SeatView) × (slice_get seats p ≡ Some s) × (s.actor ≡ actor_at t p)
+one_further t seats n s before there is p below =
+    dite (ℕ_discrete p n)
+    (λ e. subst (λ k. (s : SeatView) × (slice_get seats k ≡ Some s) × (s.actor ≡ actor_at t k)) (sym e) (s, there, is))
+    (λ ne. before p (omega (arith, below, ne)))
+
+clash : true ≡ false → ⊥
+clash e = subst (λ (b : Bool). is_true b) e tt
+  where
+    is_true : Bool → Type 0
+    is_true true = Unit {0}
+    is_true false = ⊥
+
+-- what a call that gives nothing says, and one that gives something
+pub none_given : {Y : Type 0} (r : Option Y) (P : Type 0) (Q : Y → Type 0) (b : Bool) → is_some r ≡ not b → b ≡ true → MatchOption r P Q → P
+none_given None P Q b said is h = h
+none_given (Some y) P Q b said is h = absurd (clash (said ∙ ap not is))
+
+pub some_given : {Y : Type 0} (r : Option Y) (P : Type 0) (Q : Y → Type 0) (b : Bool) → is_some r ≡ not b → b ≡ false → MatchOption r P Q → (y : Y) × Q y
+some_given None P Q b said is h = absurd (clash (sym (ap not is) ∙ sym said))
+some_given (Some y) P Q b said is h = (y, h)

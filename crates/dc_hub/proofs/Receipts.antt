@@ -12,7 +12,7 @@ cond-append : (b : Bool) (r : Receipt) (whole xs ys : List Receipt) → whole �
 cond-append true r whole xs ys e = ap (λ l. r ∷ l) e
 cond-append false r whole xs ys e = e
 
-receipts-append : (a : Actor) (n : ℕ) (xs ys : List Entry) → receipts_from a n (xs ++ ys) ≡ receipts_from a n xs ++ receipts_from a (n + length xs) ys
+pub receipts-append : (a : Actor) (n : ℕ) (xs ys : List Entry) → receipts_from a n (xs ++ ys) ≡ receipts_from a n xs ++ receipts_from a (n + length xs) ys
 receipts-append a n [] ys = ap (λ k. receipts_from a k ys) (omega arith)
 receipts-append a n (e ∷ xs) ys =
     cond-append (is_by a e.event) (receipt_at (n + 1) e) _ _ _ (receipts-append a (n + 1) xs ys ∙ ap (λ k. receipts_from a (n + 1) xs ++ receipts_from a k ys) (omega arith))

@@ -1,10 +1,10 @@
 //! A book that has closed.
 
-ghost use Rattle.std.specs.Prelude.{◌≡◌, ℕ, ◌<◌, if◌then◌else◌, max, slice_index};
+ghost use Rattle.std.specs.Prelude.{◌≡◌, ℕ, ◌<◌, ◌≤◌, cond, if◌then◌else◌, max, slice_index};
 ghost use Rattle.dc_check.specs.Lent.{tables_of};
 ghost use Rattle.dc_event.specs.declared.event.Actor.TheVariants.{Wire};
 ghost use Rattle.dc_hub.specs.Closing.{is_by, receipts_of};
-ghost use Rattle.dc_hub.specs.Entries.{IsLegal, backlog_of, overruns_in};
+ghost use Rattle.dc_hub.specs.Entries.{IsLegal, backlog_of, is_overrun, overruns_in};
 ghost use Rattle.dc_hub.specs.Views.{ClosedView, greatest};
 
 use crate::entry::Entry;
@@ -56,9 +56,7 @@ impl Closed {
     {
         let mut count = 0;
         for i in 0..self.entries.len() {
-            if self.entries[i].reply == Reply::Overrun {
-                count += 1;
-            }
+            count += overruns_of(&self.entries[i]);
         }
         count
     }
@@ -72,6 +70,17 @@ impl Closed {
             raise(&mut marks, &self.entries[i]);
         }
         marks
+    }
+}
+
+/// 1 where the reply is an overrun, else 0.
+fn overruns_of(entry: &Entry) -> u64
+    ensures count { result ≡ cond (is_overrun entry.now.reply) 1 0 }
+    ensures one { result ≤ 1 }
+{
+    match entry.reply {
+        Reply::Overrun => 1,
+        _ => 0,
     }
 }
 

@@ -10,6 +10,7 @@ use crate::entry::{Entry, Receipt};
 use crate::fault::CloseFault;
 use crate::seat::Seat;
 use crate::seats::Seats;
+use dc_check::Certified;
 use dc_event::{Actor, Event};
 use dc_tables::Tables;
 use std::sync::ledger::Ledger;
@@ -141,6 +142,24 @@ fn first_mismatch<L: Ledger>(seats: &Seats<L>, count: usize, entries: &[Entry]) 
     None
 }
 
+/// Why a book does not close over the seats, if it does not.
+fn close_fault<L: Ledger>(
+    certified: &Certified,
+    entries: &[Entry],
+    seats: &Seats<L>,
+) -> Option<CloseFault>
+    ensures { MatchOption result (AreOneEach (tables_of certified.now) (all_seats seats.now.wires.items seats.now.routers.items seats.now.outputs.items seats.now.clock) × AllAgree entries.now (all_seats seats.now.wires.items seats.now.routers.items seats.now.outputs.items seats.now.clock)) (λ fault. IsCloseFault (tables_of certified.now) entries.now (all_seats seats.now.wires.items seats.now.routers.items seats.now.outputs.items seats.now.clock) fault) }
+{
+    let tables = certified.tables();
+    if !are_one_each(seats, tables) {
+        return Some(CloseFault::SeatMissing);
+    }
+    match first_mismatch(seats, actors(tables), entries) {
+        Some(index) => Some(CloseFault::Mismatch(index)),
+        None => None,
+    }
+}
+
 impl<L: Ledger> Book<L> {
     /// The closed book, where the seats are one for each actor and the receipts of each are its actor's entries. Takes no
     /// memory.
@@ -148,16 +167,13 @@ impl<L: Ledger> Book<L> {
     /// # Errors
     /// The seats are not one for each actor; else the first seat whose receipts are not its actor's entries.
     pub fn close(self, seats: Seats<L>) -> Result<Closed, CloseFault>
-        ensures ok { IfOk result (λ c. (c.certified ≡ self.certified) × (c.entries ≡ self.entries) × AreOneEach (tables_of self.certified) (all_seats seats.wires.items seats.routers.items seats.outputs.items seats.clock) × AllAgree self.entries (all_seats seats.wires.items seats.routers.items seats.outputs.items seats.clock)) }
+        ensures same { IfOk result (λ c. (c.certified ≡ self.certified) × (c.entries ≡ self.entries)) }
+        ensures ok { IfOk result (λ c. AreOneEach (tables_of c.certified) (all_seats seats.wires.items seats.routers.items seats.outputs.items seats.clock) × AllAgree c.entries (all_seats seats.wires.items seats.routers.items seats.outputs.items seats.clock)) }
         ensures err { IfErr result (λ fault. IsCloseFault (tables_of self.certified) self.entries (all_seats seats.wires.items seats.routers.items seats.outputs.items seats.clock) fault) }
     {
-        let tables = self.certified.tables();
-        if !are_one_each(&seats, tables) {
-            return Err(CloseFault::SeatMissing);
+        match close_fault(&self.certified, &self.entries, &seats) {
+            Some(fault) => Err(fault),
+            None => Ok(self.closed()),
         }
-        if let Some(index) = first_mismatch(&seats, actors(tables), &self.entries) {
-            return Err(CloseFault::Mismatch(index));
-        }
-        Ok(self.closed())
     }
 }
