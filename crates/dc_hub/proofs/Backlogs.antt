@@ -1,5 +1,5 @@
 -- A backlog that is reported is within the greatest capacity of a queue.
-use Rattle.std.proofs.Common.{◌≡◌, ℕ, ◌+◌, ◌≤◌, Bool, true, false, if◌then◌else◌, not, nat_lt, is_some, IfOk, Ok, Err, List, [], ◌∷◌, ◌++◌, subst, sym, arith, le_trans}
+use Rattle.std.proofs.Common.{ℕ, ◌≤◌, Bool, true, false, if◌then◌else◌, not, nat_lt, is_some, IfOk, Ok, Err, List, [], ◌∷◌, ◌++◌, subst, sym, arith, le_trans}
 use Rattle.std.specs.declared.result.Result.{Result}
 use Rattle.dc_core.specs.Standing.{MayFollow}
 use Rattle.dc_core.specs.Steps.{StepsTo}
@@ -13,7 +13,7 @@ use Rattle.dc_event.specs.Replies.{reply}
 use Rattle.dc_event.specs.declared.event.Event.{Event}
 use Rattle.dc_event.specs.declared.event.Event.TheVariants.{Tick, Arrive, Route, Send}
 use Rattle.dc_event.specs.declared.event.Reply.{Reply}
-use Rattle.dc_event.specs.declared.event.Reply.TheVariants.{Queued, BadParity, Undeclared, TooEarly, Overrun, Latched, Took, Empty, Sent, Idle, Now}
+use Rattle.dc_event.specs.declared.event.Reply.TheVariants.{Queued, BadParity, Undeclared, TooEarly, Overrun, Latched, Took, Empty, Sent, Idle}
 use Rattle.dc_event.specs.Buses.{backlog, is_latched, visited_bus, bus_taken, bus_item}
 use Rattle.dc_hub.specs.Entries.{backlog_of}
 use Rattle.dc_tables.specs.Declares.{stream_of}

@@ -1,8 +1,7 @@
 -- Legal entries with one more.
-use Rattle.std.proofs.Common.{◌≡◌, ℕ, ◌+◌, ◌<◌, List, [], ◌∷◌, ◌++◌, map, length, subst, sym, ap, ◌∙◌, refl}
+use Rattle.std.proofs.Common.{◌≡◌, List, [], ◌∷◌, ◌++◌, subst, sym, ap, ◌∙◌, refl}
 use Rattle.std.proofs.lemmas.List.{map-append}
 use Rattle.std.proofs.lemmas.List.Elements.{All-nil, All-push}
-use Rattle.std.specs.List.{All}
 use Rattle.dc_bound.specs.Places.{each_place}
 use Rattle.dc_core.specs.Standing.{MayFollow}
 use Rattle.dc_core.specs.Steps.{StandsFor}

@@ -1,5 +1,5 @@
 -- New seats, one more.
-use Rattle.std.proofs.Common.{◌≡◌, ◌⊎◌, ⊎_elim, inl, inr, ℕ, zero, suc, ◌+◌, ◌<◌, Option, Some, None, List, [], ◌∷◌, ◌++◌, length, refl, sym, ap, subst, ◌∙◌, arith, length-append, slice_get}
+use Rattle.std.proofs.Common.{◌≡◌, ◌⊎◌, ⊎_elim, inl, inr, ℕ, zero, suc, ◌+◌, Option, Some, None, List, [], ◌∷◌, ◌++◌, length, refl, sym, ap, subst, ◌∙◌, length-append, slice_get}
 use Rattle.atomic_table.specs.Seated.{TableId}
 use Rattle.dc_event.specs.declared.event.Actor.{Actor}
 use Rattle.dc_hub.specs.Views.{SeatView, WireView, unused, IsNewWire, AreNewWires, AreNewSeats}

@@ -1,10 +1,7 @@
 -- The receipts that entries call for, entry by entry.
-use Rattle.std.proofs.Common.{◌≡◌, ◌≢◌, ℕ, zero, suc, ◌+◌, ◌<◌, ◌≤◌, Bool, true, false, cond, Option, Some, None, List, [], ◌∷◌, ◌++◌, length, take, drop, get_or, refl, sym, ap, subst, ◌∙◌, arith, max, slice_get}
-use Rattle.std.proofs.lemmas.List.{take_more, append-nil}
+use Rattle.std.proofs.Common.{◌≡◌, ℕ, ◌+◌, Bool, true, false, cond, List, [], ◌∷◌, ◌++◌, length, ap, ◌∙◌, arith}
 use Rattle.dc_event.specs.declared.event.Actor.{Actor}
 use Rattle.dc_hub.specs.Closing.{is_by, receipt_at, receipts_from, receipts_of}
-use Rattle.dc_hub.specs.Entries.{backlog_of}
-use Rattle.dc_hub.specs.Views.{greatest}
 use Rattle.dc_hub.specs.declared.entry.Entry.{Entry}
 use Rattle.dc_hub.specs.declared.entry.Receipt.{Receipt}
 

@@ -1,11 +1,11 @@
 -- What contracts see of books and seats.
-use Rattle.std.specs.Prelude.{◌≡◌, ℕ, ◌+◌, ◌<◌, ◌==◌, if◌then◌else◌, max, replicate, Option, Some, List, [], ◌∷◌, length, slice_get, slice_index}
+use Rattle.std.specs.Prelude.{◌≡◌, ℕ, ◌==◌, if◌then◌else◌, max, replicate, Some, List, [], ◌∷◌, length, slice_get, slice_index}
 use Rattle.atomic_table.specs.Seated.{TableId}
 use Rattle.dc_board.specs.Marks.{fresh, IsSeatOf}
 use Rattle.dc_board.specs.declared.view.View.{View}
 use Rattle.dc_check.specs.declared.certified.Certified.{Certified}
 use Rattle.dc_event.specs.declared.event.Actor.{Actor}
-use Rattle.dc_event.specs.declared.event.Actor.TheVariants.{Wire, Router, Output, Clock}
+use Rattle.dc_event.specs.declared.event.Actor.TheVariants.{Wire}
 use Rattle.dc_hub.specs.Entries.{backlog_of}
 use Rattle.dc_hub.specs.declared.entry.Entry.{Entry}
 use Rattle.dc_hub.specs.declared.entry.Receipt.{Receipt}

@@ -1,4 +1,4 @@
-use Rattle.std.proofs.Common.{rules, ◌≡◌, ◌+◌, ◌<◌, ◌≤◌, length, get_or, refl, subst, sym, ap, ◌∙◌, arith, true, false}
+use Rattle.std.proofs.Common.{rules, ◌≡◌, ◌+◌, ◌<◌, length, subst, sym, ap, ◌∙◌, arith, true, false}
 use Rattle.dc_hub.specs.Closing.{is_by, receipts_of, receipt_at, DifferAt}
 use Rattle.dc_hub.proofs.Unlike.{same-item, passed-other, agree-on, ended, other, left_over}
 use Rattle.dc_hub.proofs.closing.first_unlike.Goals as goal

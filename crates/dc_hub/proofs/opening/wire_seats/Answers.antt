@@ -1,4 +1,4 @@
-use Rattle.std.proofs.Common.{rules, ◌≡◌, ◌+◌, ◌++◌, ◌∷◌, [], refl, subst, sym, arith}
+use Rattle.std.proofs.Common.{rules, ◌≡◌, ◌+◌, ◌++◌, ◌∷◌, [], refl, subst, sym}
 use Rattle.dc_event.specs.declared.event.Actor.TheVariants.{Wire}
 use Rattle.dc_hub.specs.Views.{WireView, unused, AreNewWires}
 use Rattle.dc_hub.proofs.Opens.{wires-push}

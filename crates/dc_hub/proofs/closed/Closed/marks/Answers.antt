@@ -1,4 +1,4 @@
-use Rattle.std.proofs.Common.{rules, ◌≡◌, ◌<◌, get_or, subst, length, ℕ, if◌then◌else◌, max, ap, sym, ◌∙◌}
+use Rattle.std.proofs.Common.{rules, ◌≡◌, ◌<◌, get_or, subst, length, if◌then◌else◌, max, ap, sym, ◌∙◌}
 use Rattle.std.proofs.lemmas.List.{get_or-replicate}
 use Rattle.dc_event.specs.declared.event.Actor.TheVariants.{Wire}
 use Rattle.dc_hub.specs.Closing.{is_by}

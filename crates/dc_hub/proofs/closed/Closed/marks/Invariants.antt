@@ -1,4 +1,4 @@
-use Rattle.std.specs.Prelude.{◌≡◌, ℕ, ◌<◌, length, take, slice_index}
+use Rattle.std.specs.Prelude.{◌≡◌, ℕ, ◌<◌, take, slice_index}
 use Rattle.dc_event.specs.declared.event.Actor.TheVariants.{Wire}
 use Rattle.dc_hub.specs.Closing.{receipts_of}
 use Rattle.dc_hub.specs.Views.{greatest}

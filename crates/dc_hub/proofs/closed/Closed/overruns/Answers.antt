@@ -1,4 +1,4 @@
-use Rattle.std.proofs.Common.{rules, ◌≡◌, ◌<◌, get_or, subst, length, ap, sym, arith, ◌∙◌, ◌+◌}
+use Rattle.std.proofs.Common.{rules, ◌≡◌, ◌<◌, get_or, subst, length, arith}
 use Rattle.dc_hub.specs.Views.{ClosedView}
 use Rattle.dc_hub.proofs.Tallies.{overruns-more}
 use Rattle.dc_hub.proofs.closed.Closed.overruns.Goals as goal
