@@ -1,4 +1,0 @@
-use Rattle.dc_hub_tests.proofs.calls.three_entries_fill_a_book_of_three.Given as goal
-
-abbrev pub ghosts-full_after_three : goal.ghosts-full_after_three
-ghosts-full_after_three g a = record { name = a.blank.name; parts = a.blank.parts }

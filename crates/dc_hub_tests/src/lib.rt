@@ -1,9 +1,0 @@
-//! Trials of the hub on the small tables.
-#![tactic(auto)]
-
-#[cfg(test)]
-mod calls;
-#[cfg(test)]
-mod fixture;
-#[cfg(test)]
-mod threads;
