@@ -30,6 +30,7 @@ fn schedule(
     assert_eq!(rt; tables.output_count(), 1);
     let schedule = Schedule::of(tables, 0);
     for (tick, due) in counts {
+        assert!(rt; *tick < 1000);
         assert_eq!(rt; schedule.due_by(*tick), *due, "tick {tick}");
     }
     assert_eq!(rt; schedule.next(0), (0, 0));

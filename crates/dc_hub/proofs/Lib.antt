@@ -1,0 +1,10 @@
+mod Backlogs
+mod Closes
+mod Faults
+mod Legal
+mod Marks
+mod Opens
+mod Places
+mod Receipts
+mod Tallies
+mod Unlike

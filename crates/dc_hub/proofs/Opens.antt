@@ -1,0 +1,44 @@
+-- New seats, one more.
+use Rattle.std.proofs.Common.{◌≡◌, ◌⊎◌, ⊎_elim, inl, inr, ℕ, zero, suc, ◌+◌, Option, Some, None, List, [], ◌∷◌, ◌++◌, length, refl, sym, ap, subst, ◌∙◌, length-append, slice_get}
+use Rattle.atomic_table.specs.Seated.{TableId}
+use Rattle.dc_event.specs.declared.event.Actor.{Actor}
+use Rattle.dc_hub.specs.Views.{SeatView, WireView, unused, IsNewWire, AreNewWires, AreNewSeats}
+
+pub some-same : {X : Type 0} (x y : X) → Some x ≡ Some y → x ≡ y
+some-same {X} x y e = ap (λ (o : Option X). given o) e
+  where
+    given : Option X → X
+    given None = x
+    given (Some z) = z
+
+pub none-some : {X : Type 0} (y : X) → None ≡ Some y → ⊥
+none-some {X} y e = subst (λ (o : Option X). is_none o) e tt
+  where
+    is_none : Option X → Type 0
+    is_none None = Unit {0}
+    is_none (Some z) = ⊥
+
+-- an item of a list with one more is an item of the list, or the last
+pub at_push : {X : Type 0} (xs : List X) (x y : X) (k : ℕ) → slice_get (xs ++ x ∷ []) k ≡ Some y → (slice_get xs k ≡ Some y) ⊎ ((k ≡ length xs) × (x ≡ y))
+at_push [] x y zero e = inr (refl, some-same x y e)
+at_push [] x y (suc k) e = absurd (none-some y e)
+at_push (z ∷ zs) x y zero e = inl e
+at_push (z ∷ zs) x y (suc k) e = ⊎_elim (λ t. inl t) (λ (t : (k ≡ length zs) × (x ≡ y)). inr (ap suc t.0, t.1)) (at_push zs x y k e)
+
+pub wires-push : (board : TableId × List ℕ) (ws : List WireView) (n : ℕ) (w : WireView) → AreNewWires board ws n → IsNewWire board n w → AreNewWires board (ws ++ w ∷ []) (n + 1)
+wires-push board ws n w are is = (
+  length-append ws (w ∷ []) ∙ ap (λ k. k + 1) are.0,
+  (λ k v there. ⊎_elim
+      (λ (t : slice_get ws k ≡ Some v). are.1 k v t)
+      (λ (t : (k ≡ length ws) × (w ≡ v)). subst (λ j. IsNewWire board j v) (sym (t.0 ∙ are.0)) (subst (IsNewWire board n) t.1 is))
+      (at_push ws w v k there)),
+)
+
+pub seats-push : (kind : ℕ → Actor) (ss : List SeatView) (n : ℕ) → AreNewSeats kind ss n → AreNewSeats kind (ss ++ unused (kind n) 1 ∷ []) (n + 1)
+seats-push kind ss n are = (
+  length-append ss (unused (kind n) 1 ∷ []) ∙ ap (λ k. k + 1) are.0,
+  (λ k v there. ⊎_elim
+      (λ (t : slice_get ss k ≡ Some v). are.1 k v t)
+      (λ (t : (k ≡ length ss) × (unused (kind n) 1 ≡ v)). subst (λ j. v ≡ unused (kind j) 1) (sym (t.0 ∙ are.0)) (sym t.1))
+      (at_push ss (unused (kind n) 1) v k there)),
+)

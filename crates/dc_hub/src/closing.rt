@@ -1,0 +1,179 @@
+//! Whether seats are one for each actor, and whether their receipts are the book's entries.
+
+ghost use Rattle.std.specs.Prelude.{◌≡◌, ◌+◌, ◌<◌, ◌≤◌, true, false, None, Some, MatchOption, IfOk, IfErr, length, slice_get};
+ghost use Rattle.dc_check.specs.Lent.{tables_of};
+ghost use Rattle.dc_hub.specs.Closing.{is_by, receipts_of, DifferAt, all_seats, actor_at, actor_count, AreOneEach, AllAgree, FirstDiffers, IsCloseFault};
+
+use crate::book::Book;
+use crate::closed::Closed;
+use crate::entry::{Entry, Receipt};
+use crate::fault::CloseFault;
+use crate::seat::Seat;
+use crate::seats::Seats;
+use dc_check::Certified;
+use dc_event::{Actor, Event};
+use dc_tables::Tables;
+use std::sync::ledger::Ledger;
+
+/// Whether the actor makes the step.
+pub fn makes(actor: &Actor, event: &Event) -> bool
+    ensures { result ≡ is_by actor.now event.now }
+{
+    match *actor {
+        Actor::Wire(bus) => matches!(*event, Event::Arrive(on, _) if on == bus),
+        Actor::Router(router) => matches!(*event, Event::Route(by) if by == router),
+        Actor::Output(output) => matches!(*event, Event::Send(by) if by == output),
+        Actor::Clock => matches!(*event, Event::Tick),
+    }
+}
+
+/// The index of the first receipt that is not the actor's entry, or of the entry where the receipts have ended.
+pub fn first_unlike(receipts: &[Receipt], actor: &Actor, entries: &[Entry]) -> Option<u64>
+    ensures { MatchOption result (receipts.now ≡ receipts_of actor.now entries.now) (λ index. DifferAt receipts.now (receipts_of actor.now entries.now) index) }
+{
+    let mut next = 0;
+    for i in 0..entries.len() {
+        if !makes(actor, &entries[i].event) {
+            continue;
+        }
+        let index = i as u64 + 1;
+        if next == receipts.len() {
+            return Some(index);
+        }
+        if !receipts[next].is_of(index, &entries[i]) {
+            return Some(receipts[next].index);
+        }
+        next += 1;
+    }
+    if next < receipts.len() {
+        return Some(receipts[next].index);
+    }
+    None
+}
+
+/// The actor whose seat stands at this place.
+fn expected_actor(tables: &Tables, place: usize) -> Actor
+    ensures { result ≡ actor_at tables.now place }
+{
+    let (buses, routers, outputs) = (
+        tables.bus_count(),
+        tables.router_count(),
+        tables.output_count(),
+    );
+    if place < buses {
+        return Actor::Wire(place);
+    }
+    let place = place - buses;
+    if place < routers {
+        return Actor::Router(place);
+    }
+    let place = place - routers;
+    if place < outputs {
+        return Actor::Output(place);
+    }
+    Actor::Clock
+}
+
+/// How many actors there are.
+fn actors(tables: &Tables) -> usize
+    ensures count { result ≡ actor_count tables.now }
+    ensures few { result ≤ 161 }
+{
+    tables.valid();
+    tables.bus_count() + tables.router_count() + tables.output_count() + 1
+}
+
+impl<L: Ledger> Seats<L> {
+    /// The seat at this place: wires, routers, outputs, clock.
+    fn at(&self, place: usize) -> Option<&Seat<L>>
+        ensures { MatchOption result (slice_get (all_seats self.now.wires.items self.now.routers.items self.now.outputs.items self.now.clock) place ≡ None) (λ s. slice_get (all_seats self.now.wires.items self.now.routers.items self.now.outputs.items self.now.clock) place ≡ Some s.now) }
+    {
+        if place < self.wires.len() {
+            return Some(&self.wires[place].seat);
+        }
+        let place = place - self.wires.len();
+        if place < self.routers.len() {
+            return Some(&self.routers[place].seat);
+        }
+        let place = place - self.routers.len();
+        if place < self.outputs.len() {
+            return Some(&self.outputs[place].seat);
+        }
+        if place > self.outputs.len() {
+            return None;
+        }
+        match &self.clock {
+            Some(clock) => Some(&clock.seat),
+            None => None,
+        }
+    }
+}
+
+/// Whether the seats are one for each actor, in order.
+fn are_one_each<L: Ledger>(seats: &Seats<L>, tables: &Tables) -> bool
+    ensures yes { result ≡ true → AreOneEach tables.now (all_seats seats.now.wires.items seats.now.routers.items seats.now.outputs.items seats.now.clock) }
+    ensures no { result ≡ false → ¬ AreOneEach tables.now (all_seats seats.now.wires.items seats.now.routers.items seats.now.outputs.items seats.now.clock) }
+{
+    let count = actors(tables);
+    for place in 0..count {
+        let Some(seat) = seats.at(place) else {
+            return false;
+        };
+        if seat.actor != expected_actor(tables, place) {
+            return false;
+        }
+    }
+    seats.at(count).is_none()
+}
+
+/// The index at which the first seat differs whose receipts are not its actor's entries.
+fn first_mismatch<L: Ledger>(seats: &Seats<L>, count: usize, entries: &[Entry]) -> Option<u64>
+    requires { length (all_seats seats.now.wires.items seats.now.routers.items seats.now.outputs.items seats.now.clock) ≡ count }
+    ensures { MatchOption result (AllAgree entries.now (all_seats seats.now.wires.items seats.now.routers.items seats.now.outputs.items seats.now.clock)) (λ index. FirstDiffers entries.now (all_seats seats.now.wires.items seats.now.routers.items seats.now.outputs.items seats.now.clock) index) }
+{
+    for place in 0..count {
+        let Some(seat) = seats.at(place) else {
+            continue;
+        };
+        if let Some(index) = first_unlike(&seat.receipts, &seat.actor, entries) {
+            return Some(index);
+        }
+    }
+    None
+}
+
+/// Why a book does not close over the seats, if it does not.
+fn close_fault<L: Ledger>(
+    certified: &Certified,
+    entries: &[Entry],
+    seats: &Seats<L>,
+) -> Option<CloseFault>
+    ensures { MatchOption result (AreOneEach (tables_of certified.now) (all_seats seats.now.wires.items seats.now.routers.items seats.now.outputs.items seats.now.clock) × AllAgree entries.now (all_seats seats.now.wires.items seats.now.routers.items seats.now.outputs.items seats.now.clock)) (λ fault. IsCloseFault (tables_of certified.now) entries.now (all_seats seats.now.wires.items seats.now.routers.items seats.now.outputs.items seats.now.clock) fault) }
+{
+    let tables = certified.tables();
+    if !are_one_each(seats, tables) {
+        return Some(CloseFault::SeatMissing);
+    }
+    match first_mismatch(seats, actors(tables), entries) {
+        Some(index) => Some(CloseFault::Mismatch(index)),
+        None => None,
+    }
+}
+
+impl<L: Ledger> Book<L> {
+    /// The closed book, where the seats are one for each actor and the receipts of each are its actor's entries. Takes no
+    /// memory.
+    ///
+    /// # Errors
+    /// The seats are not one for each actor; else the first seat whose receipts are not its actor's entries.
+    pub fn close(self, seats: Seats<L>) -> Result<Closed, CloseFault>
+        ensures same { IfOk result (λ c. (c.certified ≡ self.certified) × (c.entries ≡ self.entries)) }
+        ensures ok { IfOk result (λ c. AreOneEach (tables_of c.certified) (all_seats seats.wires.items seats.routers.items seats.outputs.items seats.clock) × AllAgree c.entries (all_seats seats.wires.items seats.routers.items seats.outputs.items seats.clock)) }
+        ensures err { IfErr result (λ fault. IsCloseFault (tables_of self.certified) self.entries (all_seats seats.wires.items seats.routers.items seats.outputs.items seats.clock) fault) }
+    {
+        match close_fault(&self.certified, &self.entries, &seats) {
+            Some(fault) => Err(fault),
+            None => Ok(self.closed()),
+        }
+    }
+}

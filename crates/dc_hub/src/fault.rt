@@ -1,0 +1,31 @@
+use dc_core::StepFault;
+
+/// Why a hub can not be opened.
+#[derive(Clone, Copy, Debug, PartialEq, Eq)]
+pub enum OpenFault {
+    /// The trace limit is 0 or more than `LONGEST_TRACE`.
+    TraceLimit,
+    /// Out of memory.
+    Memory,
+}
+
+/// Why a call is refused. What comes first is reported: a full book, then want of memory, then the step's fault.
+#[derive(Clone, Copy, Debug, PartialEq, Eq)]
+pub enum HubFault {
+    /// The event may not follow the book's run.
+    Step(StepFault),
+    /// The book holds as many entries as its trace limit.
+    TraceFull,
+    /// Out of memory.
+    Memory,
+}
+
+/// Why a book does not close.
+#[derive(Clone, Copy, Debug, PartialEq, Eq)]
+pub enum CloseFault {
+    /// The seats are not one for each actor, in order.
+    SeatMissing,
+    /// An actor's receipts are not its entries: the index of its first receipt that differs, or of the entry there,
+    /// where the receipts have ended. The first such actor is reported: wires, routers, outputs, clock.
+    Mismatch(u64),
+}

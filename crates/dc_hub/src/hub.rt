@@ -1,0 +1,257 @@
+//! The book under its lock, and the board beside it.
+
+ghost use Rattle.std.specs.Prelude.{◌≡◌, ℕ, ◌+◌, ◌<◌, ◌≤◌, ◌++◌, ◌∷◌, [], List, IfOk, IfErr, OnErr, OnOk, Err, Some, IsSome, IfSome, length, slice_index, max};
+ghost use Rattle.atomic_table.specs.Seated.{TableId};
+ghost use Rattle.dc_board.specs.Marks.{IsSeatOf, raised, fresh, stepped_once};
+ghost use Rattle.dc_check.specs.Lent.{tables_of};
+ghost use Rattle.dc_event.specs.declared.event.Actor.TheVariants.{Wire, Router, Output, Clock};
+ghost use Rattle.dc_event.specs.declared.event.Event.TheVariants.{Tick, Arrive, Route, Send};
+ghost use Rattle.dc_hub.specs.Closing.{all_seats, AreOneEach, AllAgree, IsCloseFault};
+ghost use Rattle.dc_hub.specs.Entries.{actor_of, backlog_of, IsLegal};
+ghost use Rattle.dc_hub.specs.Views.{BookView, unused, board_caps, HasNoted, AreNewWires, AreNewSeats};
+ghost use Rattle.dc_hub.specs.declared.fault.OpenFault.TheVariants.{TraceLimit};
+
+use crate::book::{Book, LONGEST_TRACE};
+use crate::closed::Closed;
+use crate::entry::Receipt;
+use crate::fault::{CloseFault, HubFault, OpenFault};
+use crate::opening::{board_of_marks, output_seats, router_seats, wire_seats};
+use crate::seat::{ClockSeat, OutputSeat, RouterSeat, Seat, Watch, WireSeat};
+use crate::seats::Seats;
+use dc_board::{Board, BoardSeat};
+use dc_check::Certified;
+use dc_event::{Actor, Event, Reply};
+use dc_word::Word;
+use std::alloc::{AllocError, Global};
+use std::marker::Model;
+use std::sync::ledger::{Blank, Ledger};
+use std::sync::{Mutex, Wait};
+
+/// The most actors that tables have: 64 wires, 64 routers, 32 outputs and a clock.
+pub const MOST_ACTORS: u64 = 161;
+
+/// The book under its lock, and the board of marks beside it. Contracts see the board.
+#[derive(Drop)]
+pub struct Hub<L: Ledger> {
+    pub(crate) book: Mutex<Book<L>>,
+    board: Board,
+}
+
+impl<L: Ledger> Model for Hub<L> {
+    ghost Value = { TableId × List ℕ };
+
+    ghost view = { λ h. h.board };
+
+    ghost invariant = { λ h. h.board.1 ≡ board_caps };
+}
+
+impl<L: Ledger> Hub<L> {
+    /// A hub over certified tables, whose book holds at most so many entries, and the seats of its actors, which were
+    /// answered nothing. The blank becomes the hub's count, cut into parts: one for each seat, and the rest for the clock.
+    ///
+    /// # Errors
+    /// The trace limit is not 1 to `LONGEST_TRACE`; out of memory.
+    pub fn open(
+        alloc: Global,
+        blank: Blank,
+        certified: Certified,
+        trace_limit: usize,
+    ) -> Result<(Hub<L>, Seats<L>), OpenFault>
+        requires name { blank.name ≡ L.name }
+        requires parts { blank.parts ≡ L.parts }
+        requires enough { 161 ≤ blank.parts }
+        ensures limit { OnOk result ((1 ≤ trace_limit) × (trace_limit ≤ 16777216)) }
+        ensures refused { result ≡ Err TraceLimit → (1 ≤ trace_limit) × (trace_limit ≤ 16777216) → ⊥ }
+        ensures wires { IfOk result (λ r. AreNewWires r.0 r.1.wires.items (length (tables_of certified).buses)) }
+        ensures routers { IfOk result (λ r. AreNewSeats Router r.1.routers.items (length (tables_of certified).routers)) }
+        ensures outputs { IfOk result (λ r. AreNewSeats Output r.1.outputs.items (length (tables_of certified).outputs)) }
+        ensures clock { IfOk result (λ r. IsSome r.1.clock × IfSome r.1.clock (λ c. c ≡ unused Clock c.parts)) }
+        ensures watch { IfOk result (λ r. IsSeatOf r.0 r.1.watch) }
+    {
+        if trace_limit == 0 || trace_limit > LONGEST_TRACE {
+            return Err(OpenFault::TraceLimit);
+        }
+        match Hub::opened(alloc, blank, certified, trace_limit) {
+            Ok(opened) => Ok(opened),
+            Err(AllocError) => Err(OpenFault::Memory),
+        }
+    }
+
+    /// The same, where the trace limit is right.
+    fn opened(
+        alloc: Global,
+        blank: Blank,
+        certified: Certified,
+        limit: usize,
+    ) -> Result<(Hub<L>, Seats<L>), AllocError>
+        requires name { blank.name ≡ L.name }
+        requires parts { blank.parts ≡ L.parts }
+        requires enough { 161 ≤ blank.parts }
+        ensures wires { IfOk result (λ r. AreNewWires r.0 r.1.wires.items (length (tables_of certified).buses)) }
+        ensures routers { IfOk result (λ r. AreNewSeats Router r.1.routers.items (length (tables_of certified).routers)) }
+        ensures outputs { IfOk result (λ r. AreNewSeats Output r.1.outputs.items (length (tables_of certified).outputs)) }
+        ensures clock { IfOk result (λ r. IsSome r.1.clock × IfSome r.1.clock (λ c. c ≡ unused Clock c.parts)) }
+        ensures watch { IfOk result (λ r. IsSeatOf r.0 r.1.watch) }
+    {
+        let (board, mut marks) = board_of_marks(alloc)?;
+        let (count, mut rest) = blank.open::<L>();
+        let tables = certified.tables();
+        tables.valid();
+        let wires = wire_seats(alloc, &board, &mut marks, &mut rest, tables.bus_count())?;
+        let routers = router_seats(alloc, &mut rest, tables.router_count())?;
+        let outputs = output_seats(alloc, &mut rest, tables.output_count())?;
+        let clock = ClockSeat {
+            seat: Seat::new(alloc, Actor::Clock, rest),
+        };
+        let seats = Seats {
+            wires,
+            routers,
+            outputs,
+            clock: Some(clock),
+            watch: Watch { marks },
+        };
+        let book = Book::new(alloc, certified, limit, count)?;
+        let hub = Hub {
+            book: Mutex::new(book),
+            board,
+        };
+        Ok((hub, seats))
+    }
+
+    /// One step under the lock, which is released when the call returns.
+    fn act<R: Wait>(&self, rt: &R, seat: &mut Seat<L>, event: Event) -> Result<Receipt, HubFault>
+        requires { actor_of event ≡ seat.old.actor }
+        ensures receipt { IfOk result (λ r. (seat.new.receipts ≡ seat.old.receipts ++ r ∷ []) × (r.event ≡ event) × (backlog_of r.reply ≤ 4096)) }
+        ensures same { OnErr result (seat.new ≡ seat.old) }
+        ensures kept { (seat.new.actor ≡ seat.old.actor) × (seat.new.parts ≡ seat.old.parts) }
+    {
+        self.book.lock(rt).act(seat, event)
+    }
+
+    /// A word arrives on the seat's bus. Where it is queued, the backlog is noted on the board after the release.
+    ///
+    /// # Errors
+    /// In this order: the book is full; out of memory; the event may not follow the book's run. The seat is unchanged.
+    pub fn arrive<R: Wait>(
+        &self,
+        rt: &R,
+        seat: &mut WireSeat<L>,
+        word: Word,
+    ) -> Result<Receipt, HubFault>
+        requires { IsSeatOf self.now seat.old.marks }
+        ensures receipt { IfOk result (λ r. (seat.new.seat.receipts ≡ seat.old.seat.receipts ++ r ∷ []) × ((bus : ℕ) → seat.old.seat.actor ≡ Wire bus → r.event ≡ Arrive bus word)) }
+        ensures same { OnErr result (seat.new ≡ seat.old) }
+        ensures kept { (seat.new.seat.actor ≡ seat.old.seat.actor) × (seat.new.seat.parts ≡ seat.old.seat.parts) }
+        ensures board { IsSeatOf self.now seat.new.marks }
+        ensures noted { HasNoted seat.new }
+    {
+        let event = Event::Arrive(seat.bus, word);
+        let receipt = self.act(rt, &mut seat.seat, event)?;
+        note(&self.board, &mut seat.marks, seat.bus, &receipt.reply);
+        Ok(receipt)
+    }
+
+    /// The seat's router makes a step.
+    ///
+    /// # Errors
+    /// As of `arrive`.
+    pub fn route<R: Wait>(&self, rt: &R, seat: &mut RouterSeat<L>) -> Result<Receipt, HubFault>
+        ensures receipt { IfOk result (λ r. (seat.new.receipts ≡ seat.old.receipts ++ r ∷ []) × (actor_of r.event ≡ seat.old.actor)) }
+        ensures same { OnErr result (seat.new ≡ seat.old) }
+        ensures kept { (seat.new.actor ≡ seat.old.actor) × (seat.new.parts ≡ seat.old.parts) }
+    {
+        let event = Event::Route(seat.router);
+        self.act(rt, &mut seat.seat, event)
+    }
+
+    /// The seat's output makes a send step.
+    ///
+    /// # Errors
+    /// As of `arrive`.
+    pub fn send<R: Wait>(&self, rt: &R, seat: &mut OutputSeat<L>) -> Result<Receipt, HubFault>
+        ensures receipt { IfOk result (λ r. (seat.new.receipts ≡ seat.old.receipts ++ r ∷ []) × (actor_of r.event ≡ seat.old.actor)) }
+        ensures same { OnErr result (seat.new ≡ seat.old) }
+        ensures kept { (seat.new.actor ≡ seat.old.actor) × (seat.new.parts ≡ seat.old.parts) }
+    {
+        let event = Event::Send(seat.output);
+        self.act(rt, &mut seat.seat, event)
+    }
+
+    /// The clock ends the tick.
+    ///
+    /// # Errors
+    /// As of `arrive`.
+    pub fn tick<R: Wait>(&self, rt: &R, seat: &mut ClockSeat<L>) -> Result<Receipt, HubFault>
+        ensures receipt { IfOk result (λ r. (seat.new.receipts ≡ seat.old.receipts ++ r ∷ []) × (r.event ≡ Tick)) }
+        ensures same { OnErr result (seat.new ≡ seat.old) }
+        ensures kept { (seat.new.actor ≡ seat.old.actor) × (seat.new.parts ≡ seat.old.parts) }
+    {
+        self.act(rt, &mut seat.seat, Event::Tick)
+    }
+
+    /// The mark of a bus, the greatest backlog that was noted so far, in one step: without the lock, without memory.
+    pub fn read(&self, watch: &mut Watch, bus: usize) -> u64
+        requires watch { IsSeatOf self.now watch.old }
+        requires bus { bus < 64 }
+        ensures watch { IsSeatOf self.now watch.new }
+        ensures rises { slice_index watch.old.1.seen bus ≤ result }
+        ensures shown { slice_index watch.new.1.seen bus ≡ result }
+        ensures most { result ≤ 4096 }
+    {
+        self.board.read(&mut watch.marks, bus)
+    }
+
+    /// A watch that has seen nothing.
+    pub fn split(&self, watch: &mut Watch) -> Watch
+        requires { IsSeatOf self.now watch.old }
+        ensures same { watch.new.1 ≡ stepped_once watch.old.1 }
+        ensures watch { IsSeatOf self.now watch.new }
+        ensures new { IsSeatOf self.now result × (result.1 ≡ fresh board_caps) }
+    {
+        Watch {
+            marks: self.board.split(&mut watch.marks),
+        }
+    }
+}
+
+impl<L: Ledger> Hub<L> {
+    /// Closes the book. Takes no memory.
+    ///
+    /// # Errors
+    /// As of `Book::close`, of the hub's book.
+    pub fn close(self, seats: Seats<L>) -> Result<Closed, CloseFault>
+        ensures ok { IfOk result (λ c. AreOneEach (tables_of c.certified) (all_seats seats.wires.items seats.routers.items seats.outputs.items seats.clock) × AllAgree c.entries (all_seats seats.wires.items seats.routers.items seats.outputs.items seats.clock)) }
+        ensures err { IfErr result (λ fault. (book : BookView) × IsLegal (tables_of book.certified) book.entries × IsCloseFault (tables_of book.certified) book.entries (all_seats seats.wires.items seats.routers.items seats.outputs.items seats.clock) fault) }
+    {
+        let Hub { book, board: _ } = self;
+        let book = book.into_inner();
+        book.legal();
+        book.close(seats)
+    }
+}
+
+/// Notes the backlog that a reply tells.
+fn note(board: &Board, seat: &mut BoardSeat, bus: usize, reply: &Reply)
+    requires seat { IsSeatOf board.now seat.old }
+    requires bus { bus < 64 }
+    requires backlog { backlog_of reply.now ≤ 4096 }
+    requires caps { board.now.1 ≡ board_caps }
+    ensures seat { IsSeatOf board.now seat.new }
+    ensures noted { seat.new.1.noted ≡ raised seat.old.1.noted bus (backlog_of reply.now) }
+{
+    let mark = backlog(reply);
+    if mark == 0 {
+        return;
+    }
+    board.note(seat, bus, mark);
+}
+
+/// The backlog that a reply tells, 0 where it tells none.
+fn backlog(reply: &Reply) -> u64
+    ensures { result ≡ backlog_of reply.now }
+{
+    match *reply {
+        Reply::Queued(backlog) => backlog as u64,
+        _ => 0,
+    }
+}

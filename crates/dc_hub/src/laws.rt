@@ -1,0 +1,34 @@
+//! What is sure of a hub that has closed; and a forged receipt, for trials.
+
+ghost use Rattle.std.specs.Prelude.{◌≡◌, length};
+ghost use Rattle.dc_cert.specs.Bounds.{numbers_of};
+ghost use Rattle.dc_cert.specs.NamedRows.{named_rows};
+ghost use Rattle.dc_check.specs.Lent.{tables_of, certificate_of};
+ghost use Rattle.dc_event.specs.Admissible.{KeepsSources};
+ghost use Rattle.dc_event.specs.Claims.{ClaimsHold};
+ghost use Rattle.dc_hub.specs.Entries.{events};
+
+use crate::closed::Closed;
+use crate::entry::Receipt;
+use crate::seat::ClockSeat;
+use std::sync::ledger::Ledger;
+
+/// Where the words of the entries' run come no sooner than their sources' intervals let them, the claims of the
+/// certificate hold at each entry. The call does nothing.
+pub fn keeps_the_claims(closed: &Closed)
+    ensures { KeepsSources (tables_of closed.now.certified) (events closed.now.entries) → ClaimsHold (tables_of closed.now.certified) (numbers_of (named_rows (certificate_of closed.now.certified))).ages (events closed.now.entries) }
+{
+    closed.legal();
+    closed.certified.keeps_its_claims();
+}
+
+/// Writes a receipt over the clock's last one, if there is one: a hub does not close over it.
+pub fn forge<L: Ledger>(seat: &mut ClockSeat<L>, receipt: Receipt)
+    ensures actor { (seat.new.actor ≡ seat.old.actor) × (seat.new.parts ≡ seat.old.parts) }
+    ensures count { length seat.new.receipts ≡ length seat.old.receipts }
+{
+    let count = seat.seat.receipts.len();
+    if count > 0 {
+        seat.seat.receipts[count - 1] = receipt;
+    }
+}
