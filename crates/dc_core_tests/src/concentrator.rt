@@ -61,20 +61,18 @@ fn the_second_send_in_a_tick_is_too_soon(rt: HostRuntime) -> Result<(), Fail> {
 #[test]
 fn a_tick_waits_for_the_steps_that_are_owed(rt: HostRuntime) -> Result<(), Fail> {
     let label = label(0o203)?;
-    let router = Err(StepFault::Owed(Actor::Router(0)));
-    let output = Err(StepFault::Owed(Actor::Output(0)));
     answers(
         &rt,
         rt.alloc(),
         SMALL,
         &[0],
         &[
-            (Event::Tick, router),
+            (Event::Tick, Err(StepFault::Owed(Actor::Router(0)))),
             (Event::Route(0), Ok(Reply::Empty(0))),
             (Event::Tick, Ok(Reply::Now(1))),
-            (Event::Tick, router),
+            (Event::Tick, Err(StepFault::Owed(Actor::Router(0)))),
             (Event::Route(0), Ok(Reply::Empty(0))),
-            (Event::Tick, output),
+            (Event::Tick, Err(StepFault::Owed(Actor::Output(0)))),
             (Event::Send(0), Ok(Reply::Sent(label, Word(0xA000_00C1)))),
             (Event::Tick, Ok(Reply::Now(2))),
         ],
