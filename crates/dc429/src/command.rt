@@ -42,46 +42,81 @@ fn file<'a>(alloc: Global, name: &'a str, help: &'a str) -> Arg<'a> {
     Arg::new(alloc, name).help(help).required(true)
 }
 
-// The command with its subcommands.
-fn make<'a>(alloc: Global) -> Result<Command<'a>, Error> {
+// A subcommand that reads tables.
+fn on_tables<'a>(alloc: Global, name: &'a str, about: &'a str) -> Result<Command<'a>, Error> {
+    Ok(
+        Command::new(alloc, name)
+            .about(about)
+            .arg(file(alloc, "TABLES", "The tables, in TOML"))?,
+    )
+}
+
+// A subcommand that reads tables and a certificate.
+fn on_certificate<'a>(alloc: Global, name: &'a str, about: &'a str) -> Result<Command<'a>, Error> {
+    Ok(on_tables(alloc, name, about)?.arg(file(alloc, "CERT", "The certificate, in JSON"))?)
+}
+
+fn decode<'a>(alloc: Global) -> Result<Command<'a>, Error> {
     let format = Arg::new(alloc, "format")
         .help("How the data of the words is written")
         .required(true)
         .value_parser(["bnr", "bcd", "disc"].as_slice());
-    let decode = Command::new(alloc, "decode")
-        .about("Decodes ARINC 429 words from standard input, one a line")
-        .arg(format)?;
-    let check = Command::new(alloc, "check")
-        .about("Judges a certificate for tables, and prints the verdict")
-        .arg(file(alloc, "TABLES", "The tables, in TOML"))?
-        .arg(file(alloc, "CERT", "The certificate, in JSON"))?;
-    let find = Command::new(alloc, "find")
-        .about("Finds the least certificate for tables, or what stands in the way of one")
-        .arg(file(alloc, "TABLES", "The tables, in TOML"))?;
+    Ok(
+        Command::new(alloc, "decode")
+            .about("Decodes ARINC 429 words from standard input, one a line")
+            .arg(format)?,
+    )
+}
+
+fn check<'a>(alloc: Global) -> Result<Command<'a>, Error> {
+    on_certificate(
+        alloc,
+        "check",
+        "Judges a certificate for tables, and prints the verdict",
+    )
+}
+
+fn find<'a>(alloc: Global) -> Result<Command<'a>, Error> {
+    on_tables(
+        alloc,
+        "find",
+        "Finds the least certificate for tables, or what stands in the way of one",
+    )
+}
+
+fn replay<'a>(alloc: Global) -> Result<Command<'a>, Error> {
     let all = Arg::new(alloc, "all")
         .long("all")
         .help("Prints every reply, and not only words that are sent or lost")
         .action(ArgAction::SetTrue);
-    let replay = Command::new(alloc, "replay")
-        .about("Replays the trace on standard input through the concentrator of the tables")
-        .arg(file(alloc, "TABLES", "The tables, in TOML"))?
-        .arg(all)?;
-    let audit = Command::new(alloc, "audit")
-        .about(
-            "Audits the trace on standard input: its budgets, its sources, and the claims of a certificate",
-        )
-        .arg(file(alloc, "TABLES", "The tables, in TOML"))?
-        .arg(file(alloc, "CERT", "The certificate, in JSON"))?;
+    let replay = on_tables(
+        alloc,
+        "replay",
+        "Replays the trace on standard input through the concentrator of the tables",
+    )?;
+    Ok(replay.arg(all)?)
+}
+
+fn audit<'a>(alloc: Global) -> Result<Command<'a>, Error> {
+    on_certificate(
+        alloc,
+        "audit",
+        "Audits the trace on standard input: its budgets, its sources, and the claims of a certificate",
+    )
+}
+
+// The command with its subcommands.
+fn make<'a>(alloc: Global) -> Result<Command<'a>, Error> {
     Ok(
         Command::new(alloc, "dc429")
             .about("An ARINC 429 concentrator that is certified before it flies")
             .version("0.1.0")
             .subcommand_required(true)
-            .subcommand(decode)?
-            .subcommand(check)?
-            .subcommand(find)?
-            .subcommand(replay)?
-            .subcommand(audit)?,
+            .subcommand(decode(alloc)?)?
+            .subcommand(check(alloc)?)?
+            .subcommand(find(alloc)?)?
+            .subcommand(replay(alloc)?)?
+            .subcommand(audit(alloc)?)?,
     )
 }
 
