@@ -18,7 +18,7 @@ def tables():
     for bus in range(BUSES):
         print(f'[[router]]\nname = "R{bus}"\nsteps = 2\nwithin = 1\nmost = 2\nvisits = ["B{bus}"]')
     for output in range(OUTPUTS):
-        print(f'[[output]]\nname = "O{output}"\nspeed = "high"\nsteps = 1\nwithin = 1\nframe = 32')
+        print(f'[[output]]\nname = "O{output}"\nspeed = "high"\nsteps = 1\nwithin = 1\nframe = 40')
         for at in range(32):
             label, bus = LABELS[at % 16], 2 * output + at // 16
             print(f'[[output.label]]\nname = "x{output}-{at}"\nlabel = "{label}"\nequipment = "001"\nsdi = {at // 16}')

@@ -12,7 +12,7 @@ const MAXIMUM: u64 = 60;
 const LEAST: u64 = 11;
 const GREATEST: u64 = 59;
 const STALE: u64 = 70;
-const FRAME: u64 = 32;
+const FRAME: u64 = 40;
 
 #[derive(Clone, Copy)]
 enum Event { Tick, Arrive(usize, u32), Route(usize), Send(usize) }

@@ -1,4 +1,5 @@
 //! Asks for an audit, and compares its lines and its status with what is wanted.
+ghost use Rattle.std.specs.Prelude.{◌<◌};
 
 use dc_app::run_audit;
 use dc_device::{MemSink, MemSource, Sink, Source};
@@ -33,16 +34,30 @@ pub fn audits(rt: &impl Abort, alloc: Global, case: &Case) -> Result<(), Fail> {
     Ok(())
 }
 
-/// Whether the trace was left alone, where these texts come before it.
-pub fn leaves_the_trace(rt: &impl Abort, alloc: Global, case: &Case) -> Result<(), Fail> {
+/// Audits in pieces of this size, where this pull of the trace fails, counted from 1: how often the trace was pulled.
+pub fn pulls_of(
+    rt: &impl Abort,
+    alloc: Global,
+    case: &Case,
+    piece: usize,
+    fails_at: u64,
+) -> Result<u64, Fail>
+    requires { 0 < piece }
+{
     let mut sink = MemSink::new(alloc, ROOM, 0)?;
-    let mut tables = MemSource::new(case.tables, 64, 0);
-    let mut certificate = MemSource::new(case.certificate, 64, 0);
-    let mut trace = MemSource::new(case.trace, 64, 1);
+    let mut tables = MemSource::new(case.tables, piece, 0);
+    let mut certificate = MemSource::new(case.certificate, piece, 0);
+    let mut trace = MemSource::new(case.trace, piece, fails_at);
     let status = run_audit(alloc, &mut tables, &mut certificate, &mut trace, &mut sink);
     assert_eq!(rt; sink.shown(), case.want);
     assert_eq!(rt; status, case.status);
-    assert_eq!(rt; trace.pulls(), 0);
+    Ok(trace.pulls())
+}
+
+/// Whether the trace was left alone, where these texts come before it.
+pub fn leaves_the_trace(rt: &impl Abort, alloc: Global, case: &Case) -> Result<(), Fail> {
+    let pulls = pulls_of(rt, alloc, case, 64, 1)?;
+    assert_eq!(rt; pulls, 0);
     Ok(())
 }
 
@@ -66,21 +81,32 @@ fn breaks_at(rt: &impl Abort, alloc: Global, case: &Case, pulls: [u64; 3]) -> Re
     Ok(broken)
 }
 
+/// Each pull of the tables, of the certificate or of the trace fails in turn.
+fn survives_pulls_of(
+    rt: &impl Abort,
+    alloc: Global,
+    case: &Case,
+    tables: bool,
+    certificate: bool,
+) -> Result<(), Fail> {
+    for pull in 1..1000 {
+        let pulls = match (tables, certificate) {
+            (true, _) => [pull, 0, 0],
+            (false, true) => [0, pull, 0],
+            (false, false) => [0, 0, pull],
+        };
+        if !breaks_at(rt, alloc, case, pulls)? {
+            return Ok(());
+        }
+    }
+    Err("some pull fails again and again".into())
+}
+
 /// Each pull of each source fails in turn.
 pub fn survives_pulls(rt: &impl Abort, alloc: Global, case: &Case) -> Result<(), Fail> {
-    for source in 0..3 {
-        let mut pull: u64 = 1;
-        while pull < 1000 {
-            let at = |number: i32| if number == source { pull } else { 0 };
-            let pulls = [at(0), at(1), at(2)];
-            if !breaks_at(rt, alloc, case, pulls)? {
-                break;
-            }
-            pull += 1;
-        }
-        assert!(rt; pull < 1000, "some pull fails again and again");
-    }
-    Ok(())
+    survives_pulls_of(rt, alloc, case, true, false)?;
+    survives_pulls_of(rt, alloc, case, false, true)?;
+    survives_pulls_of(rt, alloc, case, false, false)
 }
 
 /// Each push fails in turn: nothing follows it.

@@ -1,8 +1,7 @@
 //! Recorded runs of 100,000 events, and longer ones.
 
+use crate::asking::{Case, pulls_of};
 use crate::texts::{CERTIFICATE, push_run, push_tables};
-use dc_app::run_audit;
-use dc_device::{MemSink, MemSource, Source};
 use std::alloc::Global;
 use std::process::Abort;
 use std::rt::HostRuntime;
@@ -21,14 +20,14 @@ fn audits(
 ) -> Result<u64, Fail> {
     let mut text = String::new(alloc);
     push_tables(&mut text, false)?;
-    let mut sink = MemSink::new(alloc, 100, 0)?;
-    let mut tables = MemSource::new(text.as_bytes(), 4096, 0);
-    let mut certificate = MemSource::new(CERTIFICATE.as_bytes(), 4096, 0);
-    let mut trace = MemSource::new(trace.as_bytes(), 4096, 0);
-    let ended = run_audit(alloc, &mut tables, &mut certificate, &mut trace, &mut sink);
-    assert_eq!(rt; sink.shown(), want.as_bytes());
-    assert_eq!(rt; ended, status);
-    Ok(trace.pulls())
+    let case = Case {
+        tables: text.as_bytes(),
+        certificate: CERTIFICATE.as_bytes(),
+        trace: trace.as_bytes(),
+        want: want.as_bytes(),
+        status,
+    };
+    pulls_of(rt, alloc, &case, 4096, 0)
 }
 
 #[test]
