@@ -51,7 +51,7 @@ pub fn find_says(
     want: &str,
 ) -> Result<(), Fail> {
     let mut sink = MemSink::new(alloc, 1000, 0)?;
-    let mut tables = MemSource::new(tables, piece, 0);
+    let mut tables = MemSource::new(tables, piece.max(1), 0);
     let status = run_find(alloc, &mut tables, &mut sink);
     assert_eq!(rt; line_of(sink.bytes()), want.as_bytes(), "{want}");
     assert_eq!(rt; status, status_of(want), "{want}");
