@@ -31,7 +31,10 @@ fn a_window_is_1_to_100000_ticks(rt: HostRuntime) {
         at(CertificateList::Inputs, 3, Condition::WindowOutOfRange, 0)
     );
     assert_eq!(rt; range_fault(CertificateList::Inputs, 3, 1, 0), None);
-    assert_eq!(rt; range_fault(CertificateList::Outputs, 0, 0), None);
+    assert_eq!(rt;
+        range_fault(CertificateList::Outputs, 0, LONGEST_WINDOW, 0),
+        None
+    );
     assert_eq!(rt;
         range_fault(CertificateList::Outputs, 0, LONGEST_WINDOW + 1, 0),
         at(CertificateList::Outputs, 0, Condition::WindowOutOfRange, 0)
