@@ -243,7 +243,10 @@ fn assert_label(rt: &impl Abort, tables: &Tables, wanted: WantedLabel) {
         (0, 0o203, 0)
     );
     assert_eq!(rt; row.sources.as_slice(), [wanted.source].as_slice());
-    assert_eq!(rt; (row.stale, row.age_limit), (wanted.stale, wanted.age_limit));
+    assert_eq!(rt;
+        (row.stale, row.age_limit),
+        (wanted.stale, wanted.age_limit)
+    );
     assert_eq!(rt;
         (row.format, row.minimum, row.maximum),
         (Format::Bnr, 11, 19)
