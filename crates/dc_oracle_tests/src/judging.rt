@@ -5,7 +5,7 @@ use dc_event::{Actor, Event};
 use dc_tables::Tables;
 
 /// Whether the event's number is in the tables.
-pub fn is_known(tables: &Tables, event: &Event) -> bool {
+fn is_known(tables: &Tables, event: &Event) -> bool {
     match event {
         Event::Arrive(bus, _) => *bus < tables.bus_count(),
         Event::Route(router) => *router < tables.router_count(),

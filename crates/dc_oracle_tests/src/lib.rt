@@ -15,13 +15,9 @@ mod floods;
 #[cfg(test)]
 mod judging;
 #[cfg(test)]
-mod plain;
-#[cfg(test)]
 mod recorded;
 #[cfg(test)]
 mod runs;
-#[cfg(test)]
-mod searched;
 #[cfg(test)]
 mod tables;
 #[cfg(test)]
