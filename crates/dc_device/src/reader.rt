@@ -28,8 +28,8 @@ pub enum LineEnd {
 
 /// Reads the lines of a source, each of at most 64 bytes, within a limit on the bytes of the whole text.
 ///
-/// It reads on in the bytes that it holds, and pulls where it is reported to: so its owner knows when the source is
-/// asked, and can first show what was answered so far.
+/// It reads on in the bytes that it holds, and pulls where its owner says so: who knows when the source is asked, and
+/// can first show what was answered so far.
 #[derive(Drop)]
 pub struct LineReader {
     block: [u8; BLOCK],

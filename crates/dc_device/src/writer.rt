@@ -8,7 +8,7 @@ use crate::reader::BLOCK;
 use arrayvec::ArrayVec;
 use std::marker::Model;
 
-/// Gathers lines for a sink, and pushes them where the buffer is full and where it is reported to.
+/// Gathers lines for a sink, and pushes them where the buffer is full and where its owner says so.
 #[derive(Drop)]
 pub struct LineWriter {
     waiting: ArrayVec<u8, BLOCK>,
