@@ -25,3 +25,4 @@ pub mod Caps
 pub mod Earliness
 pub mod Pacing
 pub mod CappingLaws
+pub mod Multiples

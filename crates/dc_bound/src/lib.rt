@@ -2,11 +2,13 @@
 //! counts and queues.
 #![tactic(auto)]
 
+mod alike;
 mod arrival;
 mod cyclic;
 mod jitter;
 mod service;
 
+pub use alike::Alike;
 pub use arrival::{ArrivalBound, Both, Sporadic, SumOf, Wire};
 pub use cyclic::Cyclic;
 pub use jitter::{Capped, Jittered};

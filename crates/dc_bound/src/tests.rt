@@ -3,7 +3,7 @@
 ghost use Rattle.std.specs.Prelude.{◌≡◌, ℕ, ◌<◌, ◌≤◌, length, slice_index};
 
 use crate::{
-    ArrivalBound, Both, Capped, Cyclic, Jittered, Paced, ServiceBound, Sporadic, SumOf, Visits,
+    Alike, ArrivalBound, Both, Capped, Cyclic, Jittered, Paced, ServiceBound, Sporadic, SumOf, Visits,
     Wire,
 };
 use std::process::Abort;
@@ -32,6 +32,30 @@ fn assert_floors<S: ServiceBound>(rt: &impl Abort, service: &S, rows: &[(u32, u6
         assert!(rt; *ticks <= 1_000_000);
         assert_eq!(rt; service.at_least(*ticks), *floor, "at {ticks}");
     }
+}
+
+#[test]
+fn alike_sources_bring_so_many_times_the_cap_of_one(rt: HostRuntime) {
+    let sources = Alike::new(3, Jittered::new(10, 5));
+    assert_caps(
+        &rt,
+        &sources,
+        &[(0, 0), (1, 3), (5, 3), (6, 6), (1_000_000, 300_003)],
+    );
+    assert_jumps(
+        &rt,
+        &sources,
+        &[
+            (0, Some(1)),
+            (1, Some(6)),
+            (5, Some(6)),
+            (6, Some(16)),
+            (999_996, None),
+        ],
+    );
+    let many = Alike::new(1024, Jittered::new(1, 1_000_000_000));
+    assert_caps(&rt, &many, &[(0, 0), (1_000_000, 1_025_024_000_000)]);
+    assert_caps(&rt, &Alike::new(1, Jittered::new(10, 0)), &[(10, 1), (11, 2)]);
 }
 
 #[test]

@@ -46,7 +46,7 @@ pub fn least_delay<A: ArrivalBound, S: ServiceBound>(
     while ticks <= window {
         let (most, jump) = arrivals.at_most_and_jump(ticks);
         let before = ticks - 1;
-        match least_ticks(service, most, before + delay, before + LONGEST_WINDOW) {
+        match first_served(service, most, before + delay, before + LONGEST_WINDOW) {
             None => return None,
             Some(served) => delay = served - before,
         }
@@ -72,6 +72,18 @@ pub fn least_window<A: ArrivalBound, S: ServiceBound>(arrivals: &A, service: &S)
         ticks = end;
     }
     None
+}
+
+// The same as `least_ticks`, in one look where `from` ticks are enough.
+fn first_served<S: ServiceBound>(service: &S, count: u64, from: u32, to: u32) -> Option<u32>
+    requires order { from ≤ to }
+    requires far { to ≤ 1000000 }
+    ensures { MatchOption result (S.floor service.now to < count) (λ d. (from ≤ d) × (d ≤ to) × (count ≤ S.floor service.now d) × ((e : ℕ) → from ≤ e → e < d → S.floor service.now e < count)) }
+{
+    if service.at_least(from) >= count {
+        return Some(from);
+    }
+    least_ticks(service, count, from, to)
 }
 
 // The least number of ticks from `from` to `to`, at most 1,000,000, that hold at least `count` visits; `None` where

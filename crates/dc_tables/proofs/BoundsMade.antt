@@ -3,77 +3,78 @@ use Rattle.std.proofs.Common.{true, false, cond, inl, inr, ◌≡◌, ℕ, zero,
 use Rattle.std.specs.List.{sum_by, All}
 use Rattle.std.specs.Prelude.{None, Some, Option}
 use Rattle.std.proofs.lemmas.Bool.{cases_Bool}
-use Rattle.std.proofs.lemmas.List.Sums.{sum_by-cons}
+use Rattle.std.proofs.lemmas.List.Elements.{All-head, All-tail, All-take, All-drop}
+use Rattle.std.proofs.lemmas.List.Sums.{sum_by-cons, sum_by_push}
 use Rattle.std.proofs.lemmas.List.{length-take, length-drop, length-map, get_or-map, get_or_read}
-use Rattle.dc_bound.specs.Early.{jitter_cap}
 use Rattle.dc_bound.specs.lemmas.Caps.{jitter_cap-le}
 use Rattle.dc_bound.specs.Capping.{capped}
 use Rattle.dc_bound.specs.declared.arrival.Wire.{Wire}
 use Rattle.dc_bound.specs.Window.{wire_cap}
 use Rattle.dc_bound.specs.Rounds.{fewest_visits}
 use Rattle.dc_bound.specs.Frame.{Offsets, cyclic_cap}
+use Rattle.dc_bound.specs.declared.alike.Alike.{Alike}
 use Rattle.dc_bound.specs.declared.jitter.Jittered.{Jittered}
-use Rattle.dc_tables.specs.Bounds.{AreBounds, frame_offsets}
-use Rattle.dc_tables.specs.TableRows.{TableRows, AreValid, bus_row, router_row, output_row, entry_row, bus_streams, stream_cap, streams_cap, is_policed, bus_cap, bus_floor, output_cap, offsets}
+use Rattle.dc_tables.specs.Bounds.{AreBounds, AreBoundsOf, alike_cap, jittered_cap, frame_offsets}
+use Rattle.dc_tables.specs.TableRows.{TableRows, AreValid, bus_row, router_row, output_row, entry_row, stream_cap, streams_cap, is_policed, bus_cap, bus_floor, output_cap, offsets}
 use Rattle.dc_tables.specs.declared.rows.Router.{Router}
 use Rattle.dc_tables.specs.declared.rows.Bus.{Bus}
 use Rattle.dc_tables.specs.declared.rows.Output.{Output}
 use Rattle.dc_tables.specs.declared.rows.Stream.{Stream}
 
-bounds_next : (ms : List Jittered) (m : Jittered) (rows : List Stream) (i : ℕ) (row : Stream) → i < length rows → row ≡ get_or rows i row → AreBounds ms (take i rows) → m.minimum ≡ row.minimum → m.jitter ≡ row.jitter
-    → AreBounds (ms ++ (m ∷ [])) (take (suc i) rows)
-bounds_next ms m [] i row h e past here jit = absurd (omega arith)
-bounds_next [] m (r ∷ rows) zero row h e past here jit = ((here ∙ ap (λ r. r.minimum) e, jit ∙ ap (λ r. r.jitter) e), tt)
-bounds_next (x ∷ ms) m (r ∷ rows) zero row h e past here jit = absurd past
-bounds_next [] m (r ∷ rows) (suc i) row h e past here jit = absurd past
-bounds_next (x ∷ ms) m (r ∷ rows) (suc i) row h e past here jit = (past.0, bounds_next ms m rows i row (omega arith) e past.1 here jit)
+-- the bounds of one more bus
+bounds_next : (all : List (List Alike)) (own : List Alike) (buses : List Bus) (streams : List Stream) (i : ℕ) (row : Bus) → i < length buses → row ≡ get_or buses i row → AreBounds all (take i buses) streams
+    → AreBoundsOf own (take row.streams (drop row.first streams)) → AreBounds (all ++ (own ∷ [])) (take (suc i) buses) streams
+bounds_next all own [] streams i row h e past here = absurd (omega arith)
+bounds_next [] own (r ∷ rows) streams zero row h e past here =
+    (let P : Bus → Type 0 = λ r. AreBoundsOf own (take r.streams (drop r.first streams)) in subst P e here, tt)
+bounds_next (x ∷ all) own (r ∷ rows) streams zero row h e past here = absurd past
+bounds_next [] own (r ∷ rows) streams (suc i) row h e past here = absurd past
+bounds_next (x ∷ all) own (r ∷ rows) streams (suc i) row h e past here = (past.0, bounds_next all own rows streams i row (omega arith) e past.1 here)
 
--- one more stream's bound
-pub bounds_more : (ms : List Jittered) (m : Jittered) (rows : List Stream) (i : ℕ) (row : Stream) → i < length rows → row ≡ get_or rows i row → AreBounds ms (take i rows) → m.minimum ≡ row.minimum → m.jitter ≡ row.jitter
-    → AreBounds (ms ++ (m ∷ [])) (take (i + 1) rows)
-bounds_more ms m rows i row h e past here jit = rw add-one (bounds_next ms m rows i row h e past here jit)
+pub bounds_more : (all : List (List Alike)) (own : List Alike) (buses : List Bus) (streams : List Stream) (i : ℕ) (row : Bus) → i < length buses → row ≡ get_or buses i row → AreBounds all (take i buses) streams
+    → AreBoundsOf own (take row.streams (drop row.first streams)) → AreBounds (all ++ (own ∷ [])) (take (i + 1) buses) streams
+bounds_more all own buses streams i row h e past here = rw add-one (bounds_next all own buses streams i row h e past here)
 
-pub bounds_length : (ms : List Jittered) (rows : List Stream) → AreBounds ms rows → length ms ≡ length rows
-bounds_length [] [] h = refl
-bounds_length [] (row ∷ rows) h = absurd h
-bounds_length (m ∷ ms) [] h = absurd h
-bounds_length (m ∷ ms) (row ∷ rows) h = omega (arith, bounds_length ms rows h.1)
+pub bounds_length : (all : List (List Alike)) (buses : List Bus) (streams : List Stream) → AreBounds all buses streams → length all ≡ length buses
+bounds_length [] [] streams h = refl
+bounds_length [] (row ∷ rows) streams h = absurd h
+bounds_length (own ∷ all) [] streams h = absurd h
+bounds_length (own ∷ all) (row ∷ rows) streams h = omega (arith, bounds_length all rows streams h.1)
 
-bounds_take : (k : ℕ) (ms : List Jittered) (rows : List Stream) → AreBounds ms rows → AreBounds (take k ms) (take k rows)
-bounds_take zero ms rows h = tt
-bounds_take (suc k) [] [] h = h
-bounds_take (suc k) [] (row ∷ rows) h = absurd h
-bounds_take (suc k) (m ∷ ms) [] h = absurd h
-bounds_take (suc k) (m ∷ ms) (row ∷ rows) h = (h.0, bounds_take k ms rows h.1)
+-- the bounds of a bus that were read
+pub bounds_read : (all : List (List Alike)) (buses : List Bus) (streams : List Stream) (b : ℕ) (own : List Alike) (row : Bus) → AreBounds all buses streams → b < length buses → own ≡ get_or all b own → row ≡ get_or buses b row
+    → AreBoundsOf own (take row.streams (drop row.first streams))
+bounds_read all [] streams b own row h there mine its = absurd (omega arith)
+bounds_read [] (r ∷ rows) streams b own row h there mine its = absurd h
+bounds_read (x ∷ all) (r ∷ rows) streams zero own row h there mine its =
+    (let P : List Alike → Type 0 = λ l. AreBoundsOf l (take row.streams (drop row.first streams)) in
+    let Q : Bus → Type 0 = λ r. AreBoundsOf x (take r.streams (drop r.first streams)) in
+    subst P (sym mine) (subst Q (sym its) h.0))
+bounds_read (x ∷ all) (r ∷ rows) streams (suc b) own row h there mine its = bounds_read all rows streams b own row h.1 (omega arith) mine its
 
-bounds_drop : (k : ℕ) (ms : List Jittered) (rows : List Stream) → AreBounds ms rows → AreBounds (drop k ms) (drop k rows)
-bounds_drop zero ms rows h = h
-bounds_drop (suc k) [] [] h = h
-bounds_drop (suc k) [] (row ∷ rows) h = absurd h
-bounds_drop (suc k) (m ∷ ms) [] h = absurd h
-bounds_drop (suc k) (m ∷ ms) (row ∷ rows) h = bounds_drop k ms rows h.1
+-- one more of so many equal numbers
+pub one_more_times : (n k c : ℕ) → k ≤ n → (n + 1 - k) * c ≡ (n - k) * c + c
+one_more_times n k c h = ap (λ i. i * c) (let e : n + 1 - k ≡ suc (n - k) = omega (arith, h) in e) ∙ omega arith
 
-abbrev pub cap_of : ℕ → Jittered → ℕ
-cap_of d m = jitter_cap m.minimum m.jitter d
+pub first_of_times : (n k c : ℕ) → k + 1 ≤ n → (n - k) * c ≡ (n - (k + 1)) * c + c
+first_of_times n k c h = ap (λ i. i * c) (let e : n - k ≡ suc (n - (k + 1)) = omega (arith, h) in e) ∙ omega arith
 
-bounds_sum : (d : ℕ) (ms : List Jittered) (rows : List Stream) → AreBounds ms rows → sum_by (cap_of d) ms ≡ sum_by (stream_cap d) rows
-bounds_sum d [] [] h = refl
-bounds_sum d [] (row ∷ rows) h = absurd h
-bounds_sum d (m ∷ ms) [] h = absurd h
-bounds_sum d (m ∷ ms) (row ∷ rows) h =
-    omega (arith, sum_by-cons (cap_of d) m ms, sum_by-cons (stream_cap d) row rows, bounds_sum d ms rows h.1, ap (λ k. jitter_cap k m.jitter d) h.0.0, ap (λ j. jitter_cap row.minimum j d) h.0.1)
+-- the bound of so many streams alike, after others
+pub run_sum : (d : ℕ) (runs : List Alike) (run : Alike) (n : ℕ) (each : Jittered) → run.sources ≡ n → run.each ≡ each → sum_by (alike_cap d) (runs ++ run ∷ []) ≡ sum_by (alike_cap d) runs + n * jittered_cap d each
+run_sum d runs run n each many same =
+    omega (arith, sum_by_push (alike_cap d) runs run, ap (λ k. k * jittered_cap d run.each) many, ap (λ (b : Jittered). n * jittered_cap d b) same)
 
--- the sum over a part of the streams
-pub part_sum : (d j k : ℕ) (ms : List Jittered) (rows : List Stream) → AreBounds ms rows → sum_by (cap_of d) (take k (drop j ms)) ≡ sum_by (stream_cap d) (take k (drop j rows))
-part_sum d j k ms rows h = bounds_sum d (take k (drop j ms)) (take k (drop j rows)) (bounds_take k (drop j ms) (drop j rows) (bounds_drop j ms rows h))
+-- the streams of a bus bring little enough
+streams_small : (d : ℕ) (rows : List Stream) → All (λ (s : Stream). (1 ≤ s.minimum) × (s.jitter ≤ 1000000000)) rows → sum_by (stream_cap d) rows ≤ length rows * (d + 1000000000)
+streams_small d [] h = omega arith
+streams_small d (row ∷ rows) h =
+    let here = All-head (λ (s : Stream). (1 ≤ s.minimum) × (s.jitter ≤ 1000000000)) row rows h in
+    omega (arith, sum_by-cons (stream_cap d) row rows, streams_small d rows (All-tail (λ (s : Stream). (1 ≤ s.minimum) × (s.jitter ≤ 1000000000)) row rows h), jitter_cap-le row.minimum row.jitter d here.0, here.1)
 
-caps_small : (d : ℕ) (ms : List Jittered) → sum_by (cap_of d) ms ≤ length ms * (d + 1000000000)
-caps_small d [] = omega arith
-caps_small d (m ∷ ms) = omega (arith, sum_by-cons (cap_of d) m ms, caps_small d ms, jitter_cap-le m.minimum m.jitter d m.positive, m.small)
-
-pub part_small : (j k : ℕ) (ms : List Jittered) (rows : List Stream) → AreBounds ms rows → length rows ≤ 1024 → sum_by (cap_of 1000000) (take k (drop j ms)) ≤ 2 ^ 40
-part_small j k ms rows h few =
-    omega (arith, caps_small 1000000 (take k (drop j ms)), length-take k (drop j ms), length-drop j ms, bounds_length ms rows h)
+pub part_small : (j k : ℕ) (rows : List Stream) → All (λ (s : Stream). (1 ≤ s.minimum) × (s.jitter ≤ 1000000000)) rows → length rows ≤ 1024 → sum_by (stream_cap 1000000) (take k (drop j rows)) ≤ 2 ^ 40
+part_small j k rows h few =
+    let P : Stream → Type 0 = λ s. (1 ≤ s.minimum) × (s.jitter ≤ 1000000000) in
+    omega (arith, streams_small 1000000 (take k (drop j rows)) (All-take P k (drop j rows) (All-drop P j rows h)), length-take k (drop j rows), length-drop j rows)
 
 -- a row that was read
 pub row_read : (t : TableRows) (b : ℕ) (row : Bus) → b < length t.buses → row ≡ get_or t.buses b row → row ≡ bus_row t b
@@ -86,13 +87,13 @@ pub output_read : (t : TableRows) (o : ℕ) (output : Output) → o < length t.o
 output_read t o output there h = get_or_read t.outputs o output there h (record { steps = 0; within = 0; gap = 0; frame = 0; entries = [] })
 
 -- the bound made of the rows is the bus's: without a wire where it is policed
-pub bound_is : (t : TableRows) (b : ℕ) (ms : List Jittered) (row : Bus) (wire : Option Wire) (d : ℕ) → AreBounds ms t.streams → row ≡ bus_row t b
+pub bound_is : (t : TableRows) (b : ℕ) (own : List Alike) (row : Bus) (wire : Option Wire) (d : ℕ) → AreBoundsOf own (take row.streams (drop row.first t.streams)) → row ≡ bus_row t b
     → ((row.police ≡ true) → wire ≡ None) → ((row.police ≡ false) → (w : Wire) × (wire ≡ Some w) × ((d : ℕ) → wire_cap w.tick w.spacing d ≡ wire_cap t.tick_us row.spacing d))
-    → capped wire d (sum_by (cap_of d) (take row.streams (drop row.first ms))) ≡ bus_cap t b d
+    → capped wire d (sum_by (alike_cap d) own) ≡ bus_cap t b d
 unfolding bus_cap
-bound_is t b ms row wire d bounds h none some =
-    let streams : sum_by (cap_of d) (take row.streams (drop row.first ms)) ≡ streams_cap t b d =
-    (let P : Bus → Type 0 = λ row. sum_by (cap_of d) (take row.streams (drop row.first ms)) ≡ streams_cap t b d in subst P (sym h) (part_sum d (bus_row t b).first (bus_row t b).streams ms t.streams bounds)) in
+bound_is t b own row wire d bounds h none some =
+    let streams : sum_by (alike_cap d) own ≡ streams_cap t b d =
+    (let P : Bus → Type 0 = λ row. sum_by (alike_cap d) own ≡ sum_by (stream_cap d) (take row.streams (drop row.first t.streams)) in subst P h (bounds d)) in
     ap (capped wire d) streams
     ∙ elim (cases_Bool row.police) [
       | inl yes' ↦
@@ -137,7 +138,7 @@ module _ (t : TableRows) (valid : AreValid t) (o : ℕ) (there : o < length t.ou
     below = λ i h. omega (arith, offset_is i (omega (arith, offsets_count)), valid.entries_in_frame o i there (omega (arith, offsets_count)));
   }
 
-same_read : (xs : List Stream) (k : ℕ) (z : Stream) → k < length xs → get_or xs k z ≡ get_or xs k (get_or xs k z)
+pub same_read : {X : Type 0} (xs : List X) (k : ℕ) (z : X) → k < length xs → get_or xs k z ≡ get_or xs k (get_or xs k z)
 same_read [] k z h = absurd (omega arith)
 same_read (x ∷ xs) zero z h = refl
 same_read (x ∷ xs) (suc k) z h = same_read xs k z (omega arith)
@@ -148,6 +149,13 @@ bounds_some t valid = λ k z h.
     let none : Stream = record { bus = 0; label = 0; sdi = None; minimum = 0; maximum = 0; jitter = 0 } in
     let P : Stream → Type 0 = λ s. (1 ≤ s.minimum) × (s.jitter ≤ 1000000000) in
     subst P (sym (get_or_read t.streams k (get_or t.streams k z) h (same_read t.streams k z h) none)) (valid.minimums k h, omega (arith, valid.jitters_small k h))
+
+-- each bus has its streams among those of the tables
+pub streams_inside : (t : TableRows) → AreValid t → All (λ (b : Bus). b.first + b.streams ≤ length t.streams) t.buses
+streams_inside t valid = λ k z h.
+    let none : Bus = record { queue = 0; police = false; spacing = 0; first = 0; streams = 0; router = 0 } in
+    let P : Bus → Type 0 = λ b. b.first + b.streams ≤ length t.streams in
+    subst P (sym (get_or_read t.buses k (get_or t.buses k z) h (same_read t.buses k z h) none)) (valid.streams_there k h)
 
 pub offsets_length : (all : List (List ℕ)) (outputs : List Output) → all ≡ frame_offsets outputs → length all ≡ length outputs
 offsets_length all outputs same = ap length same ∙ length-map outputs (λ r. map (λ e. e.offset) r.entries)

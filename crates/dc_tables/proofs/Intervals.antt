@@ -1,17 +1,13 @@
 -- Intervals in ticks.
-use Rattle.std.proofs.Common.{◌≡◌, ℕ, zero, suc, ◌+◌, ◌*◌, ◌/◌, ◌<◌, ◌≤◌, false, Option, Some, None, is_none, List, [], ◌∷◌, length, get_or, map, refl, ap, inl, inr, arith, subst}
+use Rattle.std.proofs.Common.{◌≡◌, ℕ, zero, suc, ◌+◌, ◌*◌, ◌/◌, ◌<◌, ◌≤◌, false, Option, Some, None, is_none, refl, ap, inl, inr, arith}
 use Rattle.std.specs.Option.{option_map_or}
-use Rattle.std.specs.Prelude.{option_and_then}
-use Rattle.std.specs.List.{slice_get, position}
 use Rattle.std.proofs.Math.Nat.{div-lt_iff_lt-mul, lt-div-mul-add, mul-le-mul_right}
 use Rattle.std.proofs.lemmas.Bool.{cases_lt}
 use Rattle.std.specs.Int.{div_ceil}
 use Rattle.std.proofs.lemmas.Grind.{div_ceil_times}
 use Rattle.dc_dict.specs.Ticks.{in_minimum, in_maximum, jitter_ticks, out_minimum, out_maximum}
 use Rattle.dc_parts.specs.Ticks.{output_gap, input_spacing}
-use Rattle.dc_rules.specs.Rules.{parameter_of, too_quick, no_interval}
-use Rattle.dc_parts.specs.Keys.{parameter_key, same_parameter}
-use Rattle.dc_parts.specs.declared.keys.ParameterKey.{ParameterKey}
+use Rattle.dc_rules.specs.Rules.{too_quick, no_interval}
 use Rattle.dc_dict.specs.declared.parameter.Parameter.{Parameter as ParameterPart}
 use Rattle.dc_parts.specs.declared.parts.Speed.{Speed}
 use Rattle.dc_parts.specs.declared.parts.Speed.TheVariants.{High, Low}

@@ -1,15 +1,14 @@
 -- What differs in tables that break no rule: names, streams of a bus, sources of a label, labels of an output.
-use Rattle.std.proofs.Common.{◌≡◌, ℕ, zero, suc, ◌<◌, ◌≤◌, inl, inr, Bool, true, false, ◌||◌, ◌&&◌, ◌==◌, Option, Some, None, is_none, List, [], ◌∷◌, length, get_or, map, refl, sym, ap, ◌∙◌, arith, subst}
-use Rattle.std.specs.Prelude.{is_some, unwrap_or}
-use Rattle.std.specs.List.{list_any}
+use Rattle.std.proofs.Common.{◌≡◌, ℕ, ◌<◌, inl, inr, Bool, true, false, ◌&&◌, ◌==◌, Option, Some, None, is_none, List, [], ◌∷◌, length, get_or, map, refl, sym, ap, ◌∙◌, arith}
+use Rattle.std.specs.Prelude.{is_some}
 use Rattle.std.specs.Str.{bytes_eq}
 use Rattle.std.proofs.lemmas.List.{length-map, get_or-map}
 use Rattle.std.proofs.lemmas.Bool.{cases_lt}
 use Rattle.std.proofs.lemmas.Bool.Decides.{nat_tests}
 use Rattle.std.proofs.lemmas.Slice.Eq.{bytes_eq-Decides}
 use Rattle.dc_parts.specs.Document.{Document}
-use Rattle.dc_rules.specs.Obeys.{NamesObey, ReferencesObey, SchedulesObey}
-use Rattle.dc_rules.specs.Rules.{doubled, doubled_name, has_unknown, bus_names, stream_names, overlap, sdis_meet, same_label, label_id}
+use Rattle.dc_rules.specs.Obeys.{ReferencesObey, SchedulesObey}
+use Rattle.dc_rules.specs.Rules.{doubled, doubled_name, has_unknown, stream_names, overlap, sdis_meet, same_label, label_id}
 use Rattle.dc_parts.specs.Names.{number_of}
 use Rattle.dc_rules.specs.declared.keys.LabelKey.{LabelKey}
 use Rattle.dc_parts.specs.declared.parts.StreamPart.{StreamPart}

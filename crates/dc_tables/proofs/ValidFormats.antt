@@ -1,6 +1,6 @@
 -- The sources of a label have its format, in tables that break no rule.
-use Rattle.std.proofs.Common.{◌≡◌, ℕ, ◌<◌, ◌≤◌, Bool, true, false, not, ◌==◌, Option, Some, None, is_none, List, [], length, get_or, map, refl, sym, ap, ◌∙◌, arith, subst}
-use Rattle.std.specs.Prelude.{option_map, option_and_then, unwrap_or}
+use Rattle.std.proofs.Common.{◌≡◌, ℕ, ◌<◌, true, false, not, ◌==◌, Option, Some, None, is_none, List, [], length, get_or, map, refl, sym, ap, ◌∙◌, arith}
+use Rattle.std.specs.Prelude.{option_map, option_and_then}
 use Rattle.std.specs.List.{slice_get}
 use Rattle.std.specs.Option.{option_map_or}
 use Rattle.std.proofs.lemmas.List.{length-map, get_or-map}
@@ -12,13 +12,12 @@ use Rattle.dc_rules.specs.Obeys.{ReferencesObey, SchedulesObey}
 use Rattle.dc_rules.specs.Rules.{parameter_of, has_unknown, stream_names, format_number, same_format, source_parameter, differs}
 use Rattle.dc_parts.specs.Keys.{stream_key, label_key}
 use Rattle.dc_parts.specs.Names.{number_of}
-use Rattle.dc_parts.specs.declared.keys.ParameterKey.{ParameterKey}
 use Rattle.dc_dict.specs.declared.parameter.Parameter.{Parameter as ParameterPart}
 use Rattle.dc_parts.specs.declared.parts.StreamPart.{StreamPart}
 use Rattle.dc_parts.specs.declared.parts.LabelPart.{LabelPart}
 use Rattle.dc_rules.specs.lemmas.Picks.{each_fails, any_fails, not_false}
 use Rattle.dc_tables.specs.Keyed.{stream_parameter, label_parameter}
-use Rattle.dc_tables.specs.RowsOf.{number_in, stream_row_of, label_row_of, AreRows}
+use Rattle.dc_tables.specs.RowsOf.{number_in, AreRows}
 use Rattle.dc_tables.specs.TableKeys.{TableKeys}
 use Rattle.dc_tables.specs.TableRows.{TableRows, stream_row, label_row}
 use Rattle.dc_tables.specs.declared.rows.Stream.{Stream}

@@ -1,7 +1,7 @@
 -- Each bus of tables that break no rule is visited by its router.
-use Rattle.std.proofs.Common.{◌≡◌, ℕ, zero, suc, ◌%◌, ◌<◌, ◌≤◌, inl, inr, Bool, true, false, ◌||◌, not, ◌==◌, Option, Some, None, is_none, List, [], ◌∷◌, length, get_or, map, refl, sym, ap, ◌∙◌, arith, subst}
+use Rattle.std.proofs.Common.{◌≡◌, ℕ, suc, ◌%◌, ◌<◌, inl, inr, Bool, true, false, ◌||◌, Option, Some, None, is_none, List, [], ◌∷◌, length, get_or, map, refl, sym, ap, ◌∙◌, arith}
 use Rattle.std.specs.Prelude.{unwrap_or}
-use Rattle.std.specs.List.{count_by, position, list_any}
+use Rattle.std.specs.List.{position, list_any}
 use Rattle.std.specs.Str.{bytes_eq}
 use Rattle.std.proofs.Math.Nat.{mod-eq_of_lt}
 use Rattle.std.proofs.lemmas.List.{length-map, get_or-map}
@@ -17,7 +17,7 @@ use Rattle.dc_tables.specs.RowsOf.{number_in, router_row_of, AreRows}
 use Rattle.dc_tables.specs.TableRows.{TableRows, bus_row, router_row, visited}
 use Rattle.dc_tables.specs.declared.rows.Router.{Router}
 use Rattle.dc_tables.proofs.ValidApart.{item, names_once, name_is, number_below}
-use Rattle.dc_tables.proofs.ValidBuses.{bus_count, each_bus}
+use Rattle.dc_tables.proofs.ValidBuses.{each_bus}
 use Rattle.dc_tables.proofs.ValidRouters.{served}
 
 or_some : (a b : Bool) → (a || b) ≡ true → a ≡ false → b ≡ true

@@ -1,6 +1,6 @@
 -- The tables as rows. Streams and labels are numbered through the whole document; a row names its owner by number.
 -- Ticks are rounded once, when the tables are built.
-use Rattle.std.specs.Prelude.{◌≡◌, ℕ, Bool, false, cond, ◌+◌, ◌-◌, ◌*◌, ◌/◌, ◌%◌, ◌<◌, ◌≤◌, min, List, [], length, take, drop, map, slice_index, slice_index_or, None}
+use Rattle.std.specs.Prelude.{◌≡◌, ℕ, Bool, false, cond, ◌+◌, ◌*◌, ◌/◌, ◌%◌, ◌<◌, ◌≤◌, min, List, [], length, take, drop, map, slice_index, slice_index_or, None}
 use Rattle.std.specs.List.{sum_by}
 use Rattle.dc_bound.specs.Window.{wire_cap}
 use Rattle.dc_bound.specs.Early.{jitter_cap}

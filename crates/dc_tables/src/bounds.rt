@@ -1,11 +1,11 @@
-//! What tables keep beside their rows: the bounds of the streams, and the offsets of the outputs' entries.
-ghost use Rattle.std.specs.Prelude.{All, ◌≡◌, ◌+◌, ◌≤◌, ℕ, Some, None, true, false, map, take, drop, length, IfOk};
+//! What tables keep beside their rows: the wires of buses, and the offsets of the outputs' entries.
+ghost use Rattle.std.specs.Prelude.{◌≡◌, ◌+◌, ◌≤◌, ℕ, Some, None, true, false, map, take, drop, length, IfOk};
 ghost use Rattle.dc_bound.specs.Window.{wire_cap};
 ghost use Rattle.dc_bound.specs.declared.arrival.Wire.{Wire as SpecWire};
-ghost use Rattle.dc_tables.specs.Bounds.{AreBounds, frame_offsets};
+ghost use Rattle.dc_tables.specs.Bounds.{frame_offsets};
 
-use crate::rows::{Bus, Entry, Output, Stream};
-use dc_bound::{Jittered, Wire};
+use crate::rows::{Bus, Entry, Output};
+use dc_bound::Wire;
 use std::alloc::{AllocError, Global};
 use std::marker::Model;
 
@@ -46,19 +46,6 @@ impl FrameOffsets {
     {
         self.items.as_slice()
     }
-}
-
-/// The bound of each stream.
-#[tactic(auto, using(crate::proofs::BoundsMade::bounds_more))]
-pub(crate) fn stream_bounds(alloc: Global, streams: &[Stream]) -> Result<Vec<Jittered>, AllocError>
-    requires { All (λ s. (1 ≤ s.minimum) × (s.jitter ≤ 1000000000)) streams.now }
-    ensures { IfOk result (λ v. AreBounds v.items streams.now) }
-{
-    let mut bounds = Vec::new(alloc);
-    for stream in streams {
-        bounds.push(Jittered::new(stream.minimum, stream.jitter))?;
-    }
-    Ok(bounds)
 }
 
 /// The wire of a bus that is not policed.

@@ -1,6 +1,7 @@
 //! Valid tables of an ARINC 429 concentrator: buses with their streams, routers, and outputs with their labels.
 #![tactic(auto)]
 
+mod alike;
 mod assemble;
 mod bounds;
 mod made;

@@ -1,16 +1,16 @@
 //! The rows of a document's lists.
-ghost use Rattle.std.specs.Prelude.{All, ◌≡◌, ◌≤◌, ◌<◌, map, length, IfOk};
+ghost use Rattle.std.specs.Prelude.{All, ◌≡◌, ◌+◌, ◌≤◌, ◌<◌, map, length, IfOk};
 ghost use Rattle.dc_tables.specs.RowsOf.{bus_rows_from, stream_row_of, router_row_of, label_row_of, AreOutputs, AreRows, keys_of, written_of};
 ghost use Rattle.dc_tables.specs.Bounds.{AreBounds, frame_offsets, table_rows};
 ghost use Rattle.dc_rules.specs.Rules.{entries_from, bus_names, stream_names};
 ghost use Rattle.dc_parts.specs.Document.{stream_owners};
 ghost use Rattle.dc_rules.specs.Passed.{ArePassed};
 
+use crate::alike::{BusBounds, bus_bounds};
 use crate::assemble::{bus_rows, label_rows, output_rows, router_rows, stream_rows};
-use crate::bounds::{FrameOffsets, output_offsets, stream_bounds};
+use crate::bounds::{FrameOffsets, output_offsets};
 use crate::rows::{Bus, Output, OutputLabel, Router, Stream};
 use crate::written::Written;
-use dc_bound::Jittered;
 use dc_parts::Parts;
 use dc_rules::{NameIndex, Parameters, Passed, PlacedEntry, stream_owners};
 use std::alloc::{AllocError, Global};
@@ -28,7 +28,7 @@ pub(crate) struct Rows {
 /// What tables keep beside their rows.
 #[derive(Drop)]
 pub(crate) struct Kept {
-    pub bounds: Vec<Jittered>,
+    pub bounds: Vec<BusBounds>,
     pub offsets: Vec<FrameOffsets>,
     pub written: Written,
 }
@@ -115,12 +115,14 @@ pub(crate) fn make_rows(alloc: Global, parts: &Parts, passed: &Passed) -> Result
 
 /// What is kept beside these rows.
 pub(crate) fn make_kept(alloc: Global, parts: &Parts, rows: &Rows) -> Result<Kept, AllocError>
-    requires { All (λ s. (1 ≤ s.minimum) × (s.jitter ≤ 1000000000)) rows.now.streams.items }
-    ensures bounds { IfOk result (λ k. AreBounds k.bounds.items rows.now.streams.items) }
+    requires few { length rows.now.streams.items ≤ 1024 }
+    requires bounded { All (λ s. (1 ≤ s.minimum) × (s.jitter ≤ 1000000000)) rows.now.streams.items }
+    requires there { All (λ b. b.first + b.streams ≤ length rows.now.streams.items) rows.now.buses.items }
+    ensures bounds { IfOk result (λ k. AreBounds k.bounds.items rows.now.buses.items rows.now.streams.items) }
     ensures offsets { IfOk result (λ k. k.offsets.items ≡ frame_offsets rows.now.outputs.items) }
     ensures written { IfOk result (λ k. k.written ≡ written_of parts.now) }
 {
-    let bounds = stream_bounds(alloc, &rows.streams)?;
+    let bounds = bus_bounds(alloc, &rows.buses, &rows.streams)?;
     let offsets = output_offsets(alloc, &rows.outputs)?;
     let written = Written::of(alloc, parts)?;
     Ok(Kept {

@@ -2,11 +2,12 @@ ghost use Rattle.std.specs.Prelude.{◌≡◌, ◌+◌, ◌%◌, ◌<◌, length
 ghost use Rattle.dc_tables.specs.TableRows.{visited, bus_row, router_row, bus_streams};
 ghost use Rattle.dc_tables.specs.Declares.{declares, stream_of, fits};
 
+use crate::alike::BusBounds;
 use crate::bounds::{FrameOffsets, part, wire_of};
 use crate::made::{make_kept, make_rows};
 use crate::rows::{Bus, Output, OutputLabel, Router, Stream};
 use crate::written::Written;
-use dc_bound::{ArrivalBound, Capped, Cyclic, Jittered, Paced, ServiceBound, SumOf, Visits};
+use dc_bound::{Alike, ArrivalBound, Capped, Cyclic, Paced, ServiceBound, SumOf, Visits};
 use dc_dict::{Equipment, Parameter};
 use dc_parts::{BuildError, Name, Parts, Speed};
 use dc_rules::{NameIndex, Parameters, Passed};
@@ -23,7 +24,7 @@ pub struct Tables {
     routers: Vec<Router>,
     outputs: Vec<Output>,
     labels: Vec<OutputLabel>,
-    bounds: Vec<Jittered>,
+    bounds: Vec<BusBounds>,
     offsets: Vec<FrameOffsets>,
     bus_names: NameIndex,
     stream_names: NameIndex,
@@ -44,7 +45,7 @@ impl Model for Tables {
 
     ghost view = { λ t. record { tick_us = t.tick_us; buses = t.buses.items; streams = t.streams.items; routers = t.routers.items; outputs = t.outputs.items; labels = t.labels.items; keys = record { buses = t.bus_names; streams = t.stream_names; routers = t.router_names; outputs = t.output_names; labels = t.label_names; parameters = t.parameters; written = t.written } } };
 
-    ghost invariant = { λ t. AreBounds t.bounds.items t.streams.items × (t.offsets.items ≡ frame_offsets t.outputs.items) × AreSound (record { tick_us = t.tick_us; buses = t.buses.items; streams = t.streams.items; routers = t.routers.items; outputs = t.outputs.items; labels = t.labels.items; keys = record { buses = t.bus_names; streams = t.stream_names; routers = t.router_names; outputs = t.output_names; labels = t.label_names; parameters = t.parameters; written = t.written } }) };
+    ghost invariant = { λ t. AreBounds t.bounds.items t.buses.items t.streams.items × (t.offsets.items ≡ frame_offsets t.outputs.items) × AreSound (record { tick_us = t.tick_us; buses = t.buses.items; streams = t.streams.items; routers = t.routers.items; outputs = t.outputs.items; labels = t.labels.items; keys = record { buses = t.bus_names; streams = t.stream_names; routers = t.router_names; outputs = t.output_names; labels = t.label_names; parameters = t.parameters; written = t.written } }) };
 }
 
 impl Tables {
@@ -359,14 +360,14 @@ impl Tables {
         self.streams[stream].bus
     }
 
-    /// What a bus may bring: the lesser of its streams' and its wire's, or its streams' alone where it is policed.
-    pub fn bus_bound(&self, bus: usize) -> Capped<SumOf<'_, Jittered>>
+    /// What a bus may bring: the lesser of its streams' and its wire's, or its streams' alone where it is policed. Streams
+    /// of one minimum and one jitter are one term of the sum.
+    pub fn bus_bound(&self, bus: usize) -> Capped<SumOf<'_, Alike>>
         requires { bus < length self.now.buses }
-        ensures { (d : ℕ) → ⟦<Capped<SumOf<'static, Jittered>> as ArrivalBound>⟧.cap result d ≡ bus_cap self.now bus d }
+        ensures { (d : ℕ) → ⟦<Capped<SumOf<'static, Alike>> as ArrivalBound>⟧.cap result d ≡ bus_cap self.now bus d }
     {
         let row = &self.buses[bus];
-        let bounds = part(&self.bounds, row.first, row.streams);
-        let streams = SumOf::new(row.first, bounds);
+        let streams = SumOf::new(0, self.bounds[bus].as_slice());
         Capped::new(streams, wire_of(self.tick_us, row))
     }
 

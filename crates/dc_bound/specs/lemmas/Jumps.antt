@@ -9,7 +9,7 @@ use Rattle.std.proofs.lemmas.Bool.{cases_lt}
 use Rattle.dc_bound.specs.Window.{FlatTo, IsNextJump, wire_cap}
 use Rattle.dc_bound.specs.lemmas.Sums.{sum_monotone}
 use Rattle.dc_bound.specs.lemmas.Counts.{ceil_from, ceil_mono, wire_mono}
-use Rattle.dc_bound.specs.Window.{earlier_jump, later_jump}
+use Rattle.dc_bound.specs.Window.{earlier_jump}
 
 -- ---- a function that never falls
 

@@ -4,7 +4,6 @@ use Rattle.std.proofs.lemmas.Bool.{cases_lt}
 use Rattle.std.proofs.lemmas.List.{take-append-le, take_all, length_push, take-take, length-take-le}
 use Rattle.dc_bound.specs.Places.{least, served, served_in, or_else, when, least_where, first_place, last_below, count_below}
 use Rattle.std.specs.Prelude.{cond, option_map}
-use Rattle.dc_bound.specs.lemmas.FirstPlaces.{snoc_induction, each_from-push, each_place-push, least_where-none, first_place-none}
 
 pub least-same : (f g : ℕ → ℕ) (n : ℕ) → ((j : ℕ) → j ≤ n → f j ≡ g j) → least f n ≡ least g n
 least-same f g zero same = same 0 (omega arith)

@@ -1,10 +1,10 @@
 use Rattle.dc_tables.specs.RowsOf.{AreRows}
 use Rattle.dc_tables.proofs.Valid.{valid_rows, keyed_rows, keys_same}
-use Rattle.std.proofs.Common.{◌≤◌, arith}
+use Rattle.std.proofs.Common.{arith}
 use Rattle.dc_tables.specs.RowsOf.{keys_of}
 use Rattle.dc_rules.specs.lemmas.Picks.{not_outside}
 use Rattle.dc_tables.specs.Bounds.{table_rows}
-use Rattle.dc_tables.proofs.BoundsMade.{bounds_some}
+use Rattle.dc_tables.proofs.BoundsMade.{bounds_some, streams_inside}
 use Rattle.dc_tables.proofs.tables.Tables.assemble.Goals as goal
 
 pub returns : goal.returns
@@ -21,11 +21,23 @@ returns c =
       keys = keys_same c.requires.passed.buses c.requires.passed.streams c.requires.passed.routers c.requires.passed.outputs c.requires.passed.labels c.requires.passed.parameters c.in_ok-kept.ensures.written;
     }
 
--- the streams have their intervals and jitters, since the rows without their bounds are valid
-pub make_kept-requires : goal.make_kept-requires
-make_kept-requires c =
+-- the rows without their bounds are valid
+pub make_kept-requires-clause-few : goal.make_kept-requires-clause-few
+make_kept-requires-clause-few c =
+    let d = c.args.parts.now in
+    (valid_rows d (table_rows d.tick_us (keys_of d) c.in_ok-rows.rows) c.in_order.ensures c.in_ok-rows.ensures.rows c.in_ok-rows.ensures.fit c.requires.obeys).few_streams
+
+-- so the streams have their intervals and jitters
+pub make_kept-requires-clause-bounded : goal.make_kept-requires-clause-bounded
+make_kept-requires-clause-bounded c =
     let d = c.args.parts.now in
     bounds_some (table_rows d.tick_us (keys_of d) c.in_ok-rows.rows) (valid_rows d (table_rows d.tick_us (keys_of d) c.in_ok-rows.rows) c.in_order.ensures c.in_ok-rows.ensures.rows c.in_ok-rows.ensures.fit c.requires.obeys)
+
+-- and each bus has its own among them
+pub make_kept-requires-clause-there : goal.make_kept-requires-clause-there
+make_kept-requires-clause-there c =
+    let d = c.args.parts.now in
+    streams_inside (table_rows d.tick_us (keys_of d) c.in_ok-rows.rows) (valid_rows d (table_rows d.tick_us (keys_of d) c.in_ok-rows.rows) c.in_order.ensures c.in_ok-rows.ensures.rows c.in_ok-rows.ensures.fit c.requires.obeys)
 
 pub invariant_of-result : goal.invariant_of-result
 invariant_of-result c =
