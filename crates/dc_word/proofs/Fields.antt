@@ -5,20 +5,20 @@ use Rattle.dc_word.specs.Word.{reversed, sdi_of, data_of, ssm_of, ones_in, IsOdd
 use Rattle.dc_word.proofs.Parity.{odd_by_parity, only_parity}
 
 -- the reversal of eight digits, as std has it
-pub reverse_bits-reversed : (n : ℕ) → n < 256 → reverse_bits w8 n ≡ reversed n
+pub reverse_bits_reversed : (n : ℕ) → n < 256 → reverse_bits w8 n ≡ reversed n
 unfolding reverse_bits_onto reversed
-reverse_bits-reversed n fits = omega arith
+reverse_bits_reversed n fits = omega arith
 
 pub reversed-fits : (n : ℕ) → reversed n < 256
 unfolding reversed
 reversed-fits n = omega arith
 
-reversed-reverse_bits : (n : ℕ) → n < 256 → reversed (reverse_bits w8 n) ≡ n
+reversed_reverse_bits : (n : ℕ) → n < 256 → reversed (reverse_bits w8 n) ≡ n
 unfolding reverse_bits_onto reversed
-reversed-reverse_bits n fits = omega arith
+reversed_reverse_bits n fits = omega arith
 
 pub reversed-reversed : (n : ℕ) → n < 256 → reversed (reversed n) ≡ n
-reversed-reversed n fits = ap reversed (sym (reverse_bits-reversed n fits)) ∙ reversed-reverse_bits n fits
+reversed-reversed n fits = ap reversed (sym (reverse_bits_reversed n fits)) ∙ reversed_reverse_bits n fits
 
 -- only the lowest eight digits are read
 pub reversed-low : (low rest : ℕ) → reversed (low + rest * 256) ≡ reversed low

@@ -1,6 +1,6 @@
 ghost use Rattle.std.specs.Prelude.{◌≡◌, ℕ, ◌<◌, ◌^◌, ◌↔◌, IsTrue};
 ghost use Rattle.dc_word.specs.Format.{status_of, is_usable};
-ghost use Rattle.dc_word.specs.Word.{label_of, sdi_of, data_of, ssm_of, IsOddParity, is_odd, bnr_of};
+ghost use Rattle.dc_word.specs.Word.{reversed, label_of, sdi_of, data_of, ssm_of, IsOddParity, is_odd, bnr_of};
 ghost use Rattle.dc_word.specs.Word.{composed_word, copied_word, fallback_word, IsOneOddWord};
 ghost use Rattle.dc_word.specs.Bcd.{bcd_of, number_of};
 
@@ -57,7 +57,7 @@ impl Word {
     pub fn label_number(self) -> u8
         ensures { result ≡ label_of self }
     {
-        ((self.0 % 256) as u8).reverse_bits()
+        reversed_bits((self.0 % 256) as u8)
     }
 
     /// Bit 9 and twice bit 10, 0 to 3.
@@ -146,7 +146,7 @@ impl Word {
         ensures value { result ≡ composed_word label sdi bits ssm }
         ensures one { IsOneOddWord result label sdi bits ssm }
     {
-        let body = u32::from(label.number().reverse_bits())
+        let body = u32::from(reversed_bits(label.number()))
             + u32::from(sdi.number()) * 256
             + bits * 1024
             + ssm * 536_870_912;
@@ -171,6 +171,14 @@ impl Word {
     {
         Word::compose(label, sdi, 0, 1)
     }
+}
+
+// The bits of a label in the other order: a word sends the label's first bit last.
+#[tactic(auto, using(crate::proofs::Fields::reverse_bits_reversed))]
+fn reversed_bits(bits: u8) -> u8
+    ensures { result ≡ reversed bits }
+{
+    bits.reverse_bits()
 }
 
 #[cfg(test)]

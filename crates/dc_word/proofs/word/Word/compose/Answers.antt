@@ -1,8 +1,7 @@
-use Rattle.std.proofs.Common.{◌≡◌, ℕ, ◌+◌, ◌-◌, ◌*◌, ◌%◌, ◌^◌, ◌<◌, ap, sym, subst, ◌∙◌, arith, w8}
-use Rattle.std.specs.Int.{reverse_bits}
+use Rattle.std.proofs.Common.{◌≡◌, ℕ, ◌+◌, ◌-◌, ◌*◌, ◌%◌, ◌^◌, ◌<◌, ap, sym, subst, ◌∙◌, arith}
 use Rattle.dc_word.specs.Word.{reversed, body_of, composed_word, ones_in, IsOneOddWord}
 use Rattle.dc_word.proofs.Parity.{ones_in-ones}
-use Rattle.dc_word.proofs.Fields.{reverse_bits-reversed, body_of-fits, composed_word-one}
+use Rattle.dc_word.proofs.Fields.{body_of-fits, composed_word-one}
 use Rattle.dc_word.proofs.word.Word.compose.Goals as goal
 use lib.Count.{ones}
 
@@ -21,8 +20,7 @@ composed body label sdi bits ssm body_is fits =
 
 pub returns-clause-value : goal.returns-clause-value
 returns-clause-value c =
-    let label_fits : c.args.label < 256 = c.number.ensures.within.1 in
-    let low = c.from.ensures ∙ c.reverse_bits.ensures ∙ ap (reverse_bits w8) c.number.ensures.value ∙ reverse_bits-reversed c.args.label label_fits in
+    let low = c.from.ensures ∙ c.reversed_bits.ensures ∙ ap reversed c.number.ensures.value in
     let side = c.from-2.ensures ∙ c.number-2.ensures.value in
     let body = body_is c.from.result c.from-2.result c.args.label c.args.sdi c.args.bits c.args.ssm low side in
     let small = body_of-fits c.args.label c.args.sdi c.args.bits c.args.ssm c.number-2.ensures.within c.requires.bits c.requires.ssm in
