@@ -31,7 +31,7 @@ choice t x cs = head (filter (λ c. is_usable (label_row t x).format c.1) cs ++ 
 unfoldable pub chosen_source : TableRows → ℕ → List Event → Option (ℕ × ℕ)
 chosen_source t x run = choice t x (flat_map (fresh t x run) (label_row t x).sources)
 
--- the label's fallback: no computed data (2.1.5)
+-- the label's fallback: no computed data (ARINC Specification 429 Part 1, 2.1.5)
 abbrev pub fallback_for : TableRows → ℕ → ℕ
 fallback_for t x = fallback_word (label_row t x).label (label_row t x).sdi
 

@@ -1,4 +1,4 @@
--- What the sign/status matrix says (2.1.5).
+-- What the sign/status matrix says (ARINC Specification 429 Part 1, 2.1.5).
 use Rattle.std.specs.Prelude.{ℕ, Bool, ◌==◌, ◌||◌, if◌then◌else◌}
 use Rattle.dc_word.specs.Word.{ssm_of}
 use Rattle.dc_word.specs.declared.format.Format.{Format}

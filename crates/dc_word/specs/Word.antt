@@ -1,4 +1,4 @@
--- The fields of a word (ARINC 429 Part 1, 2.1). A word is a number of 32 bits, numbered 1 to 32: bit n has the value 2 ^ (n - 1).
+-- The fields of a word (ARINC Specification 429 Part 1, 2.1). A word is a number of 32 bits, numbered 1 to 32: bit n has the value 2 ^ (n - 1).
 -- Labels, SDIs, data and SSMs are numbers too; a label is the number that its three octal digits write.
 use Rattle.std.specs.Prelude.{◌≡◌, ℕ, zero, suc, ◌+◌, ◌-◌, ◌*◌, ◌/◌, ◌%◌, ◌^◌, ◌<◌, Bool, ◌==◌, nat_lt, if◌then◌else◌, ℤ, pos, negsuc}
 
@@ -8,11 +8,11 @@ reversed n =
     128 * (n % 2) + 64 * (n / 2 % 2) + 32 * (n / 4 % 2) + 16 * (n / 8 % 2)
     + 8 * (n / 16 % 2) + 4 * (n / 32 % 2) + 2 * (n / 64 % 2) + n / 128 % 2
 
--- the label: bits 1 to 8, the most significant in bit 1 (2.1.3)
+-- the label: bits 1 to 8, the most significant in bit 1 (ARINC Specification 429 Part 1, 2.1.3)
 abbrev pub label_of : ℕ → ℕ
 label_of w = reversed w
 
--- the SDI: bits 9 and 10 (2.1.4)
+-- the SDI: bits 9 and 10 (ARINC Specification 429 Part 1, 2.1.4)
 abbrev pub sdi_of : ℕ → ℕ
 sdi_of w = w / 2 ^ 8 % 2 ^ 2
 
@@ -20,7 +20,7 @@ sdi_of w = w / 2 ^ 8 % 2 ^ 2
 abbrev pub data_of : ℕ → ℕ
 data_of w = w / 2 ^ 10 % 2 ^ 19
 
--- the SSM: bits 30 and 31 (2.1.5)
+-- the SSM: bits 30 and 31 (ARINC Specification 429 Part 1, 2.1.5)
 abbrev pub ssm_of : ℕ → ℕ
 ssm_of w = w / 2 ^ 29 % 2 ^ 2
 
@@ -29,7 +29,7 @@ unfoldable pub ones_in : ℕ → ℕ → ℕ
 ones_in zero w = 0
 ones_in (suc n) w = w % 2 + ones_in n (w / 2)
 
--- whether the number of ones in all 32 bits is odd (2.3.4)
+-- whether the number of ones in all 32 bits is odd (ARINC Specification 429 Part 1, 2.3.4)
 unfoldable pub is_odd : ℕ → Bool
 is_odd w = ones_in 32 w % 2 == 1
 
