@@ -1,6 +1,6 @@
-// The same search in plain Rust, with nothing proved: 64 buses of 16 streams of minimum 10 ticks on a wire of 350
-// microseconds a word, two steps a tick, each window searched at 1 and at the jumps of the arrival bound.
-// usage: peer WINDOW BACKLOG DELAY
+// The same search in plain Rust, with nothing proved: 64 buses of 16 streams, each of minimum 10 ticks or
+// of 10 to 25, on a wire of 350 microseconds a word, two steps a tick, each window searched at 1 and at the jumps of the arrival bound.
+// usage: peer WINDOW BACKLOG DELAY [different]
 const TICK_US: u64 = 1000;
 const SPACING_US: u64 = 350;
 const LAST: u64 = 1_000_000;
@@ -54,11 +54,14 @@ impl Bus {
 }
 
 fn main() {
-    let numbers: Vec<u64> = std::env::args().skip(1).map(|n| n.parse().unwrap()).collect();
-    let (window, backlog, delay) = (numbers[0], numbers[1], numbers[2]);
+    let words: Vec<String> = std::env::args().skip(1).collect();
+    let number = |n: usize| -> u64 { words[n].parse().unwrap() };
+    let (window, backlog, delay) = (number(0), number(1), number(2));
+    let minimums: Vec<u64> = if words.len() > 3 { (10..26).collect() } else { vec![10; 16] };
     let mut accepted = 0;
     for _ in 0..64 {
-        let bus = Bus { minimums: vec![10; 16], steps: 2, within: 1 };
+        // what a program that reads its tables cannot know
+        let bus = std::hint::black_box(Bus { minimums: minimums.clone(), steps: 2, within: 1 });
         let closes = bus.at_most(window) <= bus.at_least(window - 1);
         let late = bus.first(window, |w, most| most > bus.at_least(w.saturating_sub(2)) + backlog);
         let delayed = bus.first(window, |w, most| most > bus.at_least(w - 1 + delay));

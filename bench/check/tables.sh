@@ -1,7 +1,8 @@
 #!/bin/sh
-# Prints the largest tables by streams: 64 buses of 16 streams each, a router for each, one output; or, with the word
-# `certificate`, a certificate for them whose inputs have the window that is given (100000 if none).
-# usage: bench/check/tables.sh [certificate [WINDOW]]
+# Prints the largest tables by streams: 64 buses of 16 streams each, a router for each, one output; with the word
+# `different` no two streams of a bus have the same minimum; or, with the word `certificate`, a certificate for either,
+# whose inputs have the window that is given (100000 if none).
+# usage: bench/check/tables.sh [different | certificate [WINDOW]]
 set -eu
 if [ "${1:-}" = certificate ]; then
     awk -v window="${2:-100000}" 'BEGIN {
@@ -11,11 +12,13 @@ if [ "${1:-}" = certificate ]; then
     }'
     exit
 fi
-awk 'BEGIN {
+awk -v different="${1:-}" 'BEGIN {
     count = split("201 202 203 204 205 206 207 210 211 212 213 214 215 216 217 220", labels, " ")
     print "version = 1\ntick_us = 1000"
-    for (i = 1; i <= count; i++)
-        printf "[[parameter]]\nlabel = \"%s\"\nequipment = \"001\"\nformat = \"bnr\"\nmin_us = 10000\nmax_us = 20000\n", labels[i]
+    for (i = 1; i <= count; i++) {
+        minimum = different == "" ? 10 : 9 + i
+        printf "[[parameter]]\nlabel = \"%s\"\nequipment = \"001\"\nformat = \"bnr\"\nmin_us = %d000\nmax_us = %d000\n", labels[i], minimum, minimum < 20 ? 20 : minimum
+    }
     for (b = 0; b < 64; b++) {
         printf "[[bus]]\nname = \"B%d\"\nspeed = \"high\"\nqueue = 16\n", b
         for (i = 1; i <= count; i++)
