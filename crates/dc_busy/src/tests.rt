@@ -234,11 +234,12 @@ fn long_search_goes_by_jumps_alone(rt: HostRuntime) {
         backlog_fails(&counted, &Paced::new(2, 1), 100_000, 14),
         None
     );
+    assert_eq!(rt; delay_fails(&counted, &Paced::new(2, 1), 100_000, 6), None);
     assert_eq!(rt;
         first_failures(&counted, &Paced::new(2, 1), 100_000, 14, 6),
         (None, None)
     );
-    assert!(rt; counted.calls.get() <= 20_010);
+    assert!(rt; counted.calls.get() <= 30_015);
 }
 
 #[test]

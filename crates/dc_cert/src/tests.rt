@@ -16,11 +16,12 @@ fn listing(alloc: Global, inputs: &str, outputs: &str, labels: &str) -> Result<S
     )
 }
 
-// The fault of a text.
-fn fault_of(alloc: Global, text: &[u8]) -> Option<Fault> {
+// The fault of a text; want of memory is none.
+fn fault_of(alloc: Global, text: &[u8]) -> Result<Option<Fault>, CertFault> {
     match read_cert(alloc, text) {
-        Ok(_) | Err(CertFault::Memory) => None,
-        Err(CertFault::Unreadable(fault)) => Some(fault),
+        Ok(_) => Ok(None),
+        Err(CertFault::Unreadable(fault)) => Ok(Some(fault)),
+        Err(CertFault::Memory) => Err(CertFault::Memory),
     }
 }
 
@@ -93,16 +94,16 @@ fn tells_the_first_fault_of_the_top(rt: HostRuntime) -> Result<(), Fail> {
             CertRule::WrongKind,
         ),
     ] {
-        let fault = fault_of(rt.alloc(), text.as_bytes());
+        let fault = fault_of(rt.alloc(), text.as_bytes())?;
         assert_eq!(rt; fault, Some(Fault { rule, place: top }), "{text}");
     }
     Ok(())
 }
 
 // What is reported of a text with one input, and a fault in each later list.
-fn input_fault(alloc: Global, input: &str) -> Result<Option<Fault>, AllocError> {
+fn input_fault(alloc: Global, input: &str) -> Result<Option<Fault>, Fail> {
     let text = listing(alloc, input, "0", "0")?;
-    Ok(fault_of(alloc, text.as_str().as_bytes()))
+    Ok(fault_of(alloc, text.as_str().as_bytes())?)
 }
 
 #[test]
@@ -193,7 +194,7 @@ fn tells_the_first_fault_of_an_output_or_a_label(rt: HostRuntime) -> Result<(), 
         ),
     ] {
         let text = listing(alloc, "", output, "0")?;
-        let fault = fault_of(alloc, text.as_str().as_bytes());
+        let fault = fault_of(alloc, text.as_str().as_bytes())?;
         assert_eq!(rt;
             fault,
             Some(Fault {
@@ -215,7 +216,7 @@ fn tells_the_first_fault_of_an_output_or_a_label(rt: HostRuntime) -> Result<(), 
         ("{\"label\":\"x\",\"age\":null}", CertRule::WrongKind),
     ] {
         let text = listing(alloc, "", "", label)?;
-        let fault = fault_of(alloc, text.as_str().as_bytes());
+        let fault = fault_of(alloc, text.as_str().as_bytes())?;
         assert_eq!(rt;
             fault,
             Some(Fault {
@@ -236,7 +237,7 @@ fn tells_the_index_and_the_earlier_list(rt: HostRuntime) -> Result<(), Fail> {
     let text = listing(alloc, "", "", labels.as_str())?;
     let place = TextPlace::Labels(2);
     assert_eq!(rt;
-        fault_of(alloc, text.as_str().as_bytes()),
+        fault_of(alloc, text.as_str().as_bytes())?,
         Some(Fault {
             rule: CertRule::KeyAbsent,
             place
@@ -245,7 +246,7 @@ fn tells_the_index_and_the_earlier_list(rt: HostRuntime) -> Result<(), Fail> {
     let text = listing(alloc, "", "{},0", "0")?;
     let place = TextPlace::Outputs(0);
     assert_eq!(rt;
-        fault_of(alloc, text.as_str().as_bytes()),
+        fault_of(alloc, text.as_str().as_bytes())?,
         Some(Fault {
             rule: CertRule::KeyAbsent,
             place
@@ -278,11 +279,11 @@ fn counts_the_members_of_each_list(rt: HostRuntime) -> Result<(), Fail> {
         ),
     ] {
         let text = listing(alloc, inputs, outputs, labels)?;
-        assert!(rt; fault_of(alloc, text.as_str().as_bytes()) == fault);
+        assert!(rt; fault_of(alloc, text.as_str().as_bytes())? == fault);
     }
     let head = "{\"version\":1,\"outputs\":0,\"labels\":[],\"inputs\":[0";
     let text = repeated(alloc, head, ",0", 1024, "]}")?;
-    assert!(rt; fault_of(alloc, text.as_str().as_bytes()) == top);
+    assert!(rt; fault_of(alloc, text.as_str().as_bytes())? == top);
     Ok(())
 }
 
@@ -297,10 +298,10 @@ fn limits_the_text_and_its_depth(rt: HostRuntime) -> Result<(), Fail> {
     let text = repeated(alloc, SMALL, " ", spaces, "")?;
     assert!(rt; read_cert(alloc, text.as_str().as_bytes()).is_ok());
     let text = repeated(alloc, SMALL, " ", spaces, " ")?;
-    assert!(rt; fault_of(alloc, text.as_str().as_bytes()) == refused);
+    assert!(rt; fault_of(alloc, text.as_str().as_bytes())? == refused);
     let open = repeated(alloc, "", "[", 200, "")?;
     let text = repeated(alloc, open.as_str(), "]", 200, "")?;
-    assert!(rt; fault_of(alloc, text.as_str().as_bytes()) == refused);
+    assert!(rt; fault_of(alloc, text.as_str().as_bytes())? == refused);
     Ok(())
 }
 
@@ -321,7 +322,7 @@ fn refuses_each_prefix(rt: HostRuntime) -> Result<(), Fail> {
         place: TextPlace::Top,
     });
     for end in 0..text.len() {
-        let fault = fault_of(rt.alloc(), &text[..end]);
+        let fault = fault_of(rt.alloc(), &text[..end])?;
         // Without its line feed the text is whole.
         let whole = end == text.len() - 1;
         assert_eq!(rt;
@@ -349,7 +350,7 @@ fn answers_each_replaced_byte(rt: HostRuntime) -> Result<(), Fail> {
             let answer = read_cert(rt.alloc(), text.as_slice());
             assert_eq!(rt; answer.is_ok(), same, "byte {at} is {byte}");
             if byte != b'[' {
-                let fault = fault_of(rt.alloc(), text.as_slice());
+                let fault = fault_of(rt.alloc(), text.as_slice())?;
                 assert_eq!(rt; fault, refused, "byte {at} is {byte}");
             }
         }
@@ -395,7 +396,7 @@ fn reads_back_the_greatest_certificate(rt: HostRuntime) -> Result<(), Fail> {
     assert!(rt; read_cert(rt.alloc(), text.as_str().as_bytes())? == certificate);
     let certificate = great(rt.alloc(), 1025)?;
     let text = cert_text(rt.alloc(), &certificate)?;
-    let fault = fault_of(rt.alloc(), text.as_str().as_bytes());
+    let fault = fault_of(rt.alloc(), text.as_str().as_bytes())?;
     assert_eq!(rt;
         fault,
         Some(Fault {

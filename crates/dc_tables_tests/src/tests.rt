@@ -14,7 +14,7 @@ use dc_parts::{
 };
 use dc_tables::Tables;
 use dc_word::{Format, Label, Sdi};
-use std::alloc::Global;
+use std::alloc::{AllocError, Global};
 use std::test::Fail;
 
 #[derive(Clone, Copy)]
@@ -310,11 +310,12 @@ fn parts_of(alloc: Global, rows: Rows) -> Result<Parts, Fail> {
 
 type Fault = (TableRule, Section, usize);
 
-// The fault of the parts, where they are refused.
-fn fault_of(alloc: Global, parts: Parts) -> Option<Fault> {
+// The fault of the parts, where they are refused; want of memory is none.
+fn fault_of(alloc: Global, parts: Parts) -> Result<Option<Fault>, AllocError> {
     match Tables::build(alloc, parts) {
-        Ok(_) | Err(BuildError::Memory(_)) => None,
-        Err(BuildError::Refused(fault)) => Some((fault.rule, fault.section, fault.index)),
+        Ok(_) => Ok(None),
+        Err(BuildError::Memory(error)) => Err(error),
+        Err(BuildError::Refused(fault)) => Ok(Some((fault.rule, fault.section, fault.index))),
     }
 }
 
@@ -322,7 +323,7 @@ fn fault_of(alloc: Global, parts: Parts) -> Option<Fault> {
 fn first_miss(alloc: Global, cases: &[(Rows, Fault)]) -> Result<Option<usize>, Fail> {
     for (number, (rows, fault)) in cases.iter().enumerate() {
         let parts = parts_of(alloc, *rows)?;
-        if fault_of(alloc, parts) != Some(*fault) {
+        if fault_of(alloc, parts)? != Some(*fault) {
             return Ok(Some(number));
         }
     }
@@ -379,7 +380,7 @@ fn limits_and_totals_come_before_doubled_names(rt: HostRuntime) -> Result<(), Fa
     ] {
         let parts = crowded(alloc, buses, streams)?;
         assert_eq!(rt;
-            fault_of(alloc, parts),
+            fault_of(alloc, parts)?,
             Some((rule, section, index)),
             "{buses} x {streams}"
         );
