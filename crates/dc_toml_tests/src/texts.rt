@@ -75,10 +75,11 @@ fn changed(alloc: Global, first: usize, count: usize, words: &str) -> Result<Str
     Ok(text)
 }
 
-// The fault of a text.
-fn fault_of(alloc: Global, text: &[u8]) -> Option<(TableRule, Section, usize)> {
+// The fault of a text; want of memory is none.
+fn fault_of(alloc: Global, text: &[u8]) -> Result<Option<(TableRule, Section, usize)>, AllocError> {
     match read_parts(alloc, text) {
-        Ok(_) | Err(BuildError::Memory(_)) => None,
+        Ok(_) => Ok(None),
+        Err(BuildError::Memory(error)) => Err(error),
         Err(
             BuildError::Refused(
                 TableFault {
@@ -87,7 +88,7 @@ fn fault_of(alloc: Global, text: &[u8]) -> Option<(TableRule, Section, usize)> {
                     index,
                 },
             ),
-        ) => Some((rule, section, index)),
+        ) => Ok(Some((rule, section, index))),
     }
 }
 
@@ -98,7 +99,7 @@ fn fault_with(
     words: &str,
 ) -> Result<Option<(TableRule, Section, usize)>, AllocError> {
     let text = changed(alloc, line, 1, words)?;
-    Ok(fault_of(alloc, text.as_bytes()))
+    fault_of(alloc, text.as_bytes())
 }
 
 #[test]
@@ -130,18 +131,21 @@ fn reads_the_smallest_tables(rt: HostRuntime) -> Result<(), Fail> {
 fn a_text_that_is_no_document(rt: HostRuntime) -> Result<(), Fail> {
     let alloc = rt.alloc();
     let no_document = Some((TableRule::NotToml, Section::Top, 0));
-    assert_eq!(rt; fault_of(alloc, b"version = 1\nversion = 1\n"), no_document);
-    assert_eq!(rt; fault_of(alloc, b"version = 1 # \xFF\n"), no_document);
+    assert_eq!(rt;
+        fault_of(alloc, b"version = 1\nversion = 1\n")?,
+        no_document
+    );
+    assert_eq!(rt; fault_of(alloc, b"version = 1 # \xFF\n")?, no_document);
     let mut spaces = Vec::new(alloc);
     for _ in 0..TEXT_LIMIT {
         spaces.push(b' ')?;
     }
     assert_eq!(rt;
-        fault_of(alloc, spaces.as_slice()),
+        fault_of(alloc, spaces.as_slice())?,
         Some((TableRule::VersionUnknown, Section::Top, 0))
     );
     spaces.push(b' ')?;
-    assert_eq!(rt; fault_of(alloc, spaces.as_slice()), no_document);
+    assert_eq!(rt; fault_of(alloc, spaces.as_slice())?, no_document);
     Ok(())
 }
 
@@ -149,16 +153,16 @@ fn a_text_that_is_no_document(rt: HostRuntime) -> Result<(), Fail> {
 fn a_version_before_all_keys(rt: HostRuntime) -> Result<(), Fail> {
     let alloc = rt.alloc();
     let no_version = Some((TableRule::VersionUnknown, Section::Top, 0));
-    assert_eq!(rt; fault_of(alloc, b""), no_version);
-    assert_eq!(rt; fault_of(alloc, b"colour = 1"), no_version);
+    assert_eq!(rt; fault_of(alloc, b"")?, no_version);
+    assert_eq!(rt; fault_of(alloc, b"colour = 1")?, no_version);
     assert_eq!(rt; fault_with(alloc, 0, "version = 3")?, no_version);
     assert_eq!(rt; fault_with(alloc, 0, "version = 1.0")?, no_version);
     assert_eq!(rt;
-        fault_of(alloc, b"version = 1"),
+        fault_of(alloc, b"version = 1")?,
         Some((TableRule::KeyAbsent, Section::Top, 0))
     );
     assert_eq!(rt;
-        fault_of(alloc, b"version = 1\ncolour = 1"),
+        fault_of(alloc, b"version = 1\ncolour = 1")?,
         Some((TableRule::KeyUnknown, Section::Top, 0))
     );
     Ok(())
@@ -342,32 +346,33 @@ fn faults_of_an_output_and_its_labels(rt: HostRuntime) -> Result<(), Fail> {
 fn members_after_their_list_and_buses_before_routers(rt: HostRuntime) -> Result<(), Fail> {
     let alloc = rt.alloc();
     assert_eq!(rt;
-        fault_of(alloc, b"version = 1\ntick_us = 1000\nbus = [1]"),
+        fault_of(alloc, b"version = 1\ntick_us = 1000\nbus = [1]")?,
         Some((TableRule::WrongKind, Section::Bus, 0))
     );
     assert_eq!(rt;
-        fault_of(alloc, b"version = 1\ntick_us = 1000\nbus = {}"),
+        fault_of(alloc, b"version = 1\ntick_us = 1000\nbus = {}")?,
         Some((TableRule::WrongKind, Section::Top, 0))
     );
     assert_eq!(rt;
-        fault_of(alloc, b"version = 1\ntick_us = 1000\nbus = [1]\nrouter = 1"),
+        fault_of(alloc, b"version = 1\ntick_us = 1000\nbus = [1]\nrouter = 1")?,
         Some((TableRule::WrongKind, Section::Top, 0))
     );
     assert_eq!(rt;
         fault_of(
             alloc,
             b"version = 1\ntick_us = 1000\nrouter = [1]\nbus = [2]"
-        ),
+        )?,
         Some((TableRule::WrongKind, Section::Bus, 0))
     );
     Ok(())
 }
 
 // The fault of a text, rules and all.
-fn broken(alloc: Global, text: &[u8]) -> Option<(TableRule, Section, usize)> {
+fn broken(alloc: Global, text: &[u8]) -> Result<Option<(TableRule, Section, usize)>, AllocError> {
     match read_tables(alloc, text) {
-        Ok(_) | Err(BuildError::Memory(_)) => None,
-        Err(BuildError::Refused(fault)) => Some((fault.rule, fault.section, fault.index)),
+        Ok(_) => Ok(None),
+        Err(BuildError::Memory(error)) => Err(error),
+        Err(BuildError::Refused(fault)) => Ok(Some((fault.rule, fault.section, fault.index))),
     }
 }
 
@@ -378,7 +383,7 @@ fn broken_with(
     words: &str,
 ) -> Result<Option<(TableRule, Section, usize)>, AllocError> {
     let text = changed(alloc, line, 1, words)?;
-    Ok(broken(alloc, text.as_bytes()))
+    broken(alloc, text.as_bytes())
 }
 
 #[test]

@@ -12,7 +12,7 @@ fn broken_by(
     words: &str,
 ) -> Result<Option<(TableRule, Section, usize)>, AllocError> {
     let text = changed(alloc, first, count, words)?;
-    Ok(broken(alloc, text.as_bytes()))
+    broken(alloc, text.as_bytes())
 }
 
 // The head of a text.
@@ -62,17 +62,17 @@ fn totals_after_the_shape_and_before_the_rules(rt: HostRuntime) -> Result<(), Fa
     let over = [256, 256, 256, 256, 1];
     let streams = with_members(alloc, BUS, STREAM, &most)?;
     let doubled_bus = Some((TableRule::NameDoubled, Section::Bus, 1));
-    assert_eq!(rt; broken(alloc, streams.as_bytes()), doubled_bus);
+    assert_eq!(rt; broken(alloc, streams.as_bytes())?, doubled_bus);
     let streams = with_members(alloc, BUS, STREAM, &over)?;
     let many_streams = Some((TableRule::CountOutOfRange, Section::Bus, 4));
-    assert_eq!(rt; broken(alloc, streams.as_bytes()), many_streams);
+    assert_eq!(rt; broken(alloc, streams.as_bytes())?, many_streams);
     let label = format!(in alloc; "{LABEL}offsets = [0]\n")?;
     let labels = with_members(alloc, OUTPUT, label.as_str(), &most)?;
     let doubled_output = Some((TableRule::NameDoubled, Section::Output, 1));
-    assert_eq!(rt; broken(alloc, labels.as_bytes()), doubled_output);
+    assert_eq!(rt; broken(alloc, labels.as_bytes())?, doubled_output);
     let labels = with_members(alloc, OUTPUT, label.as_str(), &over)?;
     let many_labels = Some((TableRule::CountOutOfRange, Section::Output, 4));
-    assert_eq!(rt; broken(alloc, labels.as_bytes()), many_labels);
+    assert_eq!(rt; broken(alloc, labels.as_bytes())?, many_labels);
     Ok(())
 }
 
@@ -86,10 +86,10 @@ fn entries_are_counted_output_by_output(rt: HostRuntime) -> Result<(), Fail> {
     label.push_str("]\n")?;
     let entries = with_members(alloc, OUTPUT, label.as_str(), &[4])?;
     let doubled_label = Some((TableRule::NameDoubled, Section::Label, 1));
-    assert_eq!(rt; broken(alloc, entries.as_bytes()), doubled_label);
+    assert_eq!(rt; broken(alloc, entries.as_bytes())?, doubled_label);
     let entries = with_members(alloc, OUTPUT, label.as_str(), &[1, 5])?;
     let many_entries = Some((TableRule::CountOutOfRange, Section::Output, 1));
-    assert_eq!(rt; broken(alloc, entries.as_bytes()), many_entries);
+    assert_eq!(rt; broken(alloc, entries.as_bytes())?, many_entries);
     Ok(())
 }
 
