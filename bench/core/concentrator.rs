@@ -5,6 +5,7 @@ use std::collections::VecDeque;
 #[derive(Clone, Copy)]
 pub enum Event { Tick, Arrive(usize, u32), Route(usize), Send(usize) }
 
+#[derive(Clone, Copy)]
 pub enum Reply { Queued(usize), BadParity, Undeclared, Overrun, Latched, Took(usize, u32), Empty(usize), Sent(u8, u32), Idle, Now(u64) }
 
 pub enum Fault { Spent, TooSoon, OwedByRouter(usize), OwedByOutput(usize), Unknown }
@@ -128,7 +129,7 @@ pub fn number_of(answer: Result<Reply, Fault>) -> u64 {
 }
 
 /// So many buses with these labels and this room, a router for each with these steps, one output.
-fn core(buses: usize, labels: &[u8], queue: usize, steps: u32, stale: u64) -> Core {
+pub fn core(buses: usize, labels: &[u8], queue: usize, steps: u32, stale: u64) -> Core {
     let source = labels.iter().position(|l| *l == 0o203).unwrap();
     Core {
         tick: 0,
