@@ -1,0 +1,2 @@
+-- What a command line may ask.
+pub mod Asked
