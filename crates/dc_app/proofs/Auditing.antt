@@ -22,7 +22,7 @@ use Rattle.dc_tables.specs.TableRows.{TableRows}
 use Rattle.dc_toml.specs.Reading.{tables_of}
 use Rattle.dc_app.specs.Answer.{Answer, Any, Ends, Raises, Reports, Reported, failed_by, fault_text, judged_answer, one_line, sink_failures_of, status_of}
 use Rattle.dc_app.specs.Audit.{AnswersAudit, AnswersClaims, AnswersRun, AnswersVerdict, AreFound, AuditAnswers, Judged, OnlyCertified, answer_findings, findings_lines, run_of}
-use Rattle.dc_app.specs.Check.{Certifies, Judges, answer_claims, answer_verdict, refused_text}
+use Rattle.dc_app.specs.Check.{Certifies, Judges, answer_claims, answer_verdict}
 use Rattle.dc_app.specs.Inputs.{Loads}
 use Rattle.dc_app.specs.declared.answer.Failure.{Failure}
 use Rattle.dc_app.specs.declared.answer.Failure.TheVariants.{Source, Sink, Memory}

@@ -16,7 +16,8 @@ use Rattle.dc_toml.specs.Reading.{tables_of}
 use Rattle.dc_toml.specs.Reported.{AreTablesOf}
 use Rattle.dc_app.specs.Answer.{Answer, Raises, Reports, Reported, failed_by, judged_answer, one_line, sink_failures_of, status_of}
 use Rattle.dc_parts.specs.declared.fault.BuildError.TheVariants.{Refused as RefusedTables}
-use Rattle.dc_app.specs.Check.{AreCertified, Certifies, CheckAnswers, Judges, JudgesTexts, ReportsCheck, accepted_text}
+use Rattle.dc_app.specs.Check.{AreCertified, Certifies, CheckAnswers, Judges, JudgesTexts, ReportsCheck}
+use Rattle.dc_print.specs.Verdicts.{accepted_text}
 use Rattle.dc_app.specs.Inputs.{Loads}
 use Rattle.dc_app.specs.declared.answer.Failure.{Failure}
 use Rattle.dc_app.specs.declared.answer.Failure.TheVariants.{Source, Sink, Memory}
