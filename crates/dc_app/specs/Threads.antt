@@ -11,6 +11,6 @@ threads_lines = codes "failed threads" ∷ []
 -- That line and nothing else, or a front of it where a push failed, with status 3; no source has failed.
 pub record ReportsThreads (old new : Option (List ℕ)) (sources sources' sink sink' status : ℕ) : Type 0 where
   pub three : status ≡ 3
-  pub sources : sources' ≡ sources
+  pub unfailed : sources' ≡ sources
   pub whole : sink' ≡ sink → Appends old new (spelled threads_lines)
   pub cut : sink < sink' → AppendsFront old new (spelled threads_lines)

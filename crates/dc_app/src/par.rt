@@ -1,11 +1,13 @@
 //! `check --workers`: the verdict on a certificate by several workers, in one line.
-ghost use Rattle.std.specs.Prelude.{◌≡◌, ◌≢◌, ◌⊎◌, ℕ, List, ◌+◌, ◌^◌, ◌<◌, ◌≤◌, IfErr, IfOk, IfSome, MatchResult, Some, Ok};
+ghost use Rattle.std.specs.Prelude.{◌≡◌, ◌≢◌, ◌⊎◌, ℕ, List, [], ◌+◌, ◌^◌, ◌<◌, ◌≤◌, IfErr, IfOk, IfSome, MatchResult, None, Some, Ok};
 ghost use Rattle.std.specs.Arc.{arc_value};
-ghost use Rattle.dc_device.specs.Bytes.{Writes};
 ghost use Rattle.dc_device.specs.Device.{AsksUpTo};
 ghost use Rattle.dc_toml.specs.Reading.{tables_of};
 ghost use Rattle.dc_cert.specs.NamedRows.{named_rows};
 ghost use Rattle.dc_cert.specs.Reading.{certificate_of};
+ghost use Rattle.dc_check.specs.Certified.{KeepsItsClaims};
+ghost use Rattle.dc_check.specs.Verdict.{verdict_of};
+ghost use Rattle.dc_checkpar.specs.Faults.{IsOfVerdict};
 ghost use Rattle.dc_app.specs.Answer.{Any, LeavesSink, Raises, Reported};
 ghost use Rattle.dc_app.specs.Check.{Judges, JudgesTexts, ReportsCheck};
 ghost use Rattle.dc_app.specs.Inputs.{OnlyBehind};
@@ -28,6 +30,25 @@ use std::thread::Threads;
 #[derive(Clone, Copy, Debug, PartialEq, Eq)]
 struct NoThread;
 
+// The verdict on a certificate by so many workers.
+fn verdict_by<R: Threads + Wait + Sync>(
+    rt: &R,
+    alloc: Global,
+    workers: u8,
+    tables: Arc<Tables>,
+    certificate: Certificate,
+) -> Result<(), ParFault>
+    requires { (1 ≤ workers) × (workers ≤ 64) }
+    ensures claims { IfOk result (λ _. KeepsItsClaims (arc_value tables) (named_rows certificate)) }
+    ensures exact { MatchResult result (λ _. verdict_of (arc_value tables) (named_rows certificate) ≡ None) (λ fault. IsOfVerdict (arc_value tables) (named_rows certificate) fault) }
+    ensures unstuck { IfErr result (λ fault. fault ≢ ParFault.GateStuck) }
+{
+    match check_par(rt, alloc, tables, certificate, usize::from(workers), &Open) {
+        Ok(_) => Ok(()),
+        Err(fault) => Err(fault),
+    }
+}
+
 // Judges a certificate by so many workers, and prints the verdict. The answer is the status, or that memory was refused.
 fn judge<R: Threads + Wait + Sync>(
     rt: &R,
@@ -46,8 +67,8 @@ fn judge<R: Threads + Wait + Sync>(
         return Ok(Err(Failure::Memory));
     };
     no_fault_is_acceptance(tables);
-    match check_par(rt, alloc, shared, certificate, usize::from(workers), &Open) {
-        Ok(_) => {
+    match verdict_by(rt, alloc, workers, shared, certificate) {
+        Ok(()) => {
             print_accepted(line, tables);
             Ok(Ok(0))
         }
@@ -66,6 +87,33 @@ fn judge_source<C: Source, R: Threads + Wait + Sync>(
     rt: &R,
     alloc: Global,
     workers: u8,
+    tables: &Arc<Tables>,
+    certificate: &mut C,
+    line: &mut Text,
+) -> Result<Result<u8, Failure>, NoThread>
+    requires workers { (1 ≤ workers) × (workers ≤ 64) }
+    requires certificate { C.failed certificate.old + 1 < 2 ^ 64 }
+    ensures answer { IfOk result (λ judged. IfSome (C.remaining certificate.old) (λ text. Judges (arc_value tables.now) (certificate_of text) line.new.items judged)) }
+    ensures source { MatchResult result (Raises (C.failed certificate.old) (C.failed certificate.new)) (λ _. C.failed certificate.new ≡ C.failed certificate.old) }
+    ensures asks { AsksUpTo 1048576 (C.asked certificate.old) (C.asked certificate.new) (C.dry certificate.old) (C.dry certificate.new) }
+    ensures sink { IfOk result (λ judged. IfErr judged (λ e. e ≢ Failure.Sink)) }
+    ensures status { IfOk result (λ judged. IfOk judged (λ status. status < 3)) }
+{
+    match load_certificate(alloc, certificate) {
+        Ok(certificate) => judge(rt, alloc, workers, tables, certificate, line),
+        Err(Unloaded::Refused(fault)) => {
+            print_cert_fault(line, fault);
+            Ok(Ok(2))
+        }
+        Err(Unloaded::Failed(failure)) => Ok(Err(failure)),
+    }
+}
+
+// The same, for tables that the workers are to share.
+fn judge_for<C: Source, R: Threads + Wait + Sync>(
+    rt: &R,
+    alloc: Global,
+    workers: u8,
     tables: Tables,
     certificate: &mut C,
     line: &mut Text,
@@ -78,18 +126,10 @@ fn judge_source<C: Source, R: Threads + Wait + Sync>(
     ensures sink { IfOk result (λ judged. IfErr judged (λ e. e ≢ Failure.Sink)) }
     ensures status { IfOk result (λ judged. IfOk judged (λ status. status < 3)) }
 {
-    let certificate = match load_certificate(alloc, certificate) {
-        Ok(certificate) => certificate,
-        Err(Unloaded::Refused(fault)) => {
-            print_cert_fault(line, fault);
-            return Ok(Ok(2));
-        }
-        Err(Unloaded::Failed(failure)) => return Ok(Err(failure)),
-    };
-    let Ok(tables) = Arc::new(alloc, tables) else {
-        return Ok(Err(Failure::Memory));
-    };
-    judge(rt, alloc, workers, &tables, certificate, line)
+    match Arc::new(alloc, tables) {
+        Ok(tables) => judge_source(rt, alloc, workers, &tables, certificate, line),
+        Err(_) => Ok(Err(Failure::Memory)),
+    }
 }
 
 // Judges the texts of tables and of a certificate, the tables' first.
@@ -115,7 +155,7 @@ fn judge_sources<T: Source, C: Source, R: Threads + Wait + Sync>(
     ensures status { IfOk result (λ judged. IfOk judged (λ status. status < 3)) }
 {
     match load(alloc, tables) {
-        Ok(tables) => judge_source(rt, alloc, workers, tables, certificate, line),
+        Ok(tables) => judge_for(rt, alloc, workers, tables, certificate, line),
         Err(Unloaded::Refused(fault)) => {
             print_table_fault(line, fault);
             Ok(Ok(2))
@@ -128,8 +168,10 @@ fn judge_sources<T: Source, C: Source, R: Threads + Wait + Sync>(
 fn end_without_thread<K: Sink>(writer: &mut LineWriter, sink: &mut K) -> u8
     requires new { writer.old ≡ [] }
     requires sink { K.failed sink.old + 1 < 2 ^ 64 }
-    ensures reports { (sources : ℕ) → ReportsThreads (K.contents sink.old) (K.contents sink.new) sources sources (K.failed sink.old) (K.failed sink.new) result }
+    ensures reports { (sources sources' : ℕ) → sources' ≡ sources
+        → ReportsThreads (K.contents sink.old) (K.contents sink.new) sources sources' (K.failed sink.old) (K.failed sink.new) result }
     ensures left { LeavesSink (K.failed sink.old) (K.failed sink.new) (K.last_failed sink.new) (K.hidden sink.new) }
+    ensures status { result ≡ 3 }
 {
     let _ = end_with(writer, sink, b"failed threads");
     3
