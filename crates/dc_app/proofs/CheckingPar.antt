@@ -1,10 +1,9 @@
 -- What `check` by several workers answers and reports, exit by exit.
-use Rattle.std.proofs.Common.{◌≡◌, ◌↔◌, ℕ, ◌+◌, ◌<◌, List, [], ◌++◌, ◌∷◌, refl, sym, subst, arith, Option, Some, None, IfOk, IfSome, Result, Ok, Err, codes}
+use Rattle.std.proofs.Common.{◌≡◌, ◌↔◌, ℕ, ◌+◌, List, [], ◌++◌, ◌∷◌, refl, subst, arith, Option, Some, None, IfOk, IfSome, Result, Ok, Err, codes}
 use Rattle.std.specs.Prelude.{MatchResult}
 use Rattle.std.specs.Io.KnownBytes.{Appends}
 use Rattle.dc_device.specs.Bytes.{AppendsFront, Writes}
-use Rattle.dc_device.specs.Device.{Settles, failures_of}
-use Rattle.dc_device.specs.Lines.{spelled}
+use Rattle.dc_device.specs.Device.{failures_of}
 use Rattle.dc_cert.specs.NamedRows.{NamedRows}
 use Rattle.dc_cert.specs.Reading.{certificate_of}
 use Rattle.dc_check.specs.Accepts.{Accepts}
@@ -16,9 +15,8 @@ use Rattle.dc_toml.specs.Reading.{tables_of}
 use Rattle.dc_app.specs.Answer.{Raises}
 use Rattle.dc_app.specs.Check.{Judges, JudgesTexts}
 use Rattle.dc_app.specs.Inputs.{Loads}
-use Rattle.dc_app.specs.Threads.{ReportsThreads, threads_lines}
+use Rattle.dc_app.specs.Threads.{ReportsThreads}
 use Rattle.dc_app.specs.declared.answer.Failure.{Failure}
-use Rattle.dc_app.specs.declared.answer.Failure.TheVariants.{Memory}
 use Rattle.dc_app.proofs.Checking.{both_judged, both_raised}
 
 module _ (t : TableRows) (claims : NamedRows) (line : List ℕ) where

@@ -1,5 +1,5 @@
 -- What `check` answers to the texts of tables and of a certificate.
-use Rattle.std.specs.Prelude.{◌≡◌, ◌⊎◌, ℕ, ◌<◌, nat_lt, Bool, true, false, Option, Some, None, List, [], Result, Ok, Err}
+use Rattle.std.specs.Prelude.{◌≡◌, ◌⊎◌, ℕ, nat_lt, Bool, true, false, Option, Some, None, List, [], Result, Ok, Err}
 use Rattle.dc_cert.specs.NamedRows.{NamedRows}
 use Rattle.dc_cert.specs.Faults.{fault_text}
 use Rattle.dc_cert.specs.Reading.{Reading, certificate_of}

@@ -1,7 +1,8 @@
 //! What the words of a command line ask.
-ghost use Rattle.std.specs.Prelude.{codes, IfOk, IfSome, MatchResult};
-ghost use Rattle.clap.specs.Words.{first_value, found_of};
-ghost use Rattle.dc_command.specs.Asked.{AreGiven, AsksCheck, IsCount, IsInRange, IsNoCount};
+ghost use Rattle.std.specs.Prelude.{codes, map, IfOk, IfSome, MatchResult};
+ghost use Rattle.std.specs.String.{string_bytes};
+ghost use Rattle.clap.specs.Words.{first_value, found_of, rows_of, subcommand_rows_of};
+ghost use Rattle.dc_command.specs.Asked.{AreGiven, Asks, AsksBy, AsksIn, IsCount, IsInRange, IsNoCount};
 
 use crate::known::program;
 use clap::error::ErrorKind;
@@ -71,9 +72,21 @@ fn workers_in(matches: &ArgMatches<'_>) -> Result<Option<u8>, OutOfRange>
     }
 }
 
+// What the matches of `decode` ask.
+fn decode_in<'a>(matches: &ArgMatches<'a>) -> Option<Order<'a>>
+    ensures { IfSome result (AsksBy (codes "decode") (rows_of (found_of matches.now))) }
+{
+    match matches.get_str("format")? {
+        "bnr" => Some(Order::Decode(Format::Bnr)),
+        "bcd" => Some(Order::Decode(Format::Bcd)),
+        "disc" => Some(Order::Decode(Format::Disc)),
+        _ => None,
+    }
+}
+
 // What the matches of `check` ask.
 fn check_in<'a>(matches: &ArgMatches<'a>) -> Option<Order<'a>>
-    ensures { IfSome result (AsksCheck (found_of matches.now)) }
+    ensures { IfSome result (AsksBy (codes "check") (rows_of (found_of matches.now))) }
 {
     let tables = matches.get_str("TABLES")?;
     let certificate = matches.get_str("CERT")?;
@@ -87,32 +100,55 @@ fn check_in<'a>(matches: &ArgMatches<'a>) -> Option<Order<'a>>
     }
 }
 
-// What the matches ask, where they have what is required.
-fn order_in<'a>(matches: &ArgMatches<'a>) -> Option<Order<'a>>
-    ensures { IfSome result IsInRange }
+// What the matches of `find` ask.
+fn find_in<'a>(matches: &ArgMatches<'a>) -> Option<Order<'a>>
+    ensures { IfSome result (AsksBy (codes "find") (rows_of (found_of matches.now))) }
 {
-    let (name, matches) = matches.subcommand()?;
+    let tables = matches.get_str("TABLES")?;
+    Some(Order::Find { tables })
+}
+
+// What the matches of `replay` ask.
+fn replay_in<'a>(matches: &ArgMatches<'a>) -> Option<Order<'a>>
+    ensures { IfSome result (AsksBy (codes "replay") (rows_of (found_of matches.now))) }
+{
+    let tables = matches.get_str("TABLES")?;
+    let all = matches.get_flag("all");
+    Some(Order::Replay { tables, all })
+}
+
+// What the matches of `audit` ask.
+fn audit_in<'a>(matches: &ArgMatches<'a>) -> Option<Order<'a>>
+    ensures { IfSome result (AsksBy (codes "audit") (rows_of (found_of matches.now))) }
+{
+    let tables = matches.get_str("TABLES")?;
+    let certificate = matches.get_str("CERT")?;
+    Some(Order::Audit {
+        tables,
+        certificate,
+    })
+}
+
+// What the matches of a command of this name ask, where they have what is required.
+fn order_by<'a>(name: &str, matches: &ArgMatches<'a>) -> Option<Order<'a>>
+    ensures { IfSome result (AsksBy name.now (rows_of (found_of matches.now))) }
+{
     match name {
-        "decode" => match matches.get_str("format")? {
-            "bnr" => Some(Order::Decode(Format::Bnr)),
-            "bcd" => Some(Order::Decode(Format::Bcd)),
-            "disc" => Some(Order::Decode(Format::Disc)),
-            _ => None,
-        },
+        "decode" => decode_in(matches),
         "check" => check_in(matches),
-        "find" => Some(Order::Find {
-            tables: matches.get_str("TABLES")?,
-        }),
-        "replay" => Some(Order::Replay {
-            tables: matches.get_str("TABLES")?,
-            all: matches.get_flag("all"),
-        }),
-        "audit" => Some(Order::Audit {
-            tables: matches.get_str("TABLES")?,
-            certificate: matches.get_str("CERT")?,
-        }),
+        "find" => find_in(matches),
+        "replay" => replay_in(matches),
+        "audit" => audit_in(matches),
         _ => None,
     }
+}
+
+// What the matches of the program ask.
+fn order_in<'a>(matches: &ArgMatches<'a>) -> Option<Order<'a>>
+    ensures { IfSome result (Asks (subcommand_rows_of matches.now)) }
+{
+    let (name, matches) = matches.subcommand()?;
+    order_by(name, matches)
 }
 
 /// What the words ask, of which the first is the program's name.
@@ -121,7 +157,8 @@ fn order_in<'a>(matches: &ArgMatches<'a>) -> Option<Order<'a>>
 /// With clap's text, which is to be printed, and its exit code: where the words ask for help or the version, or are no
 /// command line of the program; and where memory was refused.
 pub fn command<'a>(alloc: Global, words: &'a [String]) -> Result<Order<'a>, Error>
-    ensures { IfOk result IsInRange }
+    ensures asks { IfOk result (AsksIn (map string_bytes words.now)) }
+    ensures range { IfOk result IsInRange }
 {
     let mut program = program(alloc)?;
     let matches = program.try_get_matches_from_mut(words)?;

@@ -1,4 +1,3 @@
-use Rattle.std.proofs.Common.{◌≡◌}
 use Rattle.dc_app.proofs.Checking.{unread_judged}
 use Rattle.dc_app.proofs.CheckingPar.{read_by}
 use Rattle.dc_app.proofs.par.judge_source.Goals as goal

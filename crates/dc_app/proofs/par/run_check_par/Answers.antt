@@ -1,4 +1,4 @@
-use Rattle.std.proofs.Common.{◌≡◌, inl, inr}
+use Rattle.std.proofs.Common.{inl, inr}
 use Rattle.dc_app.specs.Answer.{Any, judged_answer}
 use Rattle.dc_app.proofs.Checking.{check_reports, judged_reported}
 use Rattle.dc_app.proofs.par.run_check_par.Goals as goal
