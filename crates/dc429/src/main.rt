@@ -1,14 +1,16 @@
 //! `dc429`: an ARINC 429 concentrator that is certified before it flies.
 #![tactic(auto)]
 
-mod command;
+ghost use Rattle.dc_command.specs.Asked.{IsInRange};
 
-use command::{Order, parse};
-use dc_app::{run_audit, run_check, run_decode, run_find, run_replay};
+use dc_app::{run_audit, run_check, run_check_par, run_decode, run_find, run_replay};
+use dc_command::{Order, command};
 use dc_device::{ReadSource, WriteSink};
 use std::alloc::AllocError;
 use std::process::ExitCode;
 use std::rt::{Env, Files};
+use std::sync::Wait;
+use std::thread::Threads;
 use std::{env, fmt, fs, io};
 
 // What keeps the program from its work.
@@ -44,10 +46,12 @@ impl From<io::Error> for Failure {
 }
 
 // Opens the files that are asked for, and calls the engine on them. The answer is the exit status.
-fn carry_out<R: AllocGlobal + Files + Input + Print>(
+fn carry_out<R: AllocGlobal + Files + Input + Print + Threads + Wait + Sync>(
     rt: &R,
     order: Order<'_>,
-) -> Result<u8, Failure> {
+) -> Result<u8, Failure>
+    requires { IsInRange order }
+{
     let mut sink = WriteSink::new(io::writer(rt));
     match order {
         Order::Decode(format) => {
@@ -57,10 +61,21 @@ fn carry_out<R: AllocGlobal + Files + Input + Print>(
         Order::Check {
             tables,
             certificate,
+            workers,
         } => {
             let mut tables = ReadSource::new(fs::open(rt, tables)?);
             let mut certificate = ReadSource::new(fs::open(rt, certificate)?);
-            Ok(run_check(rt.alloc(), &mut tables, &mut certificate, &mut sink))
+            match workers {
+                None => Ok(run_check(rt.alloc(), &mut tables, &mut certificate, &mut sink)),
+                Some(workers) => Ok(run_check_par(
+                    rt,
+                    rt.alloc(),
+                    workers,
+                    &mut tables,
+                    &mut certificate,
+                    &mut sink,
+                )),
+            }
         }
         Order::Find { tables } => {
             let mut tables = ReadSource::new(fs::open(rt, tables)?);
@@ -99,12 +114,14 @@ fn end_unread<R: Eprint>(rt: &R, error: io::Error) -> Result<u8, Failure> {
 }
 
 // Reads the command line and carries it out, or shows clap's text. The answer is the exit status.
-fn run<R: AllocGlobal + Env + Files + Input + Print + Eprint>(rt: &R) -> Result<u8, Failure> {
+fn run<R: AllocGlobal + Env + Files + Input + Print + Eprint + Threads + Wait + Sync>(
+    rt: &R,
+) -> Result<u8, Failure> {
     let words: Vec<String> = match env::args(rt) {
         Ok(words) => words.collect(rt.alloc())?,
         Err(error) => return end_unread(rt, error),
     };
-    match parse(rt.alloc(), words.as_slice()) {
+    match command(rt.alloc(), words.as_slice()) {
         Ok(order) => carry_out(rt, order),
         Err(error) => {
             if error.kind() == clap::error::ErrorKind::OutOfMemory {

@@ -5,7 +5,7 @@ use Rattle.std.proofs.lemmas.Bool.{lt-ltb}
 use Rattle.dc_cert.specs.Bounds.{numbers_of}
 use Rattle.dc_cert.specs.Faults.{fault_text as certificate_fault_text}
 use Rattle.dc_cert.specs.NamedRows.{NamedRows}
-use Rattle.dc_cert.specs.Reading.{Reading, certificate_of}
+use Rattle.dc_cert.specs.Reading.{certificate_of}
 use Rattle.dc_cert.specs.declared.fault.Fault.{Fault}
 use Rattle.dc_check.specs.Verdict.{verdict_of}
 use Rattle.dc_check.specs.declared.fault.CheckFault.{CheckFault}
@@ -22,7 +22,7 @@ use Rattle.dc_tables.specs.TableRows.{TableRows}
 use Rattle.dc_toml.specs.Reading.{tables_of}
 use Rattle.dc_app.specs.Answer.{Answer, Any, Ends, Raises, Reports, Reported, failed_by, fault_text, judged_answer, one_line, sink_failures_of, status_of}
 use Rattle.dc_app.specs.Audit.{AnswersAudit, AnswersClaims, AnswersRun, AnswersVerdict, AreFound, AuditAnswers, Judged, OnlyCertified, answer_findings, findings_lines, run_of}
-use Rattle.dc_app.specs.Check.{Certifies, Judges, answer_claims, answer_verdict, refused_text}
+use Rattle.dc_app.specs.Check.{Certifies, Judges, answer_verdict}
 use Rattle.dc_app.specs.Inputs.{Loads}
 use Rattle.dc_app.specs.declared.answer.Failure.{Failure}
 use Rattle.dc_app.specs.declared.answer.Failure.TheVariants.{Source, Sink, Memory}

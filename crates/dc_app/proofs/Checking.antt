@@ -1,6 +1,6 @@
 -- What `check` answers and reports, exit by exit.
-use Rattle.std.proofs.Common.{◌≡◌, ◌≢◌, ℕ, ◌+◌, ◌-◌, ◌<◌, ◌≤◌, ◌++◌, List, [], ◌∷◌, length, refl, sym, ◌∙◌, ap, subst, arith, true, false, codes, Option, Some, None, IfErr, IfOk, IfSome, Result, Ok, Err, inl, inr}
-use Rattle.std.specs.Prelude.{nat_le, nat_lt}
+use Rattle.std.proofs.Common.{◌≡◌, ◌≢◌, ℕ, ◌+◌, ◌-◌, ◌<◌, ◌≤◌, ◌++◌, List, refl, sym, ◌∙◌, ap, subst, arith, false, codes, Option, Some, None, IfErr, IfOk, IfSome, Result, Ok, Err, inl, inr}
+use Rattle.std.specs.Prelude.{nat_lt}
 use Rattle.std.proofs.lemmas.Bool.{lt-ltb}
 use Rattle.dc_cert.specs.NamedRows.{NamedRows}
 use Rattle.dc_cert.specs.Faults.{fault_text}
@@ -16,7 +16,8 @@ use Rattle.dc_toml.specs.Reading.{tables_of}
 use Rattle.dc_toml.specs.Reported.{AreTablesOf}
 use Rattle.dc_app.specs.Answer.{Answer, Raises, Reports, Reported, failed_by, judged_answer, one_line, sink_failures_of, status_of}
 use Rattle.dc_parts.specs.declared.fault.BuildError.TheVariants.{Refused as RefusedTables}
-use Rattle.dc_app.specs.Check.{AreCertified, Certifies, CheckAnswers, Judges, JudgesTexts, ReportsCheck, accepted_text}
+use Rattle.dc_app.specs.Check.{AreCertified, CheckAnswers, Judges, JudgesTexts, ReportsCheck}
+use Rattle.dc_print.specs.Verdicts.{accepted_text}
 use Rattle.dc_app.specs.Inputs.{Loads}
 use Rattle.dc_app.specs.declared.answer.Failure.{Failure}
 use Rattle.dc_app.specs.declared.answer.Failure.TheVariants.{Source, Sink, Memory}

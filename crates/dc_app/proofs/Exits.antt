@@ -10,10 +10,10 @@ use Rattle.dc_device.specs.Lines.{Held, NoFeed, ReadsOn, spelled}
 use Rattle.dc_device.specs.declared.reader.LineEnd.TheVariants.{Long, Whole}
 use Rattle.dc_device.specs.lemmas.Known.{front_after, front_more}
 use Rattle.dc_device.specs.lemmas.LineLemmas.{NoFeed-append, spelled-append}
-use Rattle.dc_app.specs.Answer.{Answer, Asks, Causes, Ends, EndsSome, IsCounted, LeavesSink, Raises, Reports, SettlesBy, Reported, cut_short, after_all, failed_by, failure_text, fault, nothing, sink_failures_of, status_of}
+use Rattle.dc_app.specs.Answer.{Answer, Asks, Causes, Ends, EndsSome, IsCounted, LeavesSink, Raises, Reports, Reported, cut_short, after_all, failed_by, failure_text, fault, nothing, sink_failures_of, status_of}
 use Rattle.dc_app.specs.Decode.{answer_end, answer_text, answer_word}
 use Rattle.dc_event.specs.WordText.{word_of}
-use Rattle.dc_app.specs.Printed.{line_of}
+use Rattle.dc_print.specs.Words.{line_of}
 use Rattle.dc_app.specs.declared.answer.Failure.{Failure}
 use Rattle.dc_app.specs.declared.answer.Failure.TheVariants.{Source, Sink, Memory}
 use Rattle.dc_app.proofs.LineAnswers.{answer_cut, answer_long, answer_whole}

@@ -1,5 +1,5 @@
 -- What `find` answers and reports, exit by exit.
-use Rattle.std.proofs.Common.{◌≡◌, ◌≢◌, ℕ, ◌+◌, ◌-◌, ◌<◌, ◌≤◌, ◌++◌, List, [], ◌∷◌, length, length-append, take, refl, sym, ◌∙◌, ap, subst, arith, true, false, codes, Option, Some, None, IfErr, IfOk, IfSome, Result, Ok, Err, inl, inr}
+use Rattle.std.proofs.Common.{◌≡◌, ◌≢◌, ℕ, ◌+◌, ◌-◌, ◌<◌, ◌≤◌, ◌++◌, List, [], ◌∷◌, length, length-append, take, refl, sym, ◌∙◌, ap, subst, arith, codes, Option, Some, IfErr, IfOk, IfSome, Result, Ok, Err, inl, inr}
 use Rattle.std.specs.Prelude.{nat_lt}
 use Rattle.std.proofs.Math.Seq.{take_at}
 use Rattle.std.proofs.lemmas.Bool.{lt-ltb}
@@ -13,7 +13,7 @@ use Rattle.dc_parts.specs.declared.fault.BuildError.TheVariants.{Refused as Refu
 use Rattle.dc_parts.specs.declared.fault.TableFault.{TableFault}
 use Rattle.dc_tables.specs.TableRows.{TableRows}
 use Rattle.dc_toml.specs.Reading.{tables_of}
-use Rattle.dc_app.specs.Answer.{Answer, Raises, Reports, failed_by, judged_answer, one_line, sink_failures_of, status_of}
+use Rattle.dc_app.specs.Answer.{Raises, Reports, failed_by, judged_answer, one_line, sink_failures_of, status_of}
 use Rattle.dc_app.specs.Find.{FindAnswers, JudgesRows, JudgesTables, ReportsFind, Tells}
 use Rattle.dc_app.specs.Inputs.{Loads}
 use Rattle.dc_app.specs.declared.answer.Failure.{Failure}

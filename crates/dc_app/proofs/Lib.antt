@@ -1,5 +1,6 @@
 pub mod Auditing
 pub mod Checking
+pub mod CheckingPar
 pub mod Exits
 pub mod Finding
 pub mod LineAnswers

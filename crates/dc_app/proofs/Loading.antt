@@ -1,12 +1,11 @@
 -- Tables from the text of a source.
-use Rattle.std.proofs.Common.{◌≡◌, ℕ, ◌<◌, ◌≤◌, List, length, refl, sym, ◌∙◌, ap, subst, arith, true, false, nat_le, Option, Some, None, IfSome, Result, Ok, Err, inl, inr}
+use Rattle.std.proofs.Common.{◌≡◌, ℕ, ◌<◌, List, length, refl, ◌∙◌, subst, arith, false, nat_le, Option, Some, None, IfSome, Ok, Err, inl, inr}
 use Rattle.std.proofs.lemmas.Bool.Decides.{nat_tests}
 use Rattle.dc_cert.specs.Reading.{certificate_of, document_of as certificate_document_of}
 use Rattle.dc_cert.specs.declared.fault.Fault.{Fault}
 use Rattle.dc_tables.specs.TableRows.{TableRows}
 use Rattle.dc_parts.specs.declared.fault.TableFault.{TableFault}
 use Rattle.dc_toml.specs.Reading.{document_of, tables_of}
-use Rattle.dc_toml.specs.Reported.{TellsTables}
 use Rattle.dc_app.specs.Inputs.{Loads, LoadsCertificate, OnlyBehind, ReadsText, no_document, no_json}
 use Rattle.dc_app.specs.declared.inputs.Unloaded.{Unloaded}
 use Rattle.dc_app.specs.declared.inputs.Unloaded.TheVariants.{Refused, Failed}

@@ -1,7 +1,6 @@
 -- The events of a trace have numbers of the tables.
-use Rattle.std.proofs.Common.{◌≡◌, ℕ, suc, zero, ◌<◌, ◌+◌, ◌-◌, Bool, true, false, nat_lt, if◌then◌else◌, List, [], ◌∷◌, length, codes, refl, sym, ◌∙◌, ap, subst, arith, Option, Some, None, option_map, option_and_then, Result, Ok, Err}
+use Rattle.std.proofs.Common.{◌≡◌, ℕ, suc, zero, ◌<◌, ◌+◌, ◌-◌, Bool, true, false, nat_lt, if◌then◌else◌, List, [], ◌∷◌, length, codes, refl, subst, arith, Option, Some, None, option_map, option_and_then, Result, Ok, Err}
 use Rattle.std.proofs.lemmas.List.Quantifiers.{position-Some}
-use Rattle.std.specs.List.{All}
 use Rattle.std.specs.Str.{bytes_eq}
 use Rattle.dc_device.specs.Lines.{lines_of}
 use Rattle.dc_parts.specs.Names.{name_of, number_of}

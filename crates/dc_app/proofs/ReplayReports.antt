@@ -1,6 +1,5 @@
 -- How a replay is reported.
 use Rattle.std.proofs.Common.{◌≡◌, ℕ, ◌+◌, ◌-◌, ◌<◌, ◌≤◌, Bool, true, false, nat_lt, List, [], refl, sym, ◌∙◌, ap, subst, arith, inl, inr, Option, Some, None, IfOk, IfSome, Result, Ok, Err}
-use Rattle.std.proofs.KnownBytes.{Appends-nil}
 use Rattle.std.proofs.lemmas.Bool.Decides.{nat_tests}
 use Rattle.dc_tables.specs.TableRows.{TableRows}
 use Rattle.dc_parts.specs.declared.fault.BuildError.TheVariants.{Refused as RefusedTables}
@@ -12,7 +11,7 @@ use Rattle.dc_app.specs.Refusals.{tables_end}
 use Rattle.dc_app.proofs.Exits.{any_reported, none_ends}
 use Rattle.dc_app.specs.Replay.{AnswersTexts, ReplayAnswers, ReportsReplay, WritesReplay, WritesTrace}
 use Rattle.dc_app.specs.declared.answer.Failure.{Failure}
-use Rattle.dc_app.specs.declared.answer.Failure.TheVariants.{Source, Sink, Memory}
+use Rattle.dc_app.specs.declared.answer.Failure.TheVariants.{Memory}
 use Rattle.dc_app.specs.declared.inputs.Unloaded.TheVariants.{Refused}
 
 replay_either : (all : Bool) (tables text : List ℕ) (whole : Bool) (answer : Answer) → AnswersTexts all tables text whole answer → ReplayAnswers all tables text whole answer

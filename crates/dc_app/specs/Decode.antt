@@ -4,7 +4,7 @@ use Rattle.dc_word.specs.declared.format.Format.{Format}
 use Rattle.dc_device.specs.Lines.{lines_of}
 use Rattle.dc_event.specs.WordText.{word_of}
 use Rattle.dc_app.specs.Answer.{Answer, after_all, fault}
-use Rattle.dc_app.specs.Printed.{line_of}
+use Rattle.dc_print.specs.Words.{line_of}
 
 -- the answer to a line with its number, where `rest` answers the lines after it
 abbrev pub answer_word : Format → ℕ → Option ℕ → Answer → Answer

@@ -20,7 +20,7 @@ use Rattle.dc_tables.specs.TableRows.{TableRows}
 use Rattle.dc_toml.specs.Reading.{tables_of}
 use Rattle.dc_toml.specs.Reported.{TellsTables}
 use Rattle.dc_app.specs.Answer.{Answer, Reported, one_line}
-use Rattle.dc_app.specs.Check.{member_name, member_text}
+use Rattle.dc_print.specs.Verdicts.{member_name, member_text}
 use Rattle.dc_app.specs.Refusals.{tables_end}
 use Rattle.dc_app.specs.declared.answer.Failure.{Failure}
 use Rattle.dc_app.specs.declared.answer.Failure.TheVariants.{Source, Sink, Memory}

@@ -4,8 +4,7 @@ pub mod Check
 pub mod Decode
 pub mod Find
 pub mod Inputs
-pub mod Printed
 pub mod Refusals
 pub mod Replay
 pub mod Steps
-pub mod Text
+pub mod Threads

@@ -4,8 +4,8 @@ ghost use Rattle.dc_device.specs.Bytes.{Writes};
 ghost use Rattle.dc_device.specs.Device.{Settles, failures_of};
 ghost use Rattle.dc_app.specs.Answer.{Answer, Asks, Causes, Ends, LeavesSink, Reports, SettlesBy, dry_in, failed_by, fault, fault_text, judged_answer, sink_failures_of, status_of};
 
-use crate::text::{Text, append, append_number};
 use dc_device::{Broken, LineReader, LineWriter, Sink, Source};
+use dc_print::{Text, append, append_number};
 
 /// What failed: a device, or memory was refused.
 #[derive(Clone, Copy, Debug, PartialEq, Eq)]

@@ -16,15 +16,13 @@ ghost use Rattle.dc_app.specs.Inputs.{OnlyBehind};
 use crate::answer::{Failure, print_fault, report, say};
 use crate::check::judge;
 use crate::inputs::{Unloaded, load, load_certificate};
-use crate::judgement::print_cert_fault;
-use crate::print::print_table_fault;
 use crate::recording::load_run;
 use crate::replay::code_of;
-use crate::text::{Text, append, append_number};
 use dc_cert::Certificate;
 use dc_device::{LineWriter, Sink, Source};
 use dc_event::{Claim, Event};
 use dc_oracle::{claims, keeps_budgets, keeps_sources};
+use dc_print::{Text, append, append_number, print_cert_fault, print_table_fault};
 use dc_tables::Tables;
 use std::alloc::{AllocError, Global};
 

@@ -10,13 +10,11 @@ ghost use Rattle.dc_app.specs.Inputs.{OnlyBehind};
 
 use crate::answer::{Failure, report, say};
 use crate::inputs::{Unloaded, load, load_certificate};
-use crate::judgement::{print_accepted, print_cert_fault, print_refused};
-use crate::print::print_table_fault;
-use crate::text::Text;
 use dc_cert::Certificate;
 use dc_check::laws::{accepted_certificates_keep_their_claims, no_fault_is_acceptance};
 use dc_check::verdict;
 use dc_device::{LineWriter, Sink, Source};
+use dc_print::{Text, print_accepted, print_cert_fault, print_refused, print_table_fault};
 use dc_tables::Tables;
 use std::alloc::Global;
 

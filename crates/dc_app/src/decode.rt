@@ -4,13 +4,12 @@ ghost use Rattle.dc_device.specs.Bytes.{Gathers};
 ghost use Rattle.dc_device.specs.Device.{AsksUpTo, failures_of};
 ghost use Rattle.dc_app.specs.Answer.{Causes, Ends, LeavesSink, Reports, SettlesBy};
 ghost use Rattle.dc_app.specs.Decode.{answer_end, decode_text};
-ghost use Rattle.dc_app.specs.Printed.{line_of};
+ghost use Rattle.dc_print.specs.Words.{line_of};
 
 use crate::answer::{Failure, LIMIT, ask, end_at, report};
-use crate::print::print;
-use crate::text::Text;
 use dc_device::{Line, LineEnd, LineReader, LineWriter, Sink, Source};
 use dc_event::read_word;
+use dc_print::{Text, print_word};
 use dc_word::{Format, Word};
 
 // Answers a text that ends after these bytes of a line.
@@ -51,7 +50,7 @@ fn write_word<K: Sink>(
     ensures last { IfErr result (λ e. K.last_failed sink.new ≡ true) }
 {
     let mut text = Text::new();
-    print(&mut text, format, word);
+    print_word(&mut text, format, word);
     match writer.line(sink, text.as_slice()) {
         Ok(()) => Ok(()),
         Err(_) => Err(Failure::Sink),

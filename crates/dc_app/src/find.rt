@@ -11,13 +11,12 @@ ghost use Rattle.dc_app.specs.Find.{JudgesRows, JudgesTables, ReportsFind, Tells
 use crate::answer::{Failure, report, say};
 use crate::inputs::{Unloaded, load};
 use crate::obstacles::print_obstacle;
-use crate::print::print_table_fault;
-use crate::text::Text;
 use dc_cert::{Certificate, cert_text};
 use dc_check::laws::accepted_certificates_keep_their_claims;
 use dc_device::{LineWriter, Sink, Source};
 use dc_find::FindFault;
 use dc_parts::TableFault;
+use dc_print::{Text, print_table_fault};
 use dc_tables::Tables;
 use std::alloc::Global;
 

@@ -5,10 +5,9 @@ ghost use Rattle.dc_check.specs.Placed.{part_count};
 ghost use Rattle.dc_find.specs.Ways.{StandsInTheWay};
 ghost use Rattle.dc_app.specs.Find.{obstacle_text, refusal_text};
 
-use crate::judgement::append_member;
-use crate::text::{Text, append};
 use dc_check::CertificateList;
 use dc_find::{FindFault, Obstacle, Queue};
+use dc_print::{Text, append, append_member};
 use dc_tables::Tables;
 
 // The line of what stands in the way at a bus, an output or a label.

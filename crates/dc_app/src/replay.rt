@@ -16,14 +16,13 @@ ghost use Rattle.dc_app.specs.Steps.{StandsAt};
 
 use crate::answer::{Failure, end_at, end_with, report};
 use crate::inputs::{Unloaded, load};
-use crate::print::print_table_fault;
 use crate::replies::{is_printed, print_refused, print_step};
 use crate::steps::{Progress, Refusal, Step};
-use crate::text::Text;
 use dc_core::Core;
 use dc_device::{LineWriter, Sink, Source};
 use dc_event::{LineRule, TRACE_LIMIT, TraceLines, TraceStop};
 use dc_parts::TableFault;
+use dc_print::{Text, print_table_fault};
 use dc_tables::Tables;
 use std::alloc::Global;
 use std::sync::Arc;

@@ -6,9 +6,9 @@ ghost use Rattle.dc_event.specs.WordText.{eight_hex};
 ghost use Rattle.dc_app.specs.Refusals.{actor_name, cause_text, culprit_text, refused_text};
 
 use crate::steps::{Refusal, Step};
-use crate::text::{Text, append, append_number, hex_8};
 use dc_core::StepFault;
 use dc_event::{Actor, Event, Reply};
+use dc_print::{Text, append, append_number, hex_8};
 use dc_tables::Tables;
 use dc_word::Word;
 

@@ -1,10 +1,14 @@
 //! Asks an engine, and compares its line and its status with what is wanted.
 
-use dc_app::{run_check, run_find, run_replay};
+ghost use Rattle.std.specs.Prelude.{◌≤◌};
+
+use dc_app::{run_check, run_check_par, run_find, run_replay};
 use dc_device::{MemSink, MemSource, Sink, Source};
 use std::alloc::Global;
 use std::process::Abort;
+use std::sync::Wait;
 use std::test::Fail;
+use std::thread::Threads;
 
 /// The status that belongs to the line of a check, or of a search for a certificate.
 pub fn status_of(line: &str) -> u8 {
@@ -25,8 +29,8 @@ fn line_of(bytes: &[u8]) -> &[u8] {
     }
 }
 
-/// Checks a certificate for tables: this line is written, with its status.
-pub fn check_says(
+/// Checks a certificate for tables by one thread: this line is written, with its status.
+fn one_says(
     rt: &impl Abort,
     alloc: Global,
     tables: &[u8],
@@ -39,6 +43,45 @@ pub fn check_says(
     let status = run_check(alloc, &mut tables, &mut certificate, &mut sink);
     assert_eq!(rt; line_of(sink.bytes()), want.as_bytes(), "{want}");
     assert_eq!(rt; status, status_of(want), "{want}");
+    Ok(())
+}
+
+/// Checks a certificate for tables by so many workers: this line is written, with its status.
+fn workers_say<R: Threads + Wait + Sync + Abort>(
+    rt: &R,
+    alloc: Global,
+    workers: u8,
+    tables: &[u8],
+    certificate: &[u8],
+    want: &str,
+) -> Result<(), Fail>
+    requires { (1 ≤ workers) × (workers ≤ 64) }
+{
+    let mut sink = MemSink::new(alloc, 100, 0)?;
+    let mut tables = MemSource::new(tables, 4096, 0);
+    let mut certificate = MemSource::new(certificate, 4096, 0);
+    let status = run_check_par(rt, alloc, workers, &mut tables, &mut certificate, &mut sink);
+    assert_eq!(rt;
+        line_of(sink.bytes()),
+        want.as_bytes(),
+        "{want}, {workers} workers"
+    );
+    assert_eq!(rt; status, status_of(want), "{want}, {workers} workers");
+    Ok(())
+}
+
+/// Checks a certificate for tables, by one thread and by workers: this line is written, with its status.
+pub fn check_says<R: Threads + Wait + Sync + Abort>(
+    rt: &R,
+    alloc: Global,
+    tables: &[u8],
+    certificate: &[u8],
+    want: &str,
+) -> Result<(), Fail> {
+    one_says(rt, alloc, tables, certificate, want)?;
+    for workers in [1, 2, 64] {
+        workers_say(rt, alloc, workers, tables, certificate, want)?;
+    }
     Ok(())
 }
 

@@ -5,10 +5,16 @@ use crate::small::{CERTIFICATE, push_filled, push_tables};
 use std::alloc::Global;
 use std::process::Abort;
 use std::rt::HostRuntime;
+use std::sync::Wait;
 use std::test::Fail;
+use std::thread::Threads;
 
 /// Checks the certificate of each row `name=value ..|line`: this line is written.
-pub fn judges(rt: &impl Abort, alloc: Global, rows: &str) -> Result<(), Fail> {
+pub fn judges<R: Threads + Wait + Sync + Abort>(
+    rt: &R,
+    alloc: Global,
+    rows: &str,
+) -> Result<(), Fail> {
     for row in rows.lines() {
         let (values, want) = row.split_once('|').ok_or("no line in a row")?;
         let mut tables = String::new(alloc);

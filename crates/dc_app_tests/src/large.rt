@@ -5,7 +5,9 @@ use crate::small::{push_filled, value};
 use std::alloc::{AllocError, Global};
 use std::process::Abort;
 use std::rt::HostRuntime;
+use std::sync::Wait;
 use std::test::Fail;
+use std::thread::Threads;
 
 const BUSES: &str =
     "0 1 2 3 4 5 6 7 8 9 10 11 12 13 14 15 16 17 18 19 20 21 22 23 24 25 26 27 28 29 30 31 32 33 34 35 36 37 38 39 40 41 42 43 44 45 46 47 48 49 50 51 52 53 54 55 56 57 58 59 60 61 62 63";
@@ -94,8 +96,8 @@ fn push_certificate(text: &mut String, row: &str) -> Result<(), AllocError> {
 }
 
 /// Checks the certificate of each row `name=value ..|line` for tables of 64 buses: this line is written.
-fn judges(
-    rt: &impl Abort,
+fn judges<R: Threads + Wait + Sync + Abort>(
+    rt: &R,
     alloc: Global,
     tables: &str,
     labels: &str,

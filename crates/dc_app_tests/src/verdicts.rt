@@ -2,7 +2,7 @@
 
 use crate::asking::check_says;
 use crate::small::{CERTIFICATE, push_filled, push_tables};
-use dc_app::run_check;
+use dc_app::{run_check, run_check_par};
 use dc_cert::{Certificate, read_cert};
 use dc_check::laws::no_fault_is_acceptance;
 use dc_check::{
@@ -15,8 +15,9 @@ use dc_toml::read_tables;
 use std::alloc::Global;
 use std::process::Abort;
 use std::rt::HostRuntime;
-use std::sync::Arc;
+use std::sync::{Arc, Wait};
 use std::test::Fail;
+use std::thread::Threads;
 
 /// A certificate of no inputs, outputs and labels.
 const EMPTY: &str = "{\"version\":1,\"inputs\":[],\"outputs\":[],\"labels\":[]}";
@@ -40,6 +41,25 @@ fn the_tables_are_read_first(rt: HostRuntime) -> Result<(), Fail> {
         let tables = tables.as_bytes();
         check_says(&rt, rt.alloc(), tables, certificate.as_bytes(), want)?;
     }
+    Ok(())
+}
+
+/// Judges two texts in pieces of 64 by two workers, where a pull of the one, of the other and a push fail: this is written.
+fn workers_break<R: Threads + Wait + Sync + Abort>(
+    rt: &R,
+    alloc: Global,
+    texts: [&[u8]; 2],
+    fails: [u64; 3],
+    want: &str,
+) -> Result<(), Fail> {
+    let [tables, certificate] = texts;
+    let [first, second, push] = fails;
+    let mut tables = MemSource::new(tables, 64, first);
+    let mut certificate = MemSource::new(certificate, 64, second);
+    let mut sink = MemSink::new(alloc, 100, push)?;
+    let status = run_check_par(rt, alloc, 2, &mut tables, &mut certificate, &mut sink);
+    assert_eq!(rt; sink.bytes(), want.as_bytes());
+    assert_eq!(rt; status, 3);
     Ok(())
 }
 
@@ -78,6 +98,7 @@ fn devices_that_fail(rt: HostRuntime) -> Result<(), Fail> {
         ([1, 0, 1], ""),
     ] {
         breaks(&rt, rt.alloc(), texts, fails, want)?;
+        workers_break(&rt, rt.alloc(), texts, fails, want)?;
     }
     Ok(())
 }

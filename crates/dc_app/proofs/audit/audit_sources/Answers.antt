@@ -1,4 +1,4 @@
-use Rattle.std.proofs.Common.{◌≡◌, refl}
+use Rattle.std.proofs.Common.{refl}
 use Rattle.dc_app.proofs.Auditing.{all_judged, only_certified, tables_judged, trace_kept}
 use Rattle.dc_app.proofs.Checking.{both_raised}
 use Rattle.dc_app.proofs.Loading.{behind_kept, behind_read}

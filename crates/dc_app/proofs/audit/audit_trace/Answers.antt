@@ -1,5 +1,4 @@
-use Rattle.std.proofs.Common.{◌≡◌}
-use Rattle.dc_app.proofs.Auditing.{failed_judged, fault_judged, run_judged}
+use Rattle.dc_app.proofs.Auditing.{fault_judged, run_judged}
 use Rattle.dc_app.proofs.audit.audit_trace.Goals as goal
 
 pub returns-in-Ok-clause-answer : goal.returns-in-Ok-clause-answer

@@ -1,4 +1,3 @@
-use Rattle.std.proofs.Common.{◌≡◌}
 use Rattle.dc_app.specs.Answer.{Any}
 use Rattle.dc_app.specs.Audit.{AnswersAudit, AuditAnswers}
 use Rattle.dc_app.proofs.Auditing.{audit_none, audit_part, audit_reported, audit_whole, some_judged}

@@ -1,4 +1,3 @@
-use Rattle.std.proofs.Common.{◌≡◌}
 use Rattle.dc_cert.specs.NamedRows.{named_rows}
 use Rattle.dc_app.proofs.Checking.{accepted_judged}
 use Rattle.dc_app.proofs.check.judge.Goals as goal

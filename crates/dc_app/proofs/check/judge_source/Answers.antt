@@ -1,4 +1,3 @@
-use Rattle.std.proofs.Common.{◌≡◌}
 use Rattle.dc_app.proofs.Checking.{read_judged, unread_judged}
 use Rattle.dc_app.proofs.check.judge_source.Goals as goal
 

@@ -1,4 +1,4 @@
-use Rattle.std.proofs.Common.{◌≡◌, refl}
+use Rattle.std.proofs.Common.{refl}
 use Rattle.dc_app.proofs.Loading.{behind_kept, behind_read}
 use Rattle.dc_app.proofs.Checking.{both_judged, both_raised, refused_judged}
 use Rattle.dc_app.proofs.check.judge_sources.Goals as goal

@@ -1,4 +1,3 @@
-use Rattle.std.proofs.Common.{◌≡◌}
 use Rattle.dc_app.specs.Answer.{Any, judged_answer}
 use Rattle.dc_app.proofs.Checking.{check_reports, judged_reported}
 use Rattle.dc_app.proofs.check.run_check.Goals as goal

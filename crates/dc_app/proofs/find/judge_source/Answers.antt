@@ -1,4 +1,3 @@
-use Rattle.std.proofs.Common.{◌≡◌}
 use Rattle.dc_app.proofs.Finding.{judged_not_sink, judged_raises, read_judged, unread_judged}
 use Rattle.dc_app.proofs.find.judge_source.Goals as goal
 

@@ -1,4 +1,4 @@
-use Rattle.std.proofs.Common.{◌≡◌, ◌∙◌}
+use Rattle.std.proofs.Common.{◌∙◌}
 use Rattle.dc_cert.specs.NamedRows.{named_rows}
 use Rattle.dc_app.proofs.Finding.{text_kept}
 use Rattle.dc_app.proofs.find.keep_certificate.Goals as goal

@@ -1,4 +1,3 @@
-use Rattle.std.proofs.Common.{◌≡◌}
 use Rattle.dc_app.specs.Answer.{Any, judged_answer}
 use Rattle.dc_app.proofs.Checking.{judged_reported}
 use Rattle.dc_app.proofs.Finding.{find_reports}

@@ -1,4 +1,4 @@
-use Rattle.std.proofs.Common.{length, ◌∙◌, ap, arith, sym}
+use Rattle.std.proofs.Common.{length, ap, arith}
 use Rattle.dc_event.specs.Reading.{Reading, dry_left, failures_at, pulls_left}
 use Rattle.dc_app.proofs.Recorded.{heard_first}
 use Rattle.dc_app.proofs.recording.load_run.Goals as goal

@@ -1,4 +1,4 @@
-use Rattle.std.proofs.Common.{◌∙◌, [], ap, arith, refl, sym, Err}
+use Rattle.std.proofs.Common.{◌∙◌, [], ap, arith, refl, sym}
 use Rattle.dc_event.specs.Reading.{Reading, dry_left, failures_at, pulls_left}
 use Rattle.dc_app.specs.Refusals.{refused, stop_end}
 use Rattle.dc_app.proofs.ReplayExits.{at_tick_0, cut_some, flush_ends, not_stopped, pulls_needed, pulls_reported, refused_ends, said_first, said_next, said_pulled, said_some, say_ends, step_count, step_early, stop_ends}

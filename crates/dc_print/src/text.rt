@@ -1,7 +1,7 @@
 //! Text that takes no memory.
 ghost use Rattle.std.specs.Prelude.{◌≡◌, ◌++◌, ◌+◌, ◌<◌, ◌≤◌, length, codes, decimal};
 ghost use Rattle.arrayvec.specs.ArrayVec.{array_vec_len};
-ghost use Rattle.dc_app.specs.Text.{five_decimal, five_hex, three_octal};
+ghost use Rattle.dc_print.specs.Text.{five_decimal, five_hex, three_octal};
 ghost use Rattle.dc_event.specs.WordText.{digit, eight_hex};
 
 use arrayvec::ArrayVec;

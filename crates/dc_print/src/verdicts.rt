@@ -1,14 +1,16 @@
-//! The printed line of a verdict.
+//! The printed line of a verdict, and of a text that can't be read.
 ghost use Rattle.std.specs.Prelude.{◌≡◌, ◌++◌, ◌+◌, ◌<◌, ◌≤◌, length};
 ghost use Rattle.arrayvec.specs.ArrayVec.{array_vec_len};
 ghost use Rattle.dc_cert.specs.Faults.{fault_text};
+ghost use Rattle.dc_parts.specs.FaultText.{table_fault_text};
 ghost use Rattle.dc_check.specs.Placed.{IsPlaced, part_count};
-ghost use Rattle.dc_app.specs.Check.{accepted_text, is_of_a_list, list_text, member_name, member_text, names_window, place_text, refused_text, window_text};
+ghost use Rattle.dc_print.specs.Verdicts.{accepted_text, is_of_a_list, list_text, member_name, member_text, names_window, place_text, refused_text, window_text};
 ghost use Rattle.std.specs.Prelude.{codes};
 
 use crate::text::{Text, append, append_number};
 use dc_cert::Fault;
 use dc_check::{CertificateList, CheckFault, Condition};
+use dc_parts::{Section, TableFault};
 use dc_tables::Tables;
 
 // Whether a condition is of a list as a whole.
@@ -102,7 +104,7 @@ fn append_place(text: &mut Text, tables: &Tables, fault: CheckFault)
 }
 
 /// The line of a refused certificate.
-#[tactic(auto, unfolding(crate::specs::Check::refused_text))]
+#[tactic(auto, unfolding(crate::specs::Verdicts::refused_text))]
 pub fn print_refused(text: &mut Text, tables: &Tables, fault: CheckFault)
     requires { IsPlaced tables.now fault }
     ensures { text.new.items ≡ refused_text tables.now fault }
@@ -115,7 +117,7 @@ pub fn print_refused(text: &mut Text, tables: &Tables, fault: CheckFault)
 }
 
 /// The line of an accepted certificate.
-#[tactic(auto, unfolding(crate::specs::Check::accepted_text))]
+#[tactic(auto, unfolding(crate::specs::Verdicts::accepted_text))]
 pub fn print_accepted(text: &mut Text, tables: &Tables)
     ensures { text.new.items ≡ accepted_text tables.now }
 {
@@ -136,4 +138,22 @@ pub fn print_cert_fault(text: &mut Text, fault: Fault)
     append(text, b"unreadable ");
     let short = fault.short_text();
     append(text, short.as_slice());
+}
+
+/// The line of the first fault of a tables' text.
+pub fn print_table_fault(text: &mut Text, fault: TableFault)
+    ensures { text.new.items ≡ codes "unreadable " ++ table_fault_text fault }
+{
+    text.clear();
+    append(text, b"unreadable ");
+    append(text, fault.rule.code().as_bytes());
+    append(text, b" at ");
+    append(text, fault.section.text().as_bytes());
+    match fault.section {
+        Section::Top => {}
+        _ => {
+            append(text, b" ");
+            append_number(text, fault.index as u64);
+        }
+    }
 }

@@ -1,11 +1,9 @@
 //! The printed line of a word.
 ghost use Rattle.std.specs.Prelude.{◌≡◌, ◌++◌, ◌+◌, ◌≤◌, length, codes, decimal};
 ghost use Rattle.arrayvec.specs.ArrayVec.{array_vec_len};
-ghost use Rattle.dc_parts.specs.FaultText.{table_fault_text};
-ghost use Rattle.dc_app.specs.Printed.{data_text, line_of, parity_text, status_text};
+ghost use Rattle.dc_print.specs.Words.{data_text, line_of, parity_text, status_text};
 
-use crate::text::{Text, append, append_number, decimal_5, digit_of, hex_5, hex_8, octal_3};
-use dc_parts::{Section, TableFault};
+use crate::text::{Text, append, decimal_5, digit_of, hex_5, hex_8, octal_3};
 use dc_word::{Format, Status, Word};
 use itoa::Buffer;
 
@@ -56,8 +54,8 @@ fn parity(is_odd: bool) -> &'static [u8]
 }
 
 /// The line of a word.
-#[tactic(auto, unfolding(crate::specs::Printed::line_of))]
-pub fn print(text: &mut Text, format: Format, word: Word)
+#[tactic(auto, unfolding(crate::specs::Words::line_of))]
+pub fn print_word(text: &mut Text, format: Format, word: Word)
     ensures { text.new.items ≡ line_of format word }
 {
     text.clear();
@@ -72,22 +70,4 @@ pub fn print(text: &mut Text, format: Format, word: Word)
     append(text, status(word.status(format)));
     append(text, b" parity=");
     append(text, parity(word.is_odd()));
-}
-
-/// The line of the first fault of a tables' text.
-pub fn print_table_fault(text: &mut Text, fault: TableFault)
-    ensures { text.new.items ≡ codes "unreadable " ++ table_fault_text fault }
-{
-    text.clear();
-    append(text, b"unreadable ");
-    append(text, fault.rule.code().as_bytes());
-    append(text, b" at ");
-    append(text, fault.section.text().as_bytes());
-    match fault.section {
-        Section::Top => {}
-        _ => {
-            append(text, b" ");
-            append_number(text, fault.index as u64);
-        }
-    }
 }

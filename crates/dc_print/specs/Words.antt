@@ -9,7 +9,7 @@ use Rattle.dc_word.specs.declared.word.DigitPlace.{DigitPlace}
 use Rattle.dc_word.specs.Bcd.{bcd_of, number_of}
 use Rattle.dc_word.specs.Format.{status_of}
 use Rattle.dc_word.specs.Word.{bnr_of, data_of, is_odd, label_of, sdi_of, ssm_of}
-use Rattle.dc_app.specs.Text.{five_decimal, five_hex, three_octal}
+use Rattle.dc_print.specs.Text.{five_decimal, five_hex, three_octal}
 use Rattle.dc_event.specs.WordText.{digit, eight_hex}
 
 -- the five digits of a decimal word, or its first place above 9

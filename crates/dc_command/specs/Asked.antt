@@ -1,0 +1,60 @@
+-- What a command line may ask.
+use Rattle.std.specs.Prelude.{◌≡◌, ◌≤◌, ℕ, Bool, true, false, List, Option, Some, None, IfSome, codes}
+use Rattle.std.specs.Str.Parse.{IsNumeral, digits_value, without_leading_plus}
+use Rattle.clap.specs.Matches.{first_value, found_of, one_text}
+use Rattle.clap.specs.Walk.{Row, Text, first_of, one_of}
+use Rattle.clap.specs.Simple.{subcommand_of}
+use Rattle.clap.specs.declared.builder.value_parser.ValueParser.{ValueParser}
+use Rattle.dc_word.specs.declared.format.Format.{Format}
+use Rattle.dc_word.specs.declared.format.Format.TheVariants.{Bnr, Bcd, Disc}
+use Rattle.dc_command.specs.Program.{program_app}
+use Rattle.dc_command.specs.declared.asked.Order.{Order}
+use Rattle.dc_command.specs.declared.asked.Order.TheVariants.{Decode, Check, Find, Replay, Audit}
+
+-- the text is this number of 1 to 64, in decimal
+abbrev pub IsCount : List ℕ → ℕ → Type 0
+IsCount text n = IsNumeral 10 (without_leading_plus text) × (digits_value 10 (without_leading_plus text) ≡ n) × (1 ≤ n) × (n ≤ 64)
+
+-- it is none of these
+abbrev pub IsNoCount : List ℕ → Type 0
+IsNoCount text = (n : ℕ) → IsCount text n → ⊥
+
+-- the number of workers that is said by a text, or none where there is no text
+abbrev pub AreGiven : Option (List ℕ) → Option ℕ → Type 0
+AreGiven None workers = workers ≡ None
+AreGiven (Some text) workers = (n : ℕ) × (workers ≡ Some n) × IsCount text n
+
+abbrev pub format_name : Format → List ℕ
+format_name Bnr = codes "bnr"
+format_name Bcd = codes "bcd"
+format_name Disc = codes "disc"
+
+-- a flag that is said by a text, or is not set where there is none
+abbrev pub IsSet : Option (List ℕ) → Bool → Type 0
+IsSet text set = (text ≡ None → set ≡ false) × (text ≡ Some (codes "true") → set ≡ true) × (text ≡ Some (codes "false") → set ≡ false)
+
+-- what the matches of the command of this name ask
+abbrev pub AsksBy : Text → List Row → Order → Type 0
+AsksBy name rows (Decode format) = (name ≡ codes "decode") × (first_of (codes "format") rows ≡ Some (format_name format))
+AsksBy name rows (Check tables certificate workers) =
+    (name ≡ codes "check") × (first_of (codes "TABLES") rows ≡ Some tables.now) × (first_of (codes "CERT") rows ≡ Some certificate.now)
+    × AreGiven (first_of (codes "workers") rows) workers
+AsksBy name rows (Find tables) = (name ≡ codes "find") × (first_of (codes "TABLES") rows ≡ Some tables.now)
+AsksBy name rows (Replay tables all) =
+    (name ≡ codes "replay") × (first_of (codes "TABLES") rows ≡ Some tables.now) × IsSet (one_of (codes "all") rows) all
+AsksBy name rows (Audit tables certificate) =
+    (name ≡ codes "audit") × (first_of (codes "TABLES") rows ≡ Some tables.now) × (first_of (codes "CERT") rows ≡ Some certificate.now)
+
+-- what a command and its matches ask
+abbrev pub Asks : Option (Text × List Row) → Order → Type 0
+Asks None order = ⊥
+Asks (Some (name, rows)) order = AsksBy name rows order
+
+-- what the words ask, of which the first is the program's name: what clap finds in them
+abbrev pub AsksIn : List Text → Order → Type 0
+AsksIn words order = (formats : ValueParser) × Asks (subcommand_of (program_app formats) words) order
+
+-- each number is in its range
+abbrev pub IsInRange : Order → Type 0
+IsInRange (Check tables certificate workers) = IfSome workers (λ n. (1 ≤ n) × (n ≤ 64))
+IsInRange _ = Unit {0}

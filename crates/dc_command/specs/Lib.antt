@@ -1,0 +1,3 @@
+-- What a command line may ask.
+pub mod Asked
+pub mod Program

@@ -1,0 +1,64 @@
+-- What clap reads of the commands that there are.
+use Rattle.std.specs.Prelude.{◌≡◌, Some, true, false, codes, pos}
+use Rattle.clap.specs.Words.{App, Rule, Text, app_of, fields_of, new_app, new_rule, with_rule, with_subcommand}
+use Rattle.clap.specs.Simple.{on_top}
+use Rattle.clap.specs.declared.builder.command.Command.{Command}
+use Rattle.clap.specs.declared.builder.action.ArgAction.TheVariants.{SetTrue}
+use Rattle.clap.specs.declared.builder.value_parser.ValueParser.{ValueParser}
+use Rattle.clap.specs.declared.builder.value_parser.ValueParser.TheVariants as vp
+
+-- a file that is wanted
+abbrev pub file_rule : Text → Rule
+file_rule id = record (new_rule id) { required = true }
+
+-- the format of words, read by this parser
+abbrev pub format_rule : ValueParser → Rule
+format_rule formats = record (new_rule (codes "format")) { required = true; parser = Some formats }
+
+-- `--workers`
+abbrev pub workers_rule : Rule
+workers_rule = record (new_rule (codes "workers")) {
+  long = Some (codes "workers");
+  value_names = 1;
+  parser = Some (vp.Signed (pos 1) (pos 64));
+}
+
+-- `--all`
+abbrev pub all_rule : Rule
+all_rule = record (new_rule (codes "all")) { long = Some (codes "all"); action = Some SetTrue }
+
+abbrev pub tables_app : Text → App
+tables_app name = with_rule (new_app name) (file_rule (codes "TABLES"))
+
+abbrev pub certificate_app : Text → App
+certificate_app name = with_rule (tables_app name) (file_rule (codes "CERT"))
+
+abbrev pub decode_app : ValueParser → App
+decode_app formats = with_rule (new_app (codes "decode")) (format_rule formats)
+
+abbrev pub check_app : App
+check_app = with_rule (certificate_app (codes "check")) workers_rule
+
+abbrev pub replay_app : App
+replay_app = with_rule (tables_app (codes "replay")) all_rule
+
+-- the program without its commands
+abbrev pub bare_app : App
+bare_app = on_top (λ s. record s { has_version = true; subcommand_required = true }) (new_app (codes "dc429"))
+
+-- the program, whose formats are read by this parser
+abbrev pub program_app : ValueParser → App
+program_app formats =
+    with_subcommand (with_subcommand (with_subcommand (with_subcommand (with_subcommand bare_app (decode_app formats).top)
+    check_app.top) (tables_app (codes "find")).top) replay_app.top) (certificate_app (codes "audit")).top
+
+-- clap reads this of a command, none of whose arguments is global
+abbrev pub IsRead : App → Command → Type 0
+IsRead app c = (app_of c ≡ app) × ((fields_of c).has_globals ≡ false)
+
+-- the same, whatever parser has the formats
+abbrev pub IsDecode : Command → Type 0
+IsDecode c = (formats : ValueParser) × IsRead (decode_app formats) c
+
+abbrev pub IsProgram : Command → Type 0
+IsProgram c = (formats : ValueParser) × IsRead (program_app formats) c

@@ -1,0 +1,169 @@
+//! What the words of a command line ask.
+ghost use Rattle.std.specs.Prelude.{codes, map, IfOk, IfSome, MatchResult};
+ghost use Rattle.std.specs.String.{string_bytes};
+ghost use Rattle.clap.specs.Words.{first_value, found_of, rows_of, subcommand_rows_of};
+ghost use Rattle.dc_command.specs.Asked.{AreGiven, Asks, AsksBy, AsksIn, IsCount, IsInRange, IsNoCount};
+
+use crate::known::program;
+use clap::error::ErrorKind;
+use clap::{ArgMatches, Error};
+use dc_word::Format;
+use std::alloc::Global;
+
+/// What is asked.
+#[derive(Clone, Copy, Debug, PartialEq, Eq)]
+pub enum Order<'a> {
+    /// Decode words in this format.
+    Decode(Format),
+    /// Judge the certificate in a file for the tables in another.
+    Check {
+        /// The path of the tables.
+        tables: &'a str,
+        /// The path of the certificate.
+        certificate: &'a str,
+        /// By how many workers, where that is said.
+        workers: Option<u8>,
+    },
+    /// Find the least certificate for the tables in a file.
+    Find {
+        /// The path of the tables.
+        tables: &'a str,
+    },
+    /// Replay the trace on standard input through the concentrator of the tables in a file.
+    Replay {
+        /// The path of the tables.
+        tables: &'a str,
+        /// Whether every reply is printed.
+        all: bool,
+    },
+    /// Audit the trace on standard input against the certificate in a file, for the tables in another.
+    Audit {
+        /// The path of the tables.
+        tables: &'a str,
+        /// The path of the certificate.
+        certificate: &'a str,
+    },
+}
+
+// A text says no number of workers.
+#[derive(Clone, Copy, Debug, PartialEq, Eq)]
+struct OutOfRange;
+
+// The number of workers that a text says.
+fn count_of(text: &str) -> Result<u8, OutOfRange>
+    ensures { MatchResult result (λ n. IsCount text.now n) (λ _. IsNoCount text.now) }
+{
+    match text.parse::<u8>() {
+        Ok(count) if 1 <= count && count <= 64 => Ok(count),
+        _ => Err(OutOfRange),
+    }
+}
+
+// The number of workers that the matches of `check` say.
+fn workers_in(matches: &ArgMatches<'_>) -> Result<Option<u8>, OutOfRange>
+    ensures { MatchResult result (AreGiven (first_value (found_of matches.now) (codes "workers"))) (λ _. IfSome (first_value (found_of matches.now) (codes "workers")) IsNoCount) }
+{
+    match matches.get_str("workers") {
+        Some(text) => match count_of(text) {
+            Ok(count) => Ok(Some(count)),
+            Err(out) => Err(out),
+        },
+        None => Ok(None),
+    }
+}
+
+// What the matches of `decode` ask.
+fn decode_in<'a>(matches: &ArgMatches<'a>) -> Option<Order<'a>>
+    ensures { IfSome result (AsksBy (codes "decode") (rows_of (found_of matches.now))) }
+{
+    match matches.get_str("format")? {
+        "bnr" => Some(Order::Decode(Format::Bnr)),
+        "bcd" => Some(Order::Decode(Format::Bcd)),
+        "disc" => Some(Order::Decode(Format::Disc)),
+        _ => None,
+    }
+}
+
+// What the matches of `check` ask.
+fn check_in<'a>(matches: &ArgMatches<'a>) -> Option<Order<'a>>
+    ensures { IfSome result (AsksBy (codes "check") (rows_of (found_of matches.now))) }
+{
+    let tables = matches.get_str("TABLES")?;
+    let certificate = matches.get_str("CERT")?;
+    match workers_in(matches) {
+        Ok(workers) => Some(Order::Check {
+            tables,
+            certificate,
+            workers,
+        }),
+        Err(_) => None,
+    }
+}
+
+// What the matches of `find` ask.
+fn find_in<'a>(matches: &ArgMatches<'a>) -> Option<Order<'a>>
+    ensures { IfSome result (AsksBy (codes "find") (rows_of (found_of matches.now))) }
+{
+    let tables = matches.get_str("TABLES")?;
+    Some(Order::Find { tables })
+}
+
+// What the matches of `replay` ask.
+fn replay_in<'a>(matches: &ArgMatches<'a>) -> Option<Order<'a>>
+    ensures { IfSome result (AsksBy (codes "replay") (rows_of (found_of matches.now))) }
+{
+    let tables = matches.get_str("TABLES")?;
+    let all = matches.get_flag("all");
+    Some(Order::Replay { tables, all })
+}
+
+// What the matches of `audit` ask.
+fn audit_in<'a>(matches: &ArgMatches<'a>) -> Option<Order<'a>>
+    ensures { IfSome result (AsksBy (codes "audit") (rows_of (found_of matches.now))) }
+{
+    let tables = matches.get_str("TABLES")?;
+    let certificate = matches.get_str("CERT")?;
+    Some(Order::Audit {
+        tables,
+        certificate,
+    })
+}
+
+// What the matches of a command of this name ask, where they have what is required.
+fn order_by<'a>(name: &str, matches: &ArgMatches<'a>) -> Option<Order<'a>>
+    ensures { IfSome result (AsksBy name.now (rows_of (found_of matches.now))) }
+{
+    match name {
+        "decode" => decode_in(matches),
+        "check" => check_in(matches),
+        "find" => find_in(matches),
+        "replay" => replay_in(matches),
+        "audit" => audit_in(matches),
+        _ => None,
+    }
+}
+
+// What the matches of the program ask.
+fn order_in<'a>(matches: &ArgMatches<'a>) -> Option<Order<'a>>
+    ensures { IfSome result (Asks (subcommand_rows_of matches.now)) }
+{
+    let (name, matches) = matches.subcommand()?;
+    order_by(name, matches)
+}
+
+/// What the words ask, of which the first is the program's name.
+///
+/// # Errors
+/// With clap's text, which is to be printed, and its exit code: where the words ask for help or the version, or are no
+/// command line of the program; and where memory was refused.
+pub fn command<'a>(alloc: Global, words: &'a [String]) -> Result<Order<'a>, Error>
+    ensures asks { IfOk result (AsksIn (map string_bytes words.now)) }
+    ensures range { IfOk result IsInRange }
+{
+    let mut program = program(alloc)?;
+    let matches = program.try_get_matches_from_mut(words)?;
+    match order_in(&matches) {
+        Some(order) => Ok(order),
+        None => Err(program.error(ErrorKind::InvalidValue, "a value is out of its range")?),
+    }
+}

@@ -1,0 +1,92 @@
+//! The commands that there are, with their arguments and what is said of them.
+use clap::{Arg, ArgAction, Command, Error, value_parser};
+use std::alloc::Global;
+
+// A file that is read.
+fn file<'a>(alloc: Global, name: &'a str, help: &'a str) -> Arg<'a> {
+    Arg::new(alloc, name).help(help).required(true)
+}
+
+// A subcommand that reads tables.
+fn on_tables<'a>(alloc: Global, name: &'a str, about: &'a str) -> Result<Command<'a>, Error> {
+    Ok(
+        Command::new(alloc, name)
+            .about(about)
+            .arg(file(alloc, "TABLES", "The tables, in TOML"))?,
+    )
+}
+
+// A subcommand that reads tables and a certificate.
+fn on_certificate<'a>(alloc: Global, name: &'a str, about: &'a str) -> Result<Command<'a>, Error> {
+    Ok(on_tables(alloc, name, about)?.arg(file(alloc, "CERT", "The certificate, in JSON"))?)
+}
+
+fn decode<'a>(alloc: Global) -> Result<Command<'a>, Error> {
+    let format = Arg::new(alloc, "format")
+        .help("How the data of the words is written")
+        .required(true)
+        .value_parser(["bnr", "bcd", "disc"].as_slice());
+    Ok(
+        Command::new(alloc, "decode")
+            .about("Decodes ARINC 429 words from standard input, one a line")
+            .arg(format)?,
+    )
+}
+
+fn check<'a>(alloc: Global) -> Result<Command<'a>, Error> {
+    let workers = Arg::new(alloc, "workers")
+        .long("workers")
+        .value_name("N")
+        .help("Checks by so many threads, 1 to 64")
+        .value_parser(value_parser!(u8).range(1..=64));
+    let check = on_certificate(
+        alloc,
+        "check",
+        "Judges a certificate for tables, and prints the verdict",
+    )?;
+    Ok(check.arg(workers)?)
+}
+
+fn find<'a>(alloc: Global) -> Result<Command<'a>, Error> {
+    on_tables(
+        alloc,
+        "find",
+        "Finds the least certificate for tables, or what stands in the way of one",
+    )
+}
+
+fn replay<'a>(alloc: Global) -> Result<Command<'a>, Error> {
+    let all = Arg::new(alloc, "all")
+        .long("all")
+        .help("Prints every reply, and not only words that are sent or lost")
+        .action(ArgAction::SetTrue);
+    let replay = on_tables(
+        alloc,
+        "replay",
+        "Replays the trace on standard input through the concentrator of the tables",
+    )?;
+    Ok(replay.arg(all)?)
+}
+
+fn audit<'a>(alloc: Global) -> Result<Command<'a>, Error> {
+    on_certificate(
+        alloc,
+        "audit",
+        "Audits the trace on standard input: its budgets, its sources, and the claims of a certificate",
+    )
+}
+
+/// The program with its commands.
+pub fn program<'a>(alloc: Global) -> Result<Command<'a>, Error> {
+    Ok(
+        Command::new(alloc, "dc429")
+            .about("An ARINC 429 concentrator that is certified before it flies")
+            .version("0.1.0")
+            .subcommand_required(true)
+            .subcommand(decode(alloc)?)?
+            .subcommand(check(alloc)?)?
+            .subcommand(find(alloc)?)?
+            .subcommand(replay(alloc)?)?
+            .subcommand(audit(alloc)?)?,
+    )
+}

@@ -1,0 +1,12 @@
+//! The lines that the commands print, made without memory: of words, of verdicts, of texts that can't be read.
+#![tactic(auto)]
+
+mod text;
+mod verdicts;
+mod words;
+
+pub use text::{Text, append, append_number, digit_of, hex_8};
+pub use verdicts::{
+    append_member, print_accepted, print_cert_fault, print_refused, print_table_fault,
+};
+pub use words::print_word;
