@@ -1,13 +1,9 @@
 -- What the matches of a command say, as rows.
-use Rattle.std.proofs.Common.{◌≡◌, ◌∙◌, ℕ, List, Bor, sym, subst, Option, Some, None, option_map, IfSome}
-use Rattle.clap.specs.Words.{Row, Text, first_of, first_value, found_of, one_of, one_text, rows_of, subcommand_rows_of}
-use Rattle.clap.specs.Matches.{subcommand_name_of}
+use Rattle.std.proofs.Common.{◌≡◌, ◌∙◌, ℕ, Bool, true, false, codes, sym, subst, Option, Some, None}
+use Rattle.clap.specs.Words.{Text, first_of, first_value, one_of, one_text, rows_of}
 use Rattle.clap.specs.declared.parser.matches.Found.{Found}
-use Rattle.clap.specs.declared.parser.matches.ArgMatches.{ArgMatches}
-use Rattle.clap.specs.declared.parser.matches.ArgMatches.TheViews.{out-ArgMatches}
 use Rattle.clap.proofs.WalkLemmas.{first_value-rows, one_text-rows}
-use Rattle.dc_command.specs.Asked.{AreGiven, Asks, AsksBy, IsSet}
-use Rattle.dc_command.specs.declared.asked.Order.{Order}
+use Rattle.dc_command.specs.Asked.{AreGiven, IsSet}
 
 -- a text that is given
 pub text_given : (f : Found) (id text : Text) → Some text ≡ first_value f id → first_of id (rows_of f) ≡ Some text
@@ -16,3 +12,8 @@ text_given f id text is = sym (is ∙ first_value-rows f id)
 -- the number of workers
 pub workers_given : (f : Found) (id : Text) (workers : Option ℕ) → AreGiven (first_value f id) workers → AreGiven (first_of id (rows_of f)) workers
 workers_given f id workers given = subst (λ o. AreGiven o workers) (first_value-rows f id) given
+
+-- a flag
+pub flag_given : (f : Found) (id : Text) (set : Bool) → (one_text f id ≡ None → set ≡ false) → (one_text f id ≡ Some (codes "true") → set ≡ true)
+    → (one_text f id ≡ Some (codes "false") → set ≡ false) → IsSet (one_of id (rows_of f)) set
+flag_given f id set none on off = subst (λ o. IsSet o set) (one_text-rows f id) (none, on, off)

@@ -1,8 +1,9 @@
 -- What clap reads of the commands that there are.
 use Rattle.std.specs.Prelude.{◌≡◌, Some, true, false, codes, pos}
-use Rattle.clap.specs.Words.{App, Rule, Text, app_of, fields_of, new_app, new_rule, with_rule, with_subcommand}
+use Rattle.clap.specs.Words.{App, Rule, Text, app_of, new_app, new_rule, with_rule, with_subcommand}
 use Rattle.clap.specs.Simple.{on_top}
 use Rattle.clap.specs.declared.builder.command.Command.{Command}
+use Rattle.clap.specs.declared.builder.command.Command.TheViews.{out-Command}
 use Rattle.clap.specs.declared.builder.action.ArgAction.TheVariants.{SetTrue}
 use Rattle.clap.specs.declared.builder.value_parser.ValueParser.{ValueParser}
 use Rattle.clap.specs.declared.builder.value_parser.ValueParser.TheVariants as vp
@@ -54,7 +55,7 @@ program_app formats =
 
 -- clap reads this of a command, none of whose arguments is global
 abbrev pub IsRead : App → Command → Type 0
-IsRead app c = (app_of c ≡ app) × ((fields_of c).has_globals ≡ false)
+IsRead app c = (app_of c ≡ app) × ((out-Command c).has_globals ≡ false)
 
 -- the same, whatever parser has the formats
 abbrev pub IsDecode : Command → Type 0

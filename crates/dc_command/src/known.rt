@@ -1,14 +1,23 @@
 //! The commands that there are, with their arguments and what is said of them.
+ghost use Rattle.std.specs.Prelude.{◌≡◌, false, codes, IfOk};
+ghost use Rattle.clap.specs.Words.{rule_of};
+ghost use Rattle.dc_command.specs.Program.{IsDecode, IsProgram, IsRead, bare_app, certificate_app, check_app, file_rule, replay_app, tables_app};
+
 use clap::{Arg, ArgAction, Command, Error, value_parser};
 use std::alloc::Global;
 
 // A file that is read.
-fn file<'a>(alloc: Global, name: &'a str, help: &'a str) -> Arg<'a> {
+fn file<'a>(alloc: Global, name: &'a str, help: &'a str) -> Arg<'a>
+    ensures rule { rule_of result ≡ file_rule name.entry.now }
+    ensures local { result.global ≡ false }
+{
     Arg::new(alloc, name).help(help).required(true)
 }
 
 // A subcommand that reads tables.
-fn on_tables<'a>(alloc: Global, name: &'a str, about: &'a str) -> Result<Command<'a>, Error> {
+fn on_tables<'a>(alloc: Global, name: &'a str, about: &'a str) -> Result<Command<'a>, Error>
+    ensures { IfOk result (IsRead (tables_app name.entry.now)) }
+{
     Ok(
         Command::new(alloc, name)
             .about(about)
@@ -17,11 +26,15 @@ fn on_tables<'a>(alloc: Global, name: &'a str, about: &'a str) -> Result<Command
 }
 
 // A subcommand that reads tables and a certificate.
-fn on_certificate<'a>(alloc: Global, name: &'a str, about: &'a str) -> Result<Command<'a>, Error> {
+fn on_certificate<'a>(alloc: Global, name: &'a str, about: &'a str) -> Result<Command<'a>, Error>
+    ensures { IfOk result (IsRead (certificate_app name.entry.now)) }
+{
     Ok(on_tables(alloc, name, about)?.arg(file(alloc, "CERT", "The certificate, in JSON"))?)
 }
 
-fn decode<'a>(alloc: Global) -> Result<Command<'a>, Error> {
+fn decode<'a>(alloc: Global) -> Result<Command<'a>, Error>
+    ensures { IfOk result IsDecode }
+{
     let format = Arg::new(alloc, "format")
         .help("How the data of the words is written")
         .required(true)
@@ -33,7 +46,9 @@ fn decode<'a>(alloc: Global) -> Result<Command<'a>, Error> {
     )
 }
 
-fn check<'a>(alloc: Global) -> Result<Command<'a>, Error> {
+fn check<'a>(alloc: Global) -> Result<Command<'a>, Error>
+    ensures { IfOk result (IsRead check_app) }
+{
     let workers = Arg::new(alloc, "workers")
         .long("workers")
         .value_name("N")
@@ -47,7 +62,9 @@ fn check<'a>(alloc: Global) -> Result<Command<'a>, Error> {
     Ok(check.arg(workers)?)
 }
 
-fn find<'a>(alloc: Global) -> Result<Command<'a>, Error> {
+fn find<'a>(alloc: Global) -> Result<Command<'a>, Error>
+    ensures { IfOk result (IsRead (tables_app (codes "find"))) }
+{
     on_tables(
         alloc,
         "find",
@@ -55,7 +72,9 @@ fn find<'a>(alloc: Global) -> Result<Command<'a>, Error> {
     )
 }
 
-fn replay<'a>(alloc: Global) -> Result<Command<'a>, Error> {
+fn replay<'a>(alloc: Global) -> Result<Command<'a>, Error>
+    ensures { IfOk result (IsRead replay_app) }
+{
     let all = Arg::new(alloc, "all")
         .long("all")
         .help("Prints every reply, and not only words that are sent or lost")
@@ -68,7 +87,9 @@ fn replay<'a>(alloc: Global) -> Result<Command<'a>, Error> {
     Ok(replay.arg(all)?)
 }
 
-fn audit<'a>(alloc: Global) -> Result<Command<'a>, Error> {
+fn audit<'a>(alloc: Global) -> Result<Command<'a>, Error>
+    ensures { IfOk result (IsRead (certificate_app (codes "audit"))) }
+{
     on_certificate(
         alloc,
         "audit",
@@ -76,13 +97,22 @@ fn audit<'a>(alloc: Global) -> Result<Command<'a>, Error> {
     )
 }
 
+// The program without its commands.
+fn bare<'a>(alloc: Global) -> Command<'a>
+    ensures { IsRead bare_app result }
+{
+    Command::new(alloc, "dc429")
+        .about("An ARINC 429 concentrator that is certified before it flies")
+        .version("0.1.0")
+        .subcommand_required(true)
+}
+
 /// The program with its commands.
-pub fn program<'a>(alloc: Global) -> Result<Command<'a>, Error> {
+pub fn program<'a>(alloc: Global) -> Result<Command<'a>, Error>
+    ensures { IfOk result IsProgram }
+{
     Ok(
-        Command::new(alloc, "dc429")
-            .about("An ARINC 429 concentrator that is certified before it flies")
-            .version("0.1.0")
-            .subcommand_required(true)
+        bare(alloc)
             .subcommand(decode(alloc)?)?
             .subcommand(check(alloc)?)?
             .subcommand(find(alloc)?)?

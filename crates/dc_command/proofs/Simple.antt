@@ -1,0 +1,26 @@
+-- The program is a simple one: clap finds in words what its definitions say.
+use Rattle.std.proofs.Common.{◌≡◌, ◌∙◌, ◌||◌, ap, ap₂, refl, subst, true, List}
+use Rattle.clap.specs.Words.{AddsSubcommand, App, HasMatchesOf, Text, is_simple, subcommand_of, subcommand_rows_of, with_subcommand}
+use Rattle.clap.specs.declared.builder.command.Command.{Command}
+use Rattle.clap.specs.declared.builder.value_parser.ValueParser.{ValueParser}
+use Rattle.clap.specs.declared.parser.matches.ArgMatches.{ArgMatches}
+use Rattle.clap.proofs.OnLiterals.{clap_on_literals}
+use Rattle.dc_command.specs.Asked.{Asks, AsksIn}
+use Rattle.dc_command.specs.Program.{IsRead, program_app}
+use Rattle.dc_command.specs.declared.asked.Order.{Order}
+
+-- one command more
+pub one_more : (old sub new : Command) (app sub_app : App) → IsRead app old → IsRead sub_app sub → AddsSubcommand old sub new → IsRead (with_subcommand app sub_app.top) new
+one_more old sub new app sub_app (is, local) (sub_is, sub_local) adds =
+    (adds.shape sub_local ∙ ap₂ with_subcommand is (ap (λ (a : App). a.top) sub_is), adds.globals ∙ ap₂ (λ x y. x || y) local sub_local)
+
+is_plain : (formats : ValueParser) → is_simple (program_app formats) ≡ true
+unfolding clap_on_literals
+is_plain formats = refl
+
+-- what the matches ask, the words ask
+pub words_ask : (formats : ValueParser) (app : App) (words : List Text) (m : ArgMatches) (order : Order) → app ≡ program_app formats → HasMatchesOf app words m
+    → Asks (subcommand_rows_of m) order → AsksIn words order
+words_ask formats app words m order is has asks =
+    let found = (has (ap is_simple is ∙ is_plain formats)).1 ∙ ap (λ a. subcommand_of a words) is in
+    (formats, subst (λ r. Asks r order) found asks)

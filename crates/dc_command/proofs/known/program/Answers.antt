@@ -1,0 +1,11 @@
+use Rattle.dc_command.proofs.Simple.{one_more}
+use Rattle.dc_command.proofs.known.program.Goals as goal
+
+pub returns : goal.returns
+returns c =
+    let decode = c.in_ok-decode.ensures in
+    let one = one_more _ _ _ _ _ c.bare.ensures decode.1 c.in_ok-subcommand.ensures in
+    let two = one_more _ _ _ _ _ one c.in_ok-check.ensures c.in_ok-subcommand-2.ensures in
+    let three = one_more _ _ _ _ _ two c.in_ok-find.ensures c.in_ok-subcommand-3.ensures in
+    let four = one_more _ _ _ _ _ three c.in_ok-replay.ensures c.in_ok-subcommand-4.ensures in
+    (decode.0, one_more _ _ _ _ _ four c.in_ok-audit.ensures c.in_ok-subcommand-5.ensures)
