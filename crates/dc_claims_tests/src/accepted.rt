@@ -23,7 +23,7 @@ const RUNS: u32 = 3;
 const TICKS: u64 = 90;
 
 /// How many runs there were, how many of them kept budgets and sources, and how many words were copied in these.
-#[derive(Clone, Copy, Debug, Default)]
+#[derive(Clone, Copy, Default)]
 struct Counts {
     runs: u32,
     kept: u32,

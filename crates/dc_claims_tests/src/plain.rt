@@ -5,7 +5,7 @@ use dc_event::Claim;
 use dc_word::Word;
 
 /// A word that a label copies: its stream, and the ticks in which it came and was routed.
-#[derive(Clone, Copy, Debug)]
+#[derive(Clone, Copy)]
 struct Copied {
     stream: usize,
     word: Word,
@@ -126,6 +126,23 @@ fn fresh(
     Some(copied)
 }
 
+/// The same; where `usable` is set, only a word that the label can use.
+fn fresh_where(
+    streams: &[StreamRow],
+    steps: &[Step],
+    row: &LabelRow,
+    stream: usize,
+    now: u32,
+    usable: bool,
+) -> Option<Copied> {
+    let copied = fresh(streams, steps, row, stream, now)?;
+    let fits = copied.word.usable(row.format);
+    if usable && !fits {
+        return None;
+    }
+    Some(copied)
+}
+
 /// The first of the label's fresh words; where `usable` is set, the first usable one.
 fn first_fresh(
     streams: &[StreamRow],
@@ -135,10 +152,9 @@ fn first_fresh(
     usable: bool,
 ) -> Option<Copied> {
     for source in row.sources.as_slice() {
-        if let Some(copied) = fresh(streams, steps, row, *source, now) {
-            if !usable || copied.word.usable(row.format) {
-                return Some(copied);
-            }
+        let copied = fresh_where(streams, steps, row, *source, now, usable);
+        if copied.is_some() {
+            return copied;
         }
     }
     None

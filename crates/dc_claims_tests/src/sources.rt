@@ -9,7 +9,7 @@ use std::alloc::{AllocError, Global};
 
 /// A source of words: the bus, the label and the SDI of its words, its least interval, and the tick from which on it may
 /// send again.
-#[derive(Clone, Copy, Debug)]
+#[derive(Clone, Copy)]
 pub struct Source {
     bus: usize,
     label: Label,
@@ -20,7 +20,7 @@ pub struct Source {
 
 /// How a run is drawn: the format of its words; whether each of them is usable; whether some come too soon, and whether
 /// some steps are left out.
-#[derive(Clone, Copy, Debug)]
+#[derive(Clone, Copy)]
 pub struct Manner {
     pub format: Format,
     pub usable: bool,

@@ -3,19 +3,19 @@
 use dc_cert::Certificate;
 use dc_event::{Event, Reply};
 use dc_oracle::outputs;
-use dc_tables::Tables;
+use dc_tables::{OutputLabel, Tables};
 use dc_word::{Format, Label, Sdi, Word};
 use std::alloc::{AllocError, Global};
 
 /// A stream: its bus, and its greatest interval.
-#[derive(Clone, Copy, Debug)]
+#[derive(Clone, Copy)]
 pub struct StreamRow {
     pub bus: usize,
     pub maximum: u32,
 }
 
 /// A label that an output sends, with its age in the certificate.
-#[derive(Debug, Drop)]
+#[derive(Drop)]
 pub struct LabelRow {
     pub output: usize,
     pub label: Label,
@@ -29,7 +29,7 @@ pub struct LabelRow {
 }
 
 /// What happened at an event.
-#[derive(Clone, Copy, Debug, PartialEq)]
+#[derive(Clone, Copy, PartialEq)]
 pub enum Kind {
     Queued,
     Overrun,
@@ -41,7 +41,7 @@ pub enum Kind {
 
 /// An event of a run: the tick in which it happened, the bus and the stream of its word, or the number of the label that
 /// it sends.
-#[derive(Clone, Copy, Debug)]
+#[derive(Clone, Copy)]
 pub struct Step {
     pub kind: Kind,
     pub tick: u32,
@@ -64,30 +64,27 @@ pub fn stream_rows(alloc: Global, tables: &Tables) -> Result<Vec<StreamRow>, All
     Ok(rows)
 }
 
-/// A label of tables.
-fn label_row(
-    alloc: Global,
-    tables: &Tables,
-    certificate: &Certificate,
-    label: usize,
-) -> Result<Option<LabelRow>, AllocError> {
-    if label >= tables.label_count() {
-        return Ok(None);
-    }
-    let row = tables.label(label);
-    let sources = row.sources.as_slice().to_vec(alloc)?;
-    let age = certificate.labels.get(label).map_or(0, |claim| claim.age);
-    Ok(Some(LabelRow {
+/// A label of tables, with its age.
+fn label_row(alloc: Global, row: &OutputLabel, age: u32) -> Result<LabelRow, AllocError> {
+    Ok(LabelRow {
         output: row.output,
         label: row.label,
         sdi: row.sdi,
         format: row.format,
-        sources,
+        sources: row.sources.as_slice().to_vec(alloc)?,
         stale: row.stale,
         minimum: row.minimum,
         maximum: row.maximum,
         age,
-    }))
+    })
+}
+
+/// The age that a certificate claims of the label of this number.
+fn age_of(certificate: &Certificate, label: usize) -> u32 {
+    match certificate.labels.get(label) {
+        Some(row) => row.age,
+        None => 0,
+    }
 }
 
 /// The labels of tables.
@@ -98,9 +95,8 @@ pub fn label_rows(
 ) -> Result<Vec<LabelRow>, AllocError> {
     let mut rows = Vec::new(alloc);
     for label in 0..tables.label_count() {
-        if let Some(row) = label_row(alloc, tables, certificate, label)? {
-            rows.push(row)?;
-        }
+        let age = age_of(certificate, label);
+        rows.push(label_row(alloc, tables.label(label), age)?)?;
     }
     Ok(rows)
 }
@@ -139,27 +135,48 @@ fn kind_of(reply: &Reply) -> Kind {
     }
 }
 
-/// The step of an event and its reply.
-fn step_of(tables: &Tables, labels: &[LabelRow], tick: u32, event: &Event, reply: &Reply) -> Step {
-    match (*event, *reply) {
-        (Event::Arrive(bus, word), _) => word_step(tables, kind_of(reply), tick, bus, word),
-        (_, Reply::Took(bus, word)) => word_step(tables, Kind::Took, tick, bus, word),
-        (Event::Send(output), Reply::Sent(label, word)) => Step {
+/// An event that no claim asks about.
+fn other_step(tick: u32) -> Step {
+    Step {
+        kind: Kind::Other,
+        tick,
+        bus: 0,
+        stream: None,
+        label: None,
+        word: Word(0),
+    }
+}
+
+/// A step of a router.
+fn route_step(tables: &Tables, tick: u32, reply: &Reply) -> Step {
+    match reply {
+        Reply::Took(bus, word) => word_step(tables, Kind::Took, tick, *bus, *word),
+        _ => other_step(tick),
+    }
+}
+
+/// A send step of an output.
+fn send_step(labels: &[LabelRow], tick: u32, output: usize, reply: &Reply) -> Step {
+    match reply {
+        Reply::Sent(label, word) => Step {
             kind: Kind::Sent,
             tick,
             bus: 0,
             stream: None,
-            label: label_sent(labels, output, label, word),
-            word,
+            label: label_sent(labels, output, *label, *word),
+            word: *word,
         },
-        _ => Step {
-            kind: Kind::Other,
-            tick,
-            bus: 0,
-            stream: None,
-            label: None,
-            word: Word(0),
-        },
+        _ => other_step(tick),
+    }
+}
+
+/// The step of an event and its reply.
+fn step_of(tables: &Tables, labels: &[LabelRow], tick: u32, event: &Event, reply: &Reply) -> Step {
+    match event {
+        Event::Arrive(bus, word) => word_step(tables, kind_of(reply), tick, *bus, *word),
+        Event::Route(_) => route_step(tables, tick, reply),
+        Event::Send(output) => send_step(labels, tick, *output, reply),
+        Event::Tick => other_step(tick),
     }
 }
 
