@@ -1,12 +1,11 @@
 //! Floods of words on a policed bus whose certificate is accepted: early words are refused, and no queue overruns.
 
-use crate::chance::Chance;
-use crate::events::random_word;
 use dc_cert::read_cert;
 use dc_check::check;
 use dc_core::Core;
 use dc_event::{Event, Reply};
 use dc_toml::read_tables;
+use dc_trials::{Chance, random_word};
 use std::alloc::{AllocError, Global};
 use std::process::Abort;
 use std::rt::HostRuntime;

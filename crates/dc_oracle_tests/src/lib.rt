@@ -3,11 +3,7 @@
 #![tactic(auto)]
 
 #[cfg(test)]
-mod chance;
-#[cfg(test)]
 mod claimed;
-#[cfg(test)]
-mod events;
 #[cfg(test)]
 mod fixture;
 #[cfg(test)]
@@ -18,7 +14,5 @@ mod judging;
 mod recorded;
 #[cfg(test)]
 mod runs;
-#[cfg(test)]
-mod tables;
 #[cfg(test)]
 mod worked;

@@ -1,14 +1,12 @@
 //! The concentrator and the second opinion, run by run.
 
-use crate::chance::Chance;
-use crate::events::random_event;
 use crate::judging::refusal;
-use crate::tables::push_tables;
 use dc_core::{Core, StepFault};
 use dc_event::{Event, Reply};
 use dc_oracle::{keeps_budgets, outputs};
 use dc_tables::Tables;
 use dc_toml::read_tables;
+use dc_trials::{Chance, TIGHT, push_tables, random_event};
 use std::alloc::{AllocError, Global};
 use std::process::Abort;
 use std::rt::HostRuntime;
@@ -154,7 +152,7 @@ fn run_tables(
     counts: &mut [u32],
 ) -> Result<(), Fail> {
     let mut text = String::new(alloc);
-    push_tables(&mut text, chance)?;
+    push_tables(&mut text, chance, &TIGHT)?;
     let tables = Arc::new(alloc, read_tables(alloc, text.as_bytes())?)?;
     let shared = Arc::try_clone(&tables)?;
     let mut core = Core::new(alloc, shared)?;

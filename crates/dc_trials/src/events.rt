@@ -27,7 +27,7 @@ pub fn random_word(chance: &mut Chance) -> Word {
     Word(bits ^ 0x8000_0000)
 }
 
-/// An event.
+/// An event of the tables, or, once in a while, one whose number is not in them.
 pub fn random_event(chance: &mut Chance, tables: &Tables) -> Event {
     match chance.below(16) {
         0..=3 => Event::Tick,
