@@ -3,8 +3,8 @@
 ghost use Rattle.std.specs.Prelude.{◌≡◌, ℕ, ◌<◌, ◌≤◌, length, slice_index};
 
 use crate::{
-    Alike, ArrivalBound, Both, Capped, Cyclic, Jittered, Paced, ServiceBound, Sporadic, SumOf, Visits,
-    Wire,
+    Alike, ArrivalBound, Both, Capped, Cyclic, Jittered, Paced, ServiceBound, Sporadic, SumOf,
+    Visits, Wire,
 };
 use std::process::Abort;
 
@@ -55,7 +55,11 @@ fn alike_sources_bring_so_many_times_the_cap_of_one(rt: HostRuntime) {
     );
     let many = Alike::new(1024, Jittered::new(1, 1_000_000_000));
     assert_caps(&rt, &many, &[(0, 0), (1_000_000, 1_025_024_000_000)]);
-    assert_caps(&rt, &Alike::new(1, Jittered::new(10, 0)), &[(10, 1), (11, 2)]);
+    assert_caps(
+        &rt,
+        &Alike::new(1, Jittered::new(10, 0)),
+        &[(10, 1), (11, 2)],
+    );
 }
 
 #[test]
