@@ -1,7 +1,7 @@
-// The same search in plain Rust, with nothing proved: 64 buses of 16 streams of minimum 10 ticks on a wire of 350
-// microseconds a word. The least window is searched between the jumps of the arrival bound by halves, the backlog and
+// The same search in plain Rust, with nothing proved: 64 buses of 16 streams of minimum 10 ticks, or of 10 to 25, on a
+// wire of 350 microseconds a word. The least window is searched between the jumps of the arrival bound by halves, the backlog and
 // the delay at the jumps.
-// usage: peer near | far | never
+// usage: peer near | far | never | mixed
 const TICK_US: u64 = 1000;
 const SPACING_US: u64 = 350;
 const LAST: u64 = 100_000;
@@ -92,10 +92,12 @@ fn main() {
     let kind = std::env::args().nth(1).unwrap();
     let near = kind == "near";
     for b in 0..64 {
-        let steps = if near { 2 } else if kind == "never" && b == 63 { 800 } else { 801 };
+        let mixed = kind == "mixed";
+        let steps = if near { 2 } else if mixed { 989 } else if kind == "never" && b == 63 { 800 } else { 801 };
         // what a program that reads its tables cannot know
-        let streams = std::hint::black_box(vec![(10, if near { 0 } else { 110 }); 16]);
-        let bus = Bus { streams, steps, within: if near { 1 } else { 500 } };
+        let jitter = if near { 0 } else { 110 };
+        let streams = (0..16).map(|n| (if mixed { 10 + n } else { 10 }, jitter)).collect();
+        let bus = std::hint::black_box(Bus { streams, steps, within: if near { 1 } else if mixed { 1000 } else { 500 } });
         match bus.least_window() {
             None => println!("refused F1 input B{b}"),
             Some(window) => println!("B{b} {window} {} {}", bus.most_backlog(window), bus.least_delay(window)),

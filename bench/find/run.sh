@@ -1,7 +1,7 @@
 #!/bin/sh
-# Finds the least certificates of the largest tables, of tables whose windows close only near 100,000 ticks, and of tables
-# where none closes, and compares with a plain Rust program that makes the same search. The product reads its file too;
-# the first row shows what that takes.
+# Finds the least certificates of the largest tables, of tables whose windows close only near 100,000 ticks, of tables
+# where none closes, and of tables whose streams all differ, and compares with a plain Rust program that makes the same
+# search. The product reads its file too; the first row shows what that takes.
 # usage: bench/find/run.sh PROGRAM
 set -eu
 program=$1
@@ -17,7 +17,7 @@ best() { # seconds, the best of five
     done
     echo "$b"
 }
-for kind in near far never; do
+for kind in near far never mixed; do
     "$here/tables.sh" $kind > "$work/tables.toml"
     peer=$(best "$work/peer" $kind); tail -n 1 "$work/out"
     product=$(best "$program" find "$work/tables.toml"); cut -c 1-70 "$work/out"
