@@ -19,7 +19,7 @@ awk -v libraries="$libraries" '
         for (at = 1; at <= count; at++)
             if (parts[at] in stands_on && !(parts[at] in taken)) { taken[parts[at]]; take(stands_on[parts[at]]) }
     }
-    /^[a-z]/ { crate = $1; sub(":", "", crate); $1 = ""; stands_on[crate] = $0 }
+    /^[a-z]/ { at = index($0, ":"); split(substr($0, 1, at - 1), head, " "); stands_on[head[1]] = substr($0, at + 1) }
     END { take(libraries); for (crate in taken) print crate ":" stands_on[crate] }' "$root/crates.txt" > "$work/crates.txt"
 for crate in $(sed 's/:.*//' "$work/crates.txt"); do
     cp -a "$root/crates/$crate" "$work/crates/"

@@ -1,6 +1,6 @@
-//! Four million calls on a plain Rust concentrator with a list of entries under a `Mutex`: of one thread that makes a lap of
-//! four calls again and again (argument `laps`), or of a thread for each of four wires (`wires`); or a hundred million
-//! plain atomic loads (`reads`). With `receipts` behind it each actor keeps what it was answered, as the seats of the hub do.
+//! Calls on a plain Rust concentrator with a list of entries under a `Mutex`, long rounds and short ones: of one thread that
+//! makes a lap of four calls again and again (argument `laps`), or of a thread for each of four wires (`wires`); or plain
+//! atomic loads (`reads`). With `receipts` behind it each actor keeps what it was answered, as the seats of the hub do.
 #[allow(dead_code)]
 #[path = "../core/concentrator.rs"]
 mod concentrator;
@@ -11,8 +11,8 @@ use std::sync::atomic::{AtomicU64, Ordering};
 use std::sync::Mutex;
 use std::time::Instant;
 
-const CALLS: u64 = 4_000_000;
-const READS: u64 = 100_000_000;
+const LONG: u64 = 4_000_000;
+const SHORT: u64 = 100_000;
 
 #[derive(Clone, Copy)]
 struct Entry { event: Event, reply: Reply }
@@ -42,23 +42,23 @@ fn call(book: &Mutex<Book>, seat: &mut Seat, event: Event) {
     seat.sum = seat.sum.wrapping_mul(3).wrapping_add(number_of(said.map(|receipt| receipt.reply)));
 }
 
-fn report(what: &str, start: Instant, sum: u64) {
-    println!("{what} {} sum {sum}", start.elapsed().as_micros());
+fn report(what: &str, calls: u64, start: Instant, sum: u64) {
+    println!("{what}-{calls} {} sum {sum}", start.elapsed().as_nanos());
 }
 
-fn laps(keeps: bool, word: u32) {
+fn laps(keeps: bool, word: u32, calls: u64) {
     let book = Mutex::new(Book { core: core(1, &black_box([0o203, 0o204]), 2, 1, 22), entries: Vec::new() });
     let start = Instant::now();
     let mut seat = Seat::new(keeps);
-    for _ in 0..CALLS / 4 {
+    for _ in 0..calls / 4 {
         for event in [Event::Arrive(0, word), Event::Route(0), Event::Send(0), Event::Tick] { call(&book, &mut seat, event); }
     }
-    report("laps", start, seat.sum);
+    report("laps", calls, start, seat.sum);
     black_box(book.lock().unwrap().entries.last().map(|entry| (entry.event, entry.reply)));
     black_box(seat.receipts.last().map(|receipt| (receipt.index, receipt.event, receipt.reply)));
 }
 
-fn wires(keeps: bool, word: u32) {
+fn wires(keeps: bool, word: u32, calls: u64) {
     let book = Mutex::new(Book { core: core(4, &black_box([0o203, 0o204]), 2, 1, 22), entries: Vec::new() });
     let start = Instant::now();
     let seats: Vec<Seat> = std::thread::scope(|scope| {
@@ -66,33 +66,34 @@ fn wires(keeps: bool, word: u32) {
             let book = &book;
             scope.spawn(move || {
                 let mut seat = Seat::new(keeps);
-                for _ in 0..CALLS / 4 { call(book, &mut seat, Event::Arrive(bus, word)); }
+                for _ in 0..calls / 4 { call(book, &mut seat, Event::Arrive(bus, word)); }
                 seat
             })
         }).collect();
         threads.into_iter().map(|thread| thread.join().unwrap()).collect()
     });
-    report("wires", start, seats.iter().fold(0, |sum, seat| sum.wrapping_add(seat.sum)));
+    report("wires", calls, start, seats.iter().fold(0, |sum, seat| sum.wrapping_add(seat.sum)));
     black_box(book.lock().unwrap().entries.last().map(|entry| (entry.event, entry.reply)));
     black_box(seats);
 }
 
-fn reads() {
-    let words: [AtomicU64; 64] = black_box(std::array::from_fn(|bus| AtomicU64::new((bus == 0) as u64)));
+fn reads(calls: u64) {
+    let words: [AtomicU64; 64] = black_box(std::array::from_fn(|_| AtomicU64::new(0)));
     let start = Instant::now();
     let mut sum = 0u64;
-    for read in 0..READS { sum = sum.wrapping_add(words[(read % 64) as usize].load(Ordering::SeqCst)); }
-    report("reads", start, sum);
+    for read in 0..calls { sum = sum.wrapping_add(words[(read % 64) as usize].load(Ordering::SeqCst)); }
+    report("reads", calls, start, sum);
 }
 
 fn main() {
     let words: Vec<String> = std::env::args().collect();
     let keeps = words.iter().any(|word| word == "receipts");
-    for _ in 0..5 {
+    for round in 0..55 {
+        let calls = if round < 5 { LONG } else { SHORT };
         match words[1].as_str() {
-            "laps" => laps(keeps, black_box(0x6000_00C1)),
-            "wires" => wires(keeps, black_box(0x6000_00C1)),
-            _ => reads(),
+            "laps" => laps(keeps, black_box(0x6000_00C1), calls),
+            "wires" => wires(keeps, black_box(0x6000_00C1), calls),
+            _ => reads(calls),
         }
     }
 }
