@@ -1,7 +1,7 @@
 //! Certificates that are found for random tables: in random runs that keep budgets and sources their claims hold.
 
 use crate::searched::is_kept;
-use crate::sources::{Manner, random_manner, random_run};
+use crate::sources::{random_manner, random_run};
 use dc_cert::Certificate;
 use dc_event::{Event, Reply};
 use dc_find::{FindFault, find};
