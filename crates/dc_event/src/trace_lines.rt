@@ -96,6 +96,7 @@ impl<'t> TraceLines<'t> {
 
     /// Tells the next event, or why there is none, as far as the held bytes go. None where they end before the line
     /// does: then pull, and call again. Once it reported why there is none, it tells that same from then on.
+    #[inline(always)]
     pub fn advance(&mut self) -> Option<Result<Event, TraceStop>>
         ensures reported { (coming : Option (List ℕ)) →
             MatchOption result (Stays (ahead self.old coming) (ahead self.new coming)) (λ reported. Tells (ahead self.old coming) (ahead self.new coming) reported) }
