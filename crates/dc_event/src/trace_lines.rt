@@ -29,6 +29,7 @@ fn end_inside(line: &[u8], number: u64) -> TraceStop
 
 // The event of the next line, or its fault, as far as the held bytes go. A line is read where it stands if all of it is
 // held; else its bytes are gathered.
+#[inline(always)]
 fn read_next(
     tables: &Tables,
     reader: &mut LineReader,
