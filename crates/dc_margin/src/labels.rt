@@ -10,8 +10,7 @@ ghost use Rattle.dc_tables.specs.TableRows.{label_row};
 ghost use Rattle.dc_transmit.specs.Schedule.{schedule_of, least_label_gap, greatest_label_gap};
 
 use crate::margin::{Decider, LabelMargins, Margin};
-use crate::queues::{difference, of_numbers};
-use dc_busy::LONGEST_WINDOW;
+use crate::queues::{difference, is_short, of_numbers};
 use dc_cert::Certificate;
 use dc_tables::Tables;
 use dc_transmit::Schedule;
@@ -57,7 +56,7 @@ fn soon_margin(tables: &Tables, label: usize, delay: u32) -> Option<Margin>
     requires { label < length tables.now.labels }
     ensures { result ≡ told (is_delay delay) (soon_margin_of (least_label_gap (schedule_of tables.now (label_row tables.now label).output) label) (label_row tables.now label).minimum delay) }
 {
-    if delay > LONGEST_WINDOW {
+    if !is_short(delay) {
         return None;
     }
     tables.valid();
@@ -72,7 +71,7 @@ fn late_margin(tables: &Tables, label: usize, delay: u32) -> Option<Margin>
     requires { label < length tables.now.labels }
     ensures { result ≡ told (is_delay delay) (late_margin_of (greatest_label_gap (schedule_of tables.now (label_row tables.now label).output) label) (label_row tables.now label).maximum delay) }
 {
-    if delay > LONGEST_WINDOW {
+    if !is_short(delay) {
         return None;
     }
     tables.valid();
@@ -90,7 +89,7 @@ fn age_margin(tables: &Tables, certificate: &Certificate, label: usize, age: u32
 {
     let source = slowest(tables, certificate, label);
     let delay = delay_of(tables, certificate, source);
-    if delay > LONGEST_WINDOW {
+    if !is_short(delay) {
         return None;
     }
     let oldest = u64::from(tables.label(label).stale) + u64::from(delay);
@@ -102,8 +101,8 @@ fn fresh_margin(tables: &Tables, certificate: &Certificate, label: usize) -> Opt
     requires there { label < length tables.now.labels }
     ensures { result ≡ told (are_in_range tables.now (certificate_rows certificate.now) label) (fresh_margin_of (label_row tables.now label).stale (silence tables.now (certificate_rows certificate.now) (rarest_source tables.now (certificate_rows certificate.now) label)) (rarest_source tables.now (certificate_rows certificate.now) label)) }
 {
-    let slowest = slowest(tables, certificate, label);
-    if delay_of(tables, certificate, slowest) > LONGEST_WINDOW {
+    let delay = delay_of(tables, certificate, slowest(tables, certificate, label));
+    if !is_short(delay) {
         return None;
     }
     let source = rarest(tables, certificate, label);

@@ -60,6 +60,20 @@ fn in_range(window: u32) -> bool
     1 <= window && window <= LONGEST_WINDOW
 }
 
+/// Whether a delay is in range.
+pub(crate) fn is_short(delay: u32) -> bool
+    ensures { result ≡ is_delay delay }
+{
+    delay <= LONGEST_WINDOW
+}
+
+/// Whether both are in range.
+fn are_in_range(window: u32, delay: u32) -> bool
+    ensures { result ≡ (is_window window && is_delay delay) }
+{
+    in_range(window) && is_short(delay)
+}
+
 fn closing_margin<A: ArrivalBound, S: ServiceBound>(
     arrivals: &A,
     service: &S,
@@ -102,7 +116,7 @@ fn delay_margin<A: ArrivalBound, S: ServiceBound>(
 ) -> Option<Margin>
     ensures { result ≡ told (is_window window && is_delay delay) (delay_margin_of (A.cap arrivals.now) (S.floor service.now) window delay) }
 {
-    if !in_range(window) || delay > LONGEST_WINDOW {
+    if !are_in_range(window, delay) {
         return None;
     }
     let peak = delay_peak(arrivals, service, window);
@@ -169,16 +183,14 @@ pub fn input_margins(tables: &Tables, certificate: &Certificate, bus: usize) -> 
     ensures { result ≡ input_margins_of tables.now bus (input_bound (certificate_rows certificate.now) bus) }
 {
     tables.valid();
-    let window = certificate.inputs[bus].window;
-    let backlog = certificate.inputs[bus].backlog;
-    let delay = certificate.inputs[bus].delay;
+    let row = &certificate.inputs[bus];
     input_margins_by(
         &tables.bus_bound(bus),
         &tables.bus_service(bus),
         tables.queue(bus),
-        window,
-        backlog,
-        delay,
+        row.window,
+        row.backlog,
+        row.delay,
     )
 }
 
@@ -189,12 +201,11 @@ pub fn output_margins(tables: &Tables, certificate: &Certificate, output: usize)
     ensures { result ≡ output_margins_of tables.now output (output_bound (certificate_rows certificate.now) output) }
 {
     tables.valid();
-    let window = certificate.outputs[output].window;
-    let delay = certificate.outputs[output].delay;
+    let row = &certificate.outputs[output];
     output_margins_by(
         &tables.output_bound(output),
         &tables.output_service(output),
-        window,
-        delay,
+        row.window,
+        row.delay,
     )
 }
