@@ -1,2 +1,4 @@
 pub mod Told
 pub mod Few
+pub mod Gaps
+pub mod Sources

@@ -4,7 +4,7 @@ ghost use Rattle.std.specs.Prelude.{◌≡◌, ◌^◌, ◌≤◌, ◌<◌, leng
 ghost use Rattle.dc_cert.specs.Bounds.{certificate_rows};
 ghost use Rattle.dc_check.specs.Accepts.{source_delay};
 ghost use Rattle.dc_check.specs.Verdict.{IsSized, is_delay};
-ghost use Rattle.dc_margin.specs.Margins.{told, margin_by, greater_of, slowest_source, rarest_source, silence, are_in_range, soon_margin_of, late_margin_of, age_margin_of, fresh_margin_of, label_margins_of};
+ghost use Rattle.dc_margin.specs.Margins.{told, margin_by, greater_of, slowest_source, rarest_source, silence, are_in_range, soon_margin_of, late_margin_of, age_margin_of, age_limit_margin_of, fresh_margin_of, label_margins_of};
 ghost use Rattle.dc_margin.specs.declared.margin.Decider.TheVariants.{Gap, Source};
 ghost use Rattle.dc_tables.specs.TableRows.{label_row};
 ghost use Rattle.dc_transmit.specs.Schedule.{schedule_of, least_label_gap, greatest_label_gap};
@@ -24,14 +24,19 @@ pub fn label_margins(tables: &Tables, certificate: &Certificate, label: usize) -
     tables.valid();
     let delay = certificate.outputs[tables.label(label).output].delay;
     let age = certificate.labels[label].age;
-    let limit = tables.label(label).age_limit;
     LabelMargins {
         soon: soon_margin(tables, label, delay),
         late: late_margin(tables, label, delay),
         age: age_margin(tables, certificate, label, age),
-        age_limit: Some(of_numbers(i64::from(limit) - i64::from(age))),
+        age_limit: Some(age_limit_margin(tables.label(label).age_limit, age)),
         fresh: fresh_margin(tables, certificate, label),
     }
+}
+
+fn age_limit_margin(limit: u32, age: u32) -> Margin
+    ensures { result ≡ age_limit_margin_of limit age }
+{
+    of_numbers(i64::from(limit) - i64::from(age))
 }
 
 fn gap_margin(slack: i64, gap: u64) -> Margin
