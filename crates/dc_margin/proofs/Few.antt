@@ -1,7 +1,7 @@
 -- What a queue is served stays small, and so do gaps.
-use Rattle.std.proofs.Common.{◌≡◌, ℕ, zero, suc, ◌+◌, ◌-◌, ◌*◌, ◌/◌, ◌^◌, ◌≤◌, ◌<◌, length, arith}
+use Rattle.std.proofs.Common.{ℕ, ◌*◌, ◌/◌, ◌^◌, ◌≤◌, ◌<◌, length, arith}
 use Rattle.std.proofs.Math.Nat.{mul-le-mul, mul-le-mul_right, div-le_of_le-mul}
-use Rattle.dc_bound.specs.Rounds.{is_at, among}
+use Rattle.dc_bound.specs.Rounds.{is_at}
 use Rattle.dc_bound.specs.lemmas.Cycle.{fewest_holds, among_small, is_at_small}
 use Rattle.dc_tables.specs.TableRows.{TableRows, AreValid, bus_row, router_row, output_row, bus_floor, output_floor}
 

@@ -1,5 +1,5 @@
 -- Gaps of a label stay small.
-use Rattle.std.proofs.Common.{◌≡◌, ℕ, zero, suc, ◌+◌, ◌-◌, ◌≤◌, ◌<◌, Bool, true, false, List, [], ◌∷◌, length, min, max, cond, arith}
+use Rattle.std.proofs.Common.{ℕ, suc, ◌+◌, ◌-◌, ◌≤◌, ◌<◌, Bool, true, false, List, [], ◌∷◌, length, cond, arith}
 use Rattle.std.specs.Prelude.{slice_index_or}
 use Rattle.dc_tables.specs.TableRows.{TableRows, AreValid, output_row, label_row}
 use Rattle.dc_tables.specs.declared.rows.Entry.{Entry}

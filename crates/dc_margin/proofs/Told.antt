@@ -1,10 +1,10 @@
 -- A margin that is told, by the peak that was found.
-use Rattle.std.proofs.Common.{◌≡◌, ℕ, ◌≤◌, Bool, true, false, ℤ, Option, Some, None, refl, sym, ap, ◌∙◌, arith}
-use Rattle.std.specs.Prelude.{nat_le, if◌then◌else◌, ◌&&◌}
+use Rattle.std.proofs.Common.{◌≡◌, ℕ, Bool, true, false, ℤ, Option, Some, None, refl, ap, ◌∙◌}
+use Rattle.std.specs.Prelude.{nat_le, if◌then◌else◌}
 use Rattle.std.proofs.Math.Path.{fun_ext}
 use Rattle.dc_cert.specs.Bounds.{InputBound, OutputBound}
 use Rattle.dc_margin.specs.Margins.{room, told, margin_by, backlog_margin_of, delay_margin_of, input_margins_given, output_margins_given}
-use Rattle.dc_margin.specs.Peaks.{IsPeak, peak, waiting, needed}
+use Rattle.dc_margin.specs.Peaks.{IsPeak, waiting, needed}
 use Rattle.dc_margin.specs.lemmas.Heights.{peak-is}
 use Rattle.dc_margin.specs.declared.margin.Margin.{Margin}
 use Rattle.dc_margin.specs.declared.margin.Decider.TheVariants.{Window}

@@ -1,8 +1,8 @@
 -- Peaks: which they are, and that the searches find them.
-use Rattle.std.proofs.Common.{◌≡◌, ℕ, zero, suc, ◌+◌, ◌-◌, ◌≤◌, ◌<◌, Bool, true, false, Option, Some, None, refl, sym, ap, ◌∙◌, arith, inl, inr, subst}
+use Rattle.std.proofs.Common.{◌≡◌, ℕ, zero, suc, ◌+◌, ◌-◌, ◌≤◌, ◌<◌, Bool, true, false, Option, Some, None, refl, sym, ap, arith, inl, inr, subst}
 use Rattle.std.specs.Prelude.{nat_lt, nat_le, if◌then◌else◌, MatchOption}
 use Rattle.std.specs.Option.{unwrap_or}
-use Rattle.std.proofs.lemmas.Bool.{cases_lt, lt-ltb, le-ltb, lt-leb, le-leb, leb-true}
+use Rattle.std.proofs.lemmas.Bool.{cases_lt, lt-ltb, le-ltb, lt-leb, le-leb}
 use Rattle.dc_busy.specs.BusyWindow.{BacklogAt, BacklogBounded, DelayAt, DelayBounded, IsLeastFailing}
 use Rattle.dc_busy.specs.Least.{IsLeast, IsLeastUpTo100000}
 use Rattle.dc_margin.specs.Peaks.{IsPeak, peak, waiting, least_below, needed}
