@@ -2,6 +2,7 @@
 #![tactic(auto)]
 
 mod labels;
+pub mod laws;
 mod margin;
 mod peaks;
 mod queues;
