@@ -126,7 +126,7 @@ below-count (suc n) test =
 
 module _ (cap floor : ℕ → ℕ) (grows : (d e : ℕ) → d ≤ e → floor d ≤ floor e) where
   -- a delay that passes is enough
-  enough : (w d : ℕ) → d ≤ 100000 → DelayAt cap floor d w → needed cap floor w ≤ d
+  pub enough : (w d : ℕ) → d ≤ 100000 → DelayAt cap floor d w → needed cap floor w ≤ d
   enough w d short passes = below-least 100001 (λ d. nat_le (cap w) (floor (w - 1 + d))) d (omega arith) (le-leb _ _ passes)
 
   -- one that fails is too short
