@@ -1,0 +1,5 @@
+pub mod Told
+pub mod Few
+pub mod Gaps
+pub mod Sources
+pub mod Law

@@ -1,0 +1,12 @@
+use Rattle.std.proofs.Common.{◌≡◌, ◌<◌, length, take}
+use Rattle.std.specs.Prelude.{slice_index}
+use Rattle.std.specs.List.{fold}
+use Rattle.dc_cert.specs.Bounds.{certificate_rows}
+use Rattle.dc_margin.specs.Margins.{greater_of, silence}
+use Rattle.dc_margin.proofs.labels.rarest.Given as goal
+
+abbrev pub invariant-loop-stream : goal.invariant-loop-stream
+invariant-loop-stream l = record {
+  best : l.best ≡ fold (greater_of (silence l.tables (certificate_rows l.certificate))) (slice_index l.sources 0) (take l.stream-index l.sources);
+  there : l.best < length l.tables.streams;
+}

@@ -1,0 +1,203 @@
+-- The margins of a certificate: how far each of its conditions is from failing, and what decides it. A margin is negative
+-- exactly where its condition fails; one that rests on a window or on a delay out of range is not told.
+use Rattle.std.specs.Prelude.{ℕ, ◌+◌, ◌-◌, Bool, true, false, not, ◌&&◌, if◌then◌else◌, nat_lt, nat_le, ℤ, pos, ◌-ℤ◌, int_lt, Option, Some, None, List, [], ◌∷◌, length, slice_index}
+use Rattle.std.specs.Int.{int_min}
+use Rattle.std.specs.List.{fold}
+use Rattle.dc_cert.specs.Bounds.{InputBound, OutputBound, CertificateRows, input_bound, output_bound}
+use Rattle.dc_check.specs.Accepts.{label_delay, source_delay}
+use Rattle.dc_check.specs.Verdict.{fault_at, unless, first_of, is_window, is_delay, job_count, first_job_fault}
+use Rattle.dc_check.specs.declared.fault.CheckFault.{CheckFault}
+use Rattle.dc_check.specs.declared.fault.Condition.TheVariants.{WindowOutOfRange, WindowDoesNotClose, BacklogTooSmall, QueueTooShort, DelayTooSmall, DelayOutOfRange, SentTooSoon, SentTooLate, AgeTooSmall, AgeOverLimit, SourceGoesStale}
+use Rattle.dc_check.specs.declared.fault.CertificateList.TheVariants.{Inputs, Outputs, Labels}
+use Rattle.dc_margin.specs.Peaks.{peak, waiting, needed}
+use Rattle.dc_margin.specs.declared.margin.Margin.{Margin}
+use Rattle.dc_margin.specs.declared.margin.InputMargins.{InputMargins}
+use Rattle.dc_margin.specs.declared.margin.OutputMargins.{OutputMargins}
+use Rattle.dc_margin.specs.declared.margin.LabelMargins.{LabelMargins}
+use Rattle.dc_margin.specs.declared.margin.Decider.{Decider}
+use Rattle.dc_margin.specs.declared.margin.Decider.TheVariants.{Numbers, Window, Gap, Source}
+use Rattle.dc_tables.specs.TableRows.{TableRows, bus_row, stream_row, label_row, bus_cap, bus_floor, output_cap, output_floor}
+use Rattle.dc_transmit.specs.Schedule.{schedule_of, least_label_gap, greatest_label_gap}
+
+-- ---- one margin
+
+-- x less y
+abbrev pub room : (x y : ℕ) → ℤ
+room x y = pos x -ℤ pos y
+
+-- so much room, decided by this
+abbrev pub margin_by : ℤ → Decider → Margin
+margin_by slack decider = record { slack = Some slack; decider = decider }
+
+-- the margin, where what it rests on is in range
+abbrev pub told : Bool → Margin → Option Margin
+told in_range margin = if in_range then Some margin else None
+
+-- ---- the conditions on a queue, by the most that comes (cap) and the fewest that are taken (floor) in so many ticks
+
+-- C02: how far the window is from the nearer of its limits, 1 and 100,000
+abbrev pub window_margin_of : ℕ → Margin
+window_margin_of window = margin_by (int_min (room window 1) (room 100000 window)) Numbers
+
+-- C03: how many more are taken in the window's ticks but the first than may come in all of them
+abbrev pub closing_margin_of : (cap floor : ℕ → ℕ) → ℕ → Margin
+closing_margin_of cap floor window = margin_by (room (floor (window - 1)) (cap window)) Numbers
+
+-- C04: the backlog less the most that may wait, at the first w of the window with so many
+unfoldable pub backlog_margin_of : (cap floor : ℕ → ℕ) → (window backlog : ℕ) → Margin
+backlog_margin_of cap floor window backlog =
+    let w = peak (waiting cap floor) window in
+    margin_by (room backlog (waiting cap floor w)) (Window w)
+
+-- C05: the places of the queue less the backlog
+abbrev pub queue_margin_of : (queue backlog : ℕ) → Margin
+queue_margin_of queue backlog = margin_by (room queue backlog) Numbers
+
+-- C06: the delay less the least that passes, with the first w of the window that needs it; none where no delay up to
+-- 100,000 passes, with the first w for which none does
+unfoldable pub delay_margin_of : (cap floor : ℕ → ℕ) → (window delay : ℕ) → Margin
+delay_margin_of cap floor window delay =
+    let w = peak (needed cap floor) window in
+    record { slack = if nat_le (needed cap floor w) 100000 then Some (room delay (needed cap floor w)) else None; decider = Window w }
+
+-- C07: how far the delay is from its limit, 100,000
+abbrev pub delay_limit_margin_of : ℕ → Margin
+delay_limit_margin_of delay = margin_by (room 100000 delay) Numbers
+
+-- ---- an input, an output
+
+abbrev pub input_margins_given : (cap floor : ℕ → ℕ) (queue : ℕ) → InputBound → InputMargins
+input_margins_given cap floor queue c = record {
+  window = Some (window_margin_of c.window);
+  delay_limit = Some (delay_limit_margin_of c.delay);
+  closes = told (is_window c.window) (closing_margin_of cap floor c.window);
+  backlog = told (is_window c.window) (backlog_margin_of cap floor c.window c.backlog);
+  queue = Some (queue_margin_of queue c.backlog);
+  delay = told (is_window c.window && is_delay c.delay) (delay_margin_of cap floor c.window c.delay);
+}
+
+abbrev pub output_margins_given : (cap floor : ℕ → ℕ) → OutputBound → OutputMargins
+output_margins_given cap floor c = record {
+  window = Some (window_margin_of c.window);
+  delay_limit = Some (delay_limit_margin_of c.delay);
+  closes = told (is_window c.window) (closing_margin_of cap floor c.window);
+  delay = told (is_window c.window && is_delay c.delay) (delay_margin_of cap floor c.window c.delay);
+}
+
+abbrev pub input_margins_of : TableRows → ℕ → InputBound → InputMargins
+input_margins_of t b c = input_margins_given (bus_cap t b) (bus_floor t b) (bus_row t b).queue c
+
+abbrev pub output_margins_of : TableRows → ℕ → OutputBound → OutputMargins
+output_margins_of t o c = output_margins_given (output_cap t o) (output_floor t o) c
+
+-- ---- a label
+
+-- the later of two numbers, where f is greater there
+abbrev pub greater_of : (ℕ → ℕ) → ℕ → ℕ → ℕ
+greater_of f best x = if nat_lt (f best) (f x) then x else best
+
+-- the first of these numbers at which f is greatest
+unfoldable pub greatest_at : (ℕ → ℕ) → List ℕ → ℕ
+greatest_at f xs = fold (greater_of f) (slice_index xs 0) xs
+
+-- the first source of the label whose bus delays it longest
+abbrev pub slowest_source : TableRows → CertificateRows → ℕ → ℕ
+slowest_source t c x = greatest_at (source_delay t c) (label_row t x).sources
+
+-- how long a source's words may lie apart when they are routed
+abbrev pub silence : TableRows → CertificateRows → ℕ → ℕ
+silence t c s = source_delay t c s + (stream_row t s).maximum
+
+-- the first source of the label whose words may lie apart longest
+abbrev pub rarest_source : TableRows → CertificateRows → ℕ → ℕ
+rarest_source t c x = greatest_at (silence t c) (label_row t x).sources
+
+-- whether the delay of each of its sources is in range
+abbrev pub are_in_range : TableRows → CertificateRows → ℕ → Bool
+are_in_range t c x = is_delay (source_delay t c (slowest_source t c x))
+
+-- C08: the least gap less the least interval and the delay of the output
+abbrev pub soon_margin_of : (gap minimum delay : ℕ) → Margin
+soon_margin_of gap minimum delay = margin_by (room gap (minimum + delay)) (Gap gap)
+
+-- C09: the greatest interval less the greatest gap and the delay of the output
+abbrev pub late_margin_of : (gap maximum delay : ℕ) → Margin
+late_margin_of gap maximum delay = margin_by (room maximum (gap + delay)) (Gap gap)
+
+-- C10: the age less the stale limit and the greatest delay of a source
+abbrev pub age_margin_of : (age stale delay source : ℕ) → Margin
+age_margin_of age stale delay source = margin_by (room age (stale + delay)) (Source source)
+
+-- C11: the label's limit less the age
+abbrev pub age_limit_margin_of : (limit age : ℕ) → Margin
+age_limit_margin_of limit age = margin_by (room limit age) Numbers
+
+-- C12: the stale limit less the longest time between two words of a source
+abbrev pub fresh_margin_of : (stale silent source : ℕ) → Margin
+fresh_margin_of stale silent source = margin_by (room stale silent) (Source source)
+
+abbrev pub label_margins_of : TableRows → ℕ → CertificateRows → LabelMargins
+label_margins_of t x c = record {
+  soon = told (is_delay (label_delay t c x)) (soon_margin_of (least_label_gap (schedule_of t (label_row t x).output) x) (label_row t x).minimum (label_delay t c x));
+  late = told (is_delay (label_delay t c x)) (late_margin_of (greatest_label_gap (schedule_of t (label_row t x).output) x) (label_row t x).maximum (label_delay t c x));
+  age = told (are_in_range t c x) (age_margin_of (slice_index c.ages x) (label_row t x).stale (source_delay t c (slowest_source t c x)) (slowest_source t c x));
+  age_limit = Some (age_limit_margin_of (label_row t x).age_limit (slice_index c.ages x));
+  fresh = told (are_in_range t c x) (fresh_margin_of (label_row t x).stale (silence t c (rarest_source t c x)) (rarest_source t c x));
+}
+
+-- ---- the first negative one
+
+-- whether there is room: at least 0
+abbrev pub has_room : Option ℤ → Bool
+has_room None = false
+has_room (Some slack) = not (int_lt slack (pos 0))
+
+-- whether a margin is not negative, or not told
+unfoldable pub is_kept : Option Margin → Bool
+is_kept None = true
+is_kept (Some margin) = has_room margin.slack
+
+-- the first negative margin of an input, an output, a label, in the order of the verdict, as a fault that names no window
+abbrev pub input_fault_of : ℕ → InputMargins → Option CheckFault
+input_fault_of b m =
+    first_of (unless (is_kept m.window) (fault_at Inputs b WindowOutOfRange 0)
+    ∷ unless (is_kept m.delay_limit) (fault_at Inputs b DelayOutOfRange 0)
+    ∷ unless (is_kept m.closes) (fault_at Inputs b WindowDoesNotClose 0)
+    ∷ unless (is_kept m.backlog) (fault_at Inputs b BacklogTooSmall 0)
+    ∷ unless (is_kept m.queue) (fault_at Inputs b QueueTooShort 0)
+    ∷ unless (is_kept m.delay) (fault_at Inputs b DelayTooSmall 0)
+    ∷ [])
+
+abbrev pub output_fault_of : ℕ → OutputMargins → Option CheckFault
+output_fault_of o m =
+    first_of (unless (is_kept m.window) (fault_at Outputs o WindowOutOfRange 0)
+    ∷ unless (is_kept m.delay_limit) (fault_at Outputs o DelayOutOfRange 0)
+    ∷ unless (is_kept m.closes) (fault_at Outputs o WindowDoesNotClose 0)
+    ∷ unless (is_kept m.delay) (fault_at Outputs o DelayTooSmall 0)
+    ∷ [])
+
+abbrev pub label_fault_of : ℕ → LabelMargins → Option CheckFault
+label_fault_of x m =
+    first_of (unless (is_kept m.soon) (fault_at Labels x SentTooSoon 0)
+    ∷ unless (is_kept m.late) (fault_at Labels x SentTooLate 0)
+    ∷ unless (is_kept m.age) (fault_at Labels x AgeTooSmall 0)
+    ∷ unless (is_kept m.age_limit) (fault_at Labels x AgeOverLimit 0)
+    ∷ unless (is_kept m.fresh) (fault_at Labels x SourceGoesStale 0)
+    ∷ [])
+
+-- of a job: the inputs, the outputs and the labels in one row, from 0
+unfoldable pub margin_fault : TableRows → CertificateRows → ℕ → Option CheckFault
+margin_fault t c job =
+    let inputs = length t.buses in
+    let outputs = length t.outputs in
+    if nat_lt job inputs then input_fault_of job (input_margins_of t job (input_bound c job))
+    else if nat_lt job (inputs + outputs) then output_fault_of (job - inputs) (output_margins_of t (job - inputs) (output_bound c (job - inputs)))
+    else label_fault_of (job - (inputs + outputs)) (label_margins_of t (job - (inputs + outputs)) c)
+
+-- the first negative margin of a certificate
+abbrev pub first_negative : TableRows → CertificateRows → Option CheckFault
+first_negative t c = first_job_fault (margin_fault t c) (job_count t)
+
+-- a fault, its window left out
+abbrev pub windowless : CheckFault → CheckFault
+windowless fault = fault_at fault.part fault.index fault.condition 0

@@ -1,0 +1,28 @@
+-- What may wait and what delay is needed, and where in a window it is greatest.
+use Rattle.std.specs.Prelude.{◌≡◌, ℕ, zero, suc, ◌+◌, ◌-◌, ◌≤◌, ◌<◌, Bool, if◌then◌else◌, nat_lt, nat_le}
+
+-- h is the height of f at w, the first number from 1 to the window at which f is greatest
+pub record IsPeak (f : ℕ → ℕ) (window w h : ℕ) : Type 0 where
+  pub some : 1 ≤ w
+  pub within : w ≤ window
+  pub height : h ≡ f w
+  pub greatest : (v : ℕ) → 1 ≤ v → v ≤ window → f v ≤ h
+  pub first : (v : ℕ) → 1 ≤ v → v < w → f v < h
+
+-- the first number from 1 to the window at which f is greatest
+unfoldable pub peak : (ℕ → ℕ) → ℕ → ℕ
+peak f zero = 1
+peak f (suc n) = if nat_lt (f (peak f n)) (f (suc n)) then suc n else peak f n
+
+-- how many more may come in w ticks than are taken in the whole ticks inside them, two less
+abbrev pub waiting : (cap floor : ℕ → ℕ) → ℕ → ℕ
+waiting cap floor w = cap w - floor (w - 2)
+
+-- the least number below n that passes, n where none does
+unfoldable pub least_below : ℕ → (ℕ → Bool) → ℕ
+least_below zero test = 0
+least_below (suc n) test = if test 0 then 0 else suc (least_below n (λ d. test (suc d)))
+
+-- the least delay up to 100,000 in which all that may come in w ticks is taken, 100,001 where there is none
+abbrev pub needed : (cap floor : ℕ → ℕ) → ℕ → ℕ
+needed cap floor w = least_below 100001 (λ d. nat_le (cap w) (floor (w - 1 + d)))

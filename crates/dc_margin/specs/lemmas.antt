@@ -1,0 +1,2 @@
+-- Lemmas that laws cite.
+pub mod Heights

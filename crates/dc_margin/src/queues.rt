@@ -1,0 +1,211 @@
+//! The margins of an input and of an output, by the bounds of their queues.
+
+ghost use Rattle.std.specs.Prelude.{◌≡◌, ℕ, ◌^◌, ◌<◌, ◌≤◌, ◌&&◌, Some, None, nat_le, if◌then◌else◌, length};
+ghost use Rattle.dc_cert.specs.Bounds.{certificate_rows, input_bound, output_bound};
+ghost use Rattle.dc_check.specs.Verdict.{IsSized, is_window, is_delay};
+ghost use Rattle.dc_margin.specs.Margins.{room, told, window_margin_of, closing_margin_of, backlog_margin_of, queue_margin_of, delay_margin_of, delay_limit_margin_of, input_margins_of, output_margins_of};
+ghost use Rattle.dc_margin.specs.Margins.{input_margins_given, output_margins_given};
+ghost use Rattle.dc_margin.specs.declared.margin.Decider.TheVariants.{Numbers};
+
+use crate::margin::{Decider, InputMargins, Margin, OutputMargins};
+use crate::peaks::{backlog_peak, delay_peak};
+use dc_bound::{ArrivalBound, ServiceBound};
+use dc_busy::LONGEST_WINDOW;
+use dc_cert::Certificate;
+use dc_tables::Tables;
+
+/// How much more than `y` `x` is, both at most 2^62.
+pub(crate) fn difference(x: u64, y: u64) -> i64
+    requires x { x ≤ 2 ^ 62 }
+    requires y { y ≤ 2 ^ 62 }
+    ensures { result ≡ room x y }
+{
+    x as i64 - y as i64
+}
+
+/// A margin of numbers alone.
+pub(crate) fn of_numbers(slack: i64) -> Margin
+    ensures { result ≡ record { slack = Some slack; decider = Numbers } }
+{
+    Margin {
+        slack: Some(slack),
+        decider: Decider::Numbers,
+    }
+}
+
+fn window_margin(window: u32) -> Margin
+    ensures { result ≡ window_margin_of window }
+{
+    let above = i64::from(window) - 1;
+    let below = i64::from(LONGEST_WINDOW) - i64::from(window);
+    of_numbers(if below < above { below } else { above })
+}
+
+fn delay_limit_margin(delay: u32) -> Margin
+    ensures { result ≡ delay_limit_margin_of delay }
+{
+    of_numbers(i64::from(LONGEST_WINDOW) - i64::from(delay))
+}
+
+fn queue_margin(queue: u32, backlog: u32) -> Margin
+    ensures { result ≡ queue_margin_of queue backlog }
+{
+    of_numbers(i64::from(queue) - i64::from(backlog))
+}
+
+/// Whether a window is in range.
+fn in_range(window: u32) -> bool
+    ensures { result ≡ is_window window }
+{
+    1 <= window && window <= LONGEST_WINDOW
+}
+
+/// Whether a delay is in range.
+pub(crate) fn is_short(delay: u32) -> bool
+    ensures { result ≡ is_delay delay }
+{
+    delay <= LONGEST_WINDOW
+}
+
+/// Whether both are in range.
+fn are_in_range(window: u32, delay: u32) -> bool
+    ensures { result ≡ (is_window window && is_delay delay) }
+{
+    in_range(window) && is_short(delay)
+}
+
+fn closing_margin<A: ArrivalBound, S: ServiceBound>(
+    arrivals: &A,
+    service: &S,
+    window: u32,
+) -> Option<Margin>
+    requires few { (d : ℕ) → d ≤ 100000 → S.floor service.now d ≤ 2 ^ 40 }
+    ensures { result ≡ told (is_window window) (closing_margin_of (A.cap arrivals.now) (S.floor service.now) window) }
+{
+    if !in_range(window) {
+        return None;
+    }
+    let taken = service.at_least(window - 1);
+    let come = arrivals.at_most(window);
+    Some(of_numbers(difference(taken, come)))
+}
+
+fn backlog_margin<A: ArrivalBound, S: ServiceBound>(
+    arrivals: &A,
+    service: &S,
+    window: u32,
+    backlog: u32,
+) -> Option<Margin>
+    ensures { result ≡ told (is_window window) (backlog_margin_of (A.cap arrivals.now) (S.floor service.now) window backlog) }
+{
+    if !in_range(window) {
+        return None;
+    }
+    let peak = backlog_peak(arrivals, service, window);
+    Some(Margin {
+        slack: Some(difference(u64::from(backlog), peak.height)),
+        decider: Decider::Window(peak.ticks),
+    })
+}
+
+fn delay_margin<A: ArrivalBound, S: ServiceBound>(
+    arrivals: &A,
+    service: &S,
+    window: u32,
+    delay: u32,
+) -> Option<Margin>
+    ensures { result ≡ told (is_window window && is_delay delay) (delay_margin_of (A.cap arrivals.now) (S.floor service.now) window delay) }
+{
+    if !are_in_range(window, delay) {
+        return None;
+    }
+    let peak = delay_peak(arrivals, service, window);
+    Some(Margin {
+        slack: delay_slack(delay, peak.height),
+        decider: Decider::Window(peak.ticks),
+    })
+}
+
+/// The delay less the one that is needed; none where that is over 100,000.
+fn delay_slack(delay: u32, needed: u64) -> Option<i64>
+    ensures { result ≡ (if nat_le needed 100000 then Some (room delay needed) else None) }
+{
+    if needed > u64::from(LONGEST_WINDOW) {
+        return None;
+    }
+    Some(difference(u64::from(delay), needed))
+}
+
+/// The margins of an input, given the bounds of its bus.
+fn input_margins_by<A: ArrivalBound, S: ServiceBound>(
+    arrivals: &A,
+    service: &S,
+    queue: u32,
+    window: u32,
+    backlog: u32,
+    delay: u32,
+) -> InputMargins
+    requires few { (d : ℕ) → d ≤ 100000 → S.floor service.now d ≤ 2 ^ 40 }
+    ensures { result ≡ input_margins_given (A.cap arrivals.now) (S.floor service.now) queue (record { window = window; backlog = backlog; delay = delay }) }
+{
+    InputMargins {
+        window: Some(window_margin(window)),
+        delay_limit: Some(delay_limit_margin(delay)),
+        closes: closing_margin(arrivals, service, window),
+        backlog: backlog_margin(arrivals, service, window, backlog),
+        queue: Some(queue_margin(queue, backlog)),
+        delay: delay_margin(arrivals, service, window, delay),
+    }
+}
+
+/// The margins of an output, given its bounds.
+fn output_margins_by<A: ArrivalBound, S: ServiceBound>(
+    arrivals: &A,
+    service: &S,
+    window: u32,
+    delay: u32,
+) -> OutputMargins
+    requires few { (d : ℕ) → d ≤ 100000 → S.floor service.now d ≤ 2 ^ 40 }
+    ensures { result ≡ output_margins_given (A.cap arrivals.now) (S.floor service.now) (record { window = window; delay = delay }) }
+{
+    OutputMargins {
+        window: Some(window_margin(window)),
+        delay_limit: Some(delay_limit_margin(delay)),
+        closes: closing_margin(arrivals, service, window),
+        delay: delay_margin(arrivals, service, window, delay),
+    }
+}
+
+/// The margins of the input of this number.
+pub fn input_margins(tables: &Tables, certificate: &Certificate, bus: usize) -> InputMargins
+    requires sized { IsSized tables.now (certificate_rows certificate.now) }
+    requires there { bus < length tables.now.buses }
+    ensures { result ≡ input_margins_of tables.now bus (input_bound (certificate_rows certificate.now) bus) }
+{
+    tables.valid();
+    let row = &certificate.inputs[bus];
+    input_margins_by(
+        &tables.bus_bound(bus),
+        &tables.bus_service(bus),
+        tables.queue(bus),
+        row.window,
+        row.backlog,
+        row.delay,
+    )
+}
+
+/// The margins of the output of this number.
+pub fn output_margins(tables: &Tables, certificate: &Certificate, output: usize) -> OutputMargins
+    requires sized { IsSized tables.now (certificate_rows certificate.now) }
+    requires there { output < length tables.now.outputs }
+    ensures { result ≡ output_margins_of tables.now output (output_bound (certificate_rows certificate.now) output) }
+{
+    tables.valid();
+    let row = &certificate.outputs[output];
+    output_margins_by(
+        &tables.output_bound(output),
+        &tables.output_service(output),
+        row.window,
+        row.delay,
+    )
+}

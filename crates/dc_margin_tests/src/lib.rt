@@ -1,0 +1,5 @@
+//! Worked margins.
+#![tactic(auto)]
+
+#[cfg(test)]
+mod small;
