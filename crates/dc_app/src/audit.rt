@@ -250,8 +250,9 @@ fn audit_sources<T: Source, C: Source, S: Source>(
 ///
 /// The answer is the exit status: 0 where all three hold, 1 where one fails or the certificate is refused, 2 where a text
 /// can't be read; 3 where a device failed or memory was refused: then `failed device` or `failed memory` was written, and
-/// nothing else. Each text is read whole and judged before the next is asked for, and nothing is written before all are. A
-/// push or flush that failed is the last call of the sink, and a pull that gave no byte the last of its source.
+/// nothing else. The certificate is asked for only where the tables are in order, and the trace only where the certificate
+/// is accepted for them. A push or flush that failed is the last call of the sink, and a pull that gave no byte the last
+/// of its source.
 pub fn run_audit<T: Source, C: Source, S: Source, K: Sink>(
     alloc: Global,
     tables: &mut T,

@@ -103,8 +103,7 @@ fn answer<S: Source, K: Sink>(
     }
 }
 
-/// Decodes the words on a source, one a line, onto a sink, with no memory but two fixed buffers. Each line that is
-/// due is shown before the source is asked for more.
+/// Decodes the words on a source, one a line, onto a sink, with no memory but two fixed buffers.
 ///
 /// The answer is the exit status: 0 at the end of the text; 2 at the first faulty line, whose fault was written after
 /// the lines before it; 3 where a device failed. After a failed pull whole lines of the answer and then

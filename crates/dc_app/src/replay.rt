@@ -246,7 +246,7 @@ fn replay<T: Source, S: Source, K: Sink>(
 }
 
 /// Replays a recorded trace through the concentrator of a tables' text, onto a sink: each reply as a line, or only those
-/// that tell of a word that is sent or lost. Each line that is due is shown before the trace is asked for more.
+/// that tell of a word that is sent or lost.
 ///
 /// The answer is the exit status: 0 at the end of the trace; 1 at the first event that may not follow, 2 at the first
 /// fault of the tables or of the trace, whose line was written after the lines before it; 3 where a device failed or
