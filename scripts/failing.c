@@ -18,11 +18,11 @@ static long number_of(const char *name) {
     return text ? atol(text) : -1;
 }
 
-/* Whether this call is the one whose number stands in the environment; `asked` counts the calls. */
+/* Whether this call is the one whose number stands in the environment; `asked` counts the calls, of all threads. */
 static int is_one(const char *name, long *wanted, long *asked) {
     if (*wanted == 0)
         *wanted = number_of(name);
-    return ++*asked == *wanted;
+    return __atomic_add_fetch(asked, 1, __ATOMIC_SEQ_CST) == *wanted;
 }
 
 static long refused, allocations, unread, reads, unwritten, writes;

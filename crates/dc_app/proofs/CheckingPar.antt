@@ -1,73 +1,100 @@
 -- What `check` by several workers answers and reports, exit by exit.
-use Rattle.std.proofs.Common.{◌≡◌, ◌↔◌, ℕ, ◌+◌, List, [], ◌++◌, ◌∷◌, refl, subst, arith, Option, Some, None, IfOk, IfSome, Result, Ok, Err, codes}
-use Rattle.std.specs.Prelude.{MatchResult}
-use Rattle.std.specs.Io.KnownBytes.{Appends}
-use Rattle.dc_device.specs.Bytes.{AppendsFront, Writes}
-use Rattle.dc_device.specs.Device.{failures_of}
+use Rattle.std.proofs.Common.{◌≡◌, ◌≢◌, ◌↔◌, ◌⊎◌, ℕ, List, refl, subst, Option, None, IfOk, Result, Ok, Err, inl, inr}
 use Rattle.dc_cert.specs.NamedRows.{NamedRows}
-use Rattle.dc_cert.specs.Reading.{certificate_of}
+use Rattle.dc_cert.specs.Reading.{Reading, certificate_of}
 use Rattle.dc_check.specs.Accepts.{Accepts}
 use Rattle.dc_check.specs.Certified.{KeepsItsClaims}
 use Rattle.dc_check.specs.Verdict.{verdict_of}
+use Rattle.dc_parts.specs.declared.fault.BuildError.TheVariants.{Refused as RefusedTables, Memory as NoMemory}
 use Rattle.dc_print.specs.Verdicts.{accepted_text}
 use Rattle.dc_tables.specs.TableRows.{TableRows}
-use Rattle.dc_toml.specs.Reading.{tables_of}
-use Rattle.dc_app.specs.Answer.{Raises}
-use Rattle.dc_app.specs.Check.{Judges, JudgesTexts}
-use Rattle.dc_app.specs.Inputs.{Loads}
-use Rattle.dc_app.specs.Threads.{ReportsThreads}
-use Rattle.dc_app.specs.declared.answer.Failure.{Failure}
-use Rattle.dc_app.proofs.Checking.{both_judged, both_raised}
+use Rattle.dc_answer.specs.Answer.{Answer, Reported, WholeOrNone, one_line}
+use Rattle.dc_answer.specs.Exits.{exit_with, is_answered}
+use Rattle.dc_answer.specs.Judging.{Judged}
+use Rattle.dc_answer.specs.declared.answer.Failure.{Failure}
+use Rattle.dc_answer.specs.declared.answer.Failure.TheVariants.{Source, Sink, Memory}
+use Rattle.dc_answer.specs.declared.exit.Exit.{Exit}
+use Rattle.dc_answer.specs.declared.exit.Exit.TheVariants.{Done, Refused, Unreadable, Failed}
+use Rattle.dc_answer.specs.declared.exit.Outcome.{Outcome}
+use Rattle.dc_answer.specs.declared.exit.Outcome.TheVariants.{Done as WasDone, Refused as WasRefused, Unreadable as WasUnreadable}
+use Rattle.dc_app.specs.Check.{AnswersCheck, AnswersVerdict, AreCertified, Certifies, Judges, ReportsCheck, answer_claims}
+use Rattle.dc_app.specs.Texts.{AnswersClaims, AnswersTexts}
 
 module _ (t : TableRows) (claims : NamedRows) (line : List ℕ) where
-  kept_judged : KeepsItsClaims t claims → Accepts t claims → verdict_of t claims ≡ None → line ≡ accepted_text t → Judges t (Ok claims) line (Ok 0)
+  kept_judged : KeepsItsClaims t claims → Accepts t claims → verdict_of t claims ≡ None → line ≡ accepted_text t → Judges t (Ok claims) line (Ok WasDone)
   kept_judged kept ok none is = (rw (none, is) refl, (λ zero_is. record { claims = claims; read = refl; accepted = ok; kept = kept }))
 
   -- a certificate is accepted for shared tables, and that was printed
   pub shared_judged : (shared lawful printed : TableRows) → shared ≡ t → lawful ≡ t → printed ≡ t → KeepsItsClaims shared claims
-      → ((c : NamedRows) → (verdict_of lawful c ≡ None) ↔ Accepts lawful c) → verdict_of shared claims ≡ None → line ≡ accepted_text printed → Judges t (Ok claims) line (Ok 0)
+      → ((c : NamedRows) → (verdict_of lawful c ≡ None) ↔ Accepts lawful c) → verdict_of shared claims ≡ None → line ≡ accepted_text printed → Judges t (Ok claims) line (Ok WasDone)
   shared_judged shared lawful printed same law_same print_same kept law none is =
       let here = subst (λ u. verdict_of u claims ≡ None) same none in
       let laws = subst (λ u. (c : NamedRows) → (verdict_of u c ≡ None) ↔ Accepts u c) law_same law in
       kept_judged (subst (λ u. KeepsItsClaims u claims) same kept) ((laws claims).0 here) here (subst (λ u. line ≡ accepted_text u) print_same is)
 
--- memory was refused: nothing is said of any text
-pub none_judged : (r : Option (List ℕ)) → IfSome r (λ text. Unit {0})
-none_judged None = tt
-none_judged (Some text) = tt
+-- what was judged is an answer of one line
+lines_judged : (t : TableRows) (claims : NamedRows) (line : List ℕ) (judged : Result Outcome Failure) → Judges t (Ok claims) line judged → Judged (AnswersVerdict t claims) line judged
+lines_judged t claims line (Ok outcome) h = (one_line line outcome, h, refl, refl)
+lines_judged t claims line (Err Source) h = tt
+lines_judged t claims line (Err Memory) h = tt
+lines_judged t claims line (Err Sink) h = h
 
-module _ {E : Type 0} where
-  -- the certificate was read, and judged if the threads could be started
-  pub read_by : (t : TableRows) (r : Option (List ℕ)) (line : List ℕ) (named : NamedRows) (result : Result (Result ℕ Failure) E) → IfSome r (λ text. certificate_of text ≡ Ok named)
-      → IfOk result (Judges t (Ok named) line) → IfOk result (λ judged. IfSome r (λ text. Judges t (certificate_of text) line judged))
-  read_by t r line named (Err e) loads judges = tt
-  read_by t None line named (Ok judged) loads judges = tt
-  read_by t (Some text) line named (Ok judged) loads judges = rw loads judges
+pub lines_by : {E : Type 0} (t : TableRows) (claims : NamedRows) (line : List ℕ) (result : Result (Result Outcome Failure) E) → IfOk result (Judges t (Ok claims) line)
+    → IfOk result (Judged (AnswersVerdict t claims) line)
+lines_by t claims line (Err e) judges = tt
+lines_by t claims line (Ok judged) judges = lines_judged t claims line judged judges
 
-  -- the same of the tables that are shared
-  pub shared_by : (t shared : TableRows) (r : Option (List ℕ)) (line : List ℕ) (result : Result (Result ℕ Failure) E) → shared ≡ t
-      → IfOk result (λ judged. IfSome r (λ text. Judges shared (certificate_of text) line judged)) → IfOk result (λ judged. IfSome r (λ text. Judges t (certificate_of text) line judged))
-  shared_by t shared r line result same judges = subst (λ u. IfOk result (λ judged. IfSome r (λ text. Judges u (certificate_of text) line judged))) same judges
+-- ---- the report
 
-  -- both texts
-  pub both_by : (t : TableRows) (r s : Option (List ℕ)) (line : List ℕ) (result : Result (Result ℕ Failure) E) → IfSome r (λ x. Loads (tables_of x) (Ok t))
-      → IfOk result (λ judged. IfSome s (λ x. Judges t (certificate_of x) line judged))
-      → IfOk result (λ judged. (rows text : List ℕ) → r ≡ Some rows → s ≡ Some text → JudgesTexts rows text line judged)
-  both_by t r s line (Err e) loads judges = tt
-  both_by t r s line (Ok judged) loads judges = λ rows text e f. both_judged t r s rows text line judged e f loads judges
+claims_checked : (t : TableRows) (answer : Answer) (reading : Reading NamedRows) → AnswersClaims AnswersVerdict t reading answer → answer ≡ answer_claims t reading
+claims_checked t answer (Ok claims) (is, certified) = is
+claims_checked t answer (Err fault) is = is
 
-  -- failures of both sources
-  pub both_raise : (a a' b b' : ℕ) (result : Result (Result ℕ Failure) E) → a' ≡ a + 0 → MatchResult result (Raises b b') (λ _. b' ≡ b) → MatchResult result (Raises (a + b) (a' + b')) (λ _. a' + b' ≡ a + b)
-  both_raise a a' b b' (Ok judged) e h = both_raised a a' b b' judged e h
-  both_raise a a' b b' (Err x) e h = omega arith
+claims_certified : (t : TableRows) (answer : Answer) (reading : Reading NamedRows) → AnswersClaims AnswersVerdict t reading answer → answer.outcome ≡ WasDone → Certifies t reading
+claims_certified t answer (Ok claims) (is, certified) done = certified done
+claims_certified t answer (Err fault) is done = absurd (cc)
 
--- the line of a thread that could not be started
-pub threads_written : {T F : Type 0} (old new : Option (List ℕ)) (waiting : List ℕ) (result : Result T F) (sink sink' status : ℕ) → waiting ≡ []
-    → Writes old new (waiting ++ (codes "failed threads" ++ 10 ∷ [])) result → sink' ≡ sink + failures_of result → status ≡ 3
-    → (sources sources' : ℕ) → sources' ≡ sources → ReportsThreads old new sources sources' sink sink' status
-threads_written old new waiting (Ok x) sink sink' status empty writes count is sources sources' same =
-    let P : List ℕ → Type 0 = λ w. Appends old new (w ++ (codes "failed threads" ++ 10 ∷ [])) in
-    record { three = is; unfailed = same; whole = λ _. subst P empty writes; cut = λ more. absurd (omega arith) }
-threads_written old new waiting (Err e) sink sink' status empty writes count is sources sources' same =
-    let P : List ℕ → Type 0 = λ w. AppendsFront old new (w ++ (codes "failed threads" ++ 10 ∷ [])) in
-    record { three = is; unfailed = same; whole = λ still. absurd (omega arith); cut = λ _. subst P empty writes }
+module _ (rows text : List ℕ) (answer : Answer) where
+  texts_checked : AnswersTexts AnswersVerdict rows text answer → AnswersCheck rows text answer
+  texts_checked (Ok t, read, is) = (Ok t, read, claims_checked t answer (certificate_of text) is)
+  texts_checked (Err (RefusedTables fault), read, is) = (Err (RefusedTables fault), read, is)
+  texts_checked (Err (NoMemory e), read, is) = absurd is
+
+  texts_certified : AnswersTexts AnswersVerdict rows text answer → answer.outcome ≡ WasDone → AreCertified rows text
+  texts_certified (Ok t, read, is) done = record { rows = t; read = read; certified = claims_certified t answer (certificate_of text) is done }
+  texts_certified (Err (RefusedTables fault), read, is) done = absurd (cc)
+  texts_certified (Err (NoMemory e), read, is) done = absurd is
+
+  either_checked : (exit : Exit) → WholeOrNone (AnswersTexts AnswersVerdict rows text) (is_answered exit) answer → WholeOrNone (AnswersCheck rows text) (is_answered exit) answer
+  either_checked Done is = texts_checked is
+  either_checked Refused is = texts_checked is
+  either_checked Unreadable is = texts_checked is
+  either_checked Failed (inl is) = inl (texts_checked is)
+  either_checked Failed (inr none) = inr none
+
+was_done : (outcome : Outcome) → Done ≡ exit_with outcome → outcome ≡ WasDone
+was_done WasDone e = refl
+was_done WasRefused e = absurd (cc)
+was_done WasUnreadable e = absurd (cc)
+
+done_not_failed : Done ≢ Failed
+done_not_failed e = cc
+
+-- what was judged by threads is what `check` reports
+check_reported : (rows text : List ℕ) (old new : Option (List ℕ)) (a a' k k' : ℕ) (exit : Exit)
+    → Reported (WholeOrNone (AnswersTexts AnswersVerdict rows text) (is_answered exit)) old new a a' k k' exit → ReportsCheck rows text old new a a' k k' exit
+check_reported rows text old new a a' k k' exit r = record {
+  reported = record { answer = r.answer; failure = r.failure; is = either_checked rows text r.answer exit r.is; reports = r.reports; counted = r.counted; memory = r.memory };
+  certified = by exit r;
+} where
+  by : (exit : Exit) → Reported (WholeOrNone (AnswersTexts AnswersVerdict rows text) (is_answered exit)) old new a a' k k' exit → exit ≡ Done → AreCertified rows text
+  by Done r e = texts_certified rows text r.answer r.is (was_done r.answer.outcome (r.reports.done done_not_failed).1)
+  by Refused r e = absurd (cc)
+  by Unreadable r e = absurd (cc)
+  by Failed r e = absurd (cc)
+
+-- or a thread could not be started
+pub checked_or : (rows text : List ℕ) (old new : Option (List ℕ)) (a a' k k' : ℕ) (exit : Exit) (Other : Type 0)
+    → Reported (WholeOrNone (AnswersTexts AnswersVerdict rows text) (is_answered exit)) old new a a' k k' exit ⊎ Other → ReportsCheck rows text old new a a' k k' exit ⊎ Other
+checked_or rows text old new a a' k k' exit Other (inl r) = inl (check_reported rows text old new a a' k k' exit r)
+checked_or rows text old new a a' k k' exit Other (inr h) = inr h

@@ -1,14 +1,15 @@
 pub mod Auditing
 pub mod Checking
 pub mod CheckingPar
-pub mod Exits
+pub mod DecodeExits
 pub mod Finding
 pub mod LineAnswers
-pub mod Loading
 pub mod Numbers
 pub mod Recorded
 pub mod ReplayExits
 pub mod ReplayReports
 pub mod Said
 pub mod Says
+pub mod Shown
 pub mod StepLemmas
+pub mod Threading

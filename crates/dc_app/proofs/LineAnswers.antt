@@ -4,7 +4,9 @@ use Rattle.std.proofs.lemmas.Bool.Decides.{eqb_tells, nat_tests}
 use Rattle.dc_word.specs.declared.format.Format.{Format}
 use Rattle.dc_device.specs.Lines.{NoFeed, lines_of, onto_first}
 use Rattle.dc_device.specs.lemmas.LineLemmas.{NoFeed-push, lines_of_front, lines_of_rest, lines_of_whole}
-use Rattle.dc_app.specs.Answer.{fault}
+use Rattle.dc_event.specs.TraceFaults.{line_rule_code}
+use Rattle.dc_event.specs.declared.trace.LineRule.TheVariants.{LineTooLong}
+use Rattle.dc_answer.specs.Answer.{fault}
 use Rattle.dc_app.specs.Decode.{answer_end, answer_lines, answer_text, answer_word, too_long}
 use Rattle.dc_event.specs.WordText.{word_of}
 
@@ -40,7 +42,7 @@ answer_cut format room number line plain short fits =
 
 -- a byte past a limit
 long_lines : (format : Format) (room number : ℕ) (front : List ℕ) → (room < length front) ⊎ (64 < length front) → (ls : List (List ℕ)) (rest : List ℕ)
-    → (let lines = onto_first front ls rest in answer_lines format room number lines.0 lines.1) ≡ fault (codes "E1") number
+    → (let lines = onto_first front ls rest in answer_lines format room number lines.0 lines.1) ≡ fault (line_rule_code LineTooLong) number
 long_lines format room number front (inl h) [] rest =
     let p : room < length (front ++ rest) = omega (arith, length-append front rest) in
     rw (is_long room (length (front ++ rest)) (length (front ++ rest)) (inl p)) refl
@@ -55,18 +57,18 @@ long_lines format room number front (inr h) (l ∷ ls) rest =
     rw (is_long room (length (front ++ l)) (length (front ++ l) + 1) (inr p)) refl
 
 past : (format : Format) (room number : ℕ) (front rest : List ℕ) → NoFeed front → (room < length front) ⊎ (64 < length front)
-    → answer_text format room number (front ++ rest) ≡ fault (codes "E1") number
+    → answer_text format room number (front ++ rest) ≡ fault (line_rule_code LineTooLong) number
 past format room number front rest plain h =
     rw (lines_of_front front rest plain) (long_lines format room number front h (lines_of rest).0 (lines_of rest).1)
 
 no_room : (format : Format) (room number : ℕ) (line rest : List ℕ) → NoFeed line → length line ≡ room
-    → answer_text format room number (line ++ 10 ∷ rest) ≡ fault (codes "E1") number
+    → answer_text format room number (line ++ 10 ∷ rest) ≡ fault (line_rule_code LineTooLong) number
 no_room format room number line rest plain h =
     let p : room < length line + 1 = omega arith in
     rw (lines_of_whole line rest plain, is_long room (length line) (length line + 1) (inl p)) refl
 
 pub answer_long : (format : Format) (room number : ℕ) (line : List ℕ) (b : ℕ) (rest : List ℕ) → NoFeed line
-    → (length line ≡ room) ⊎ ((b ≢ 10) × (length line ≡ 64)) → answer_text format room number (line ++ b ∷ rest) ≡ fault (codes "E1") number
+    → (length line ≡ room) ⊎ ((b ≢ 10) × (length line ≡ 64)) → answer_text format room number (line ++ b ∷ rest) ≡ fault (line_rule_code LineTooLong) number
 answer_long format room number line b rest plain (inr (other, h)) =
     let p : 64 < length (line ++ b ∷ []) = omega (arith, length-append line (b ∷ [])) in
     ap (answer_text format room number) (sym (append_assoc line (b ∷ []) rest))

@@ -14,6 +14,8 @@ use Rattle.dc_event.specs.declared.event.Event.TheVariants.{Tick, Arrive, Route,
 use Rattle.dc_event.specs.declared.trace.LineRule.{LineRule}
 use Rattle.dc_event.specs.declared.trace.LineRule.TheVariants.{LineTooLong, NameUnknown}
 use Rattle.dc_event.specs.declared.trace.TraceFault.{TraceFault}
+use Rattle.dc_event.specs.declared.trace_reader.TheConstants.{TRACE_LIMIT}
+use Rattle.dc_app.specs.declared.recording.TheConstants.{MOST_EVENTS}
 use Rattle.dc_app.specs.Audit.{run_of, unless_faulty}
 
 -- the number of a name is one of the names
@@ -27,7 +29,7 @@ module _ (t : TableRows) (keyed : AreKeyed t) where
   arrival_numbered : (bus word : Option ℕ) (e : Event) → ((n : ℕ) → bus ≡ Some n → n < length t.buses) → arrival bus word ≡ Ok e → IsNumbered t e
   arrival_numbered None word e below is = absurd (cc)
   arrival_numbered (Some b) None e below is = absurd (cc)
-  arrival_numbered (Some b) (Some w) e below is = let same : Arrive b w ≡ e = cc in subst (IsNumbered t) same (below b refl)
+  arrival_numbered (Some b) (Some w) e below is = let same : Arrive w b ≡ e = cc in subst (IsNumbered t) same (below b refl)
 
   arrive_numbered : (fields : List (List ℕ)) (e : Event) → arrive_fields t fields ≡ Ok e → IsNumbered t e
   arrive_numbered [] e is = absurd (cc)
@@ -110,12 +112,12 @@ module _ (t : TableRows) (keyed : AreKeyed t) where
   reported_numbered false events run late None all is = let same : events ≡ run = cc in subst (IsRun t) same all
   reported_numbered false events run late (Some f) all is = absurd (cc)
 
-  trace_numbered : (text : List ℕ) → IsRun t (trace_of t 1073741824 text).events
+  trace_numbered : (text : List ℕ) → IsRun t (trace_of t TRACE_LIMIT text).events
   unfolding trace_of
-  trace_numbered text = lines_numbered 1073741824 1 (lines_of text).0 (lines_of text).1
+  trace_numbered text = lines_numbered TRACE_LIMIT 1 (lines_of text).0 (lines_of text).1
 
   -- the run that a trace tells is one of the tables
   pub run_numbered : (text : List ℕ) (run : List Event) → run_of t text ≡ Ok run → IsRun t run
   run_numbered text run is =
-      let trace : Trace = trace_of t 1073741824 text in
-      reported_numbered (nat_lt 100000 (length trace.events)) trace.events run (record { rule = LineTooLong; line = 100001 }) trace.fault (trace_numbered text) is
+      let trace : Trace = trace_of t TRACE_LIMIT text in
+      reported_numbered (nat_lt MOST_EVENTS (length trace.events)) trace.events run (record { rule = LineTooLong; line = MOST_EVENTS + 1 }) trace.fault (trace_numbered text) is

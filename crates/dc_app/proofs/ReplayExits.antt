@@ -19,16 +19,20 @@ use Rattle.dc_event.specs.declared.trace.TraceFault.{TraceFault}
 use Rattle.dc_event.specs.declared.trace.TraceStop.{TraceStop}
 use Rattle.dc_event.specs.declared.trace.TraceStop.TheVariants.{End, Fault, Broken}
 use Rattle.dc_core.specs.Standing.{MayFollow}
-use Rattle.dc_app.specs.Answer.{Answer, Ends, EndsSome, after_all, is_whole, nothing}
+use Rattle.dc_event.specs.declared.trace_reader.TheConstants.{TRACE_LIMIT}
+use Rattle.dc_answer.specs.Answer.{Answer, Ends, EndsSome, after_all, nothing}
+use Rattle.dc_answer.specs.Exits.{is_whole}
+use Rattle.dc_answer.specs.declared.exit.Outcome.{Outcome}
+use Rattle.dc_answer.specs.declared.exit.Outcome.TheVariants.{Done}
 use Rattle.dc_app.specs.Refusals.{StopsBy, refused, stop_end}
 use Rattle.dc_app.specs.Replay.{AllFollow, EndsBy, GoesOn, WritesTrace}
 use Rattle.dc_app.specs.Steps.{StandsAt, Steps}
-use Rattle.dc_app.specs.declared.answer.Failure.{Failure}
-use Rattle.dc_app.specs.declared.answer.Failure.TheVariants.{Sink, Memory}
+use Rattle.dc_answer.specs.declared.answer.Failure.{Failure}
+use Rattle.dc_answer.specs.declared.answer.Failure.TheVariants.{Sink, Memory}
 use Rattle.dc_app.specs.declared.steps.Progress.{Progress}
 use Rattle.dc_app.specs.declared.steps.Refusal.{Refusal}
 use Rattle.dc_app.specs.declared.steps.Step.{Step}
-use Rattle.dc_app.proofs.Exits.{by_text, ends_after, gathered_lines, gathered_pushed, some_ends}
+use Rattle.dc_answer.specs.lemmas.Endings.{by_text, ends_after, gathered_lines, gathered_pushed, some_ends}
 use Rattle.dc_app.proofs.Said.{Said, behind}
 
 -- ---- runs
@@ -74,17 +78,17 @@ behind_next done e trace rest more whole first =
 module _ (t : TableRows) (all : Bool) (from : Option (List ℕ)) where
   -- nothing was carried out and nothing was said
   pub said_first : (left : Option Trace) (p : Progress) (old : Option (List ℕ)) (waiting : List ℕ) → StandsAt p [] → waiting ≡ []
-      → ((text : List ℕ) → from ≡ Some text → left ≡ Some (trace_of t 1073741824 text)) → Said t all from left p old old waiting
+      → ((text : List ℕ) → from ≡ Some text → left ≡ Some (trace_of t TRACE_LIMIT text)) → Said t all from left p old old waiting
   said_first left p old waiting at empty whole = record {
     done = [];
     follow = tt;
     at = at;
     gathered = ([], Appends-nil old, rw (empty, run_lines-nil t all) refl);
-    ahead = λ text is. (trace_of t 1073741824 text, whole text is, refl);
+    ahead = λ text is. (trace_of t TRACE_LIMIT text, whole text is, refl);
   }
 
   -- what was said, and the end
-  said_ends : (left : Option Trace) (p : Progress) (old new end : Option (List ℕ)) (waiting : List ℕ) (result : Result ℕ Failure) (s : Said t all from left p old new waiting)
+  said_ends : (left : Option Trace) (p : Progress) (old new end : Option (List ℕ)) (waiting : List ℕ) (result : Result Outcome Failure) (s : Said t all from left p old new waiting)
       → ((rest : Trace) → left ≡ Some rest → (last : Answer) × GoesOn (is_whole result) t s.done rest.events rest.fault last × Ends new waiting end last result)
       → IfSome from (λ text. WritesTrace t all text old end result)
   said_ends left p old new end waiting result s f = by_text from (λ text. WritesTrace t all text old end result) (λ text is.
@@ -115,21 +119,21 @@ module _ (t : TableRows) (all : Bool) (from : Option (List ℕ)) where
       → GoesOn whole t done rest.events rest.fault last
   over_goes whole done rest fault last is h = subst (λ (r : Trace). GoesOn whole t done r.events r.fault last) (sym is) (goes_either whole done [] fault last h)
 
-  stop_goes : (stop : TraceStop) (result : Result ℕ Failure) (left later : Option Trace) (done : List Event) (rest : Trace) → left ≡ Some rest → Tells left later (Err stop) → StopsBy stop result
+  stop_goes : (stop : TraceStop) (result : Result Outcome Failure) (left later : Option Trace) (done : List Event) (rest : Trace) → left ≡ Some rest → Tells left later (Err stop) → StopsBy stop result
       → GoesOn (is_whole result) t done rest.events rest.fault (stop_end stop)
   stop_goes End result left later done rest at reported stops = over_goes (is_whole result) done rest None nothing (over left rest None at reported) refl
   stop_goes (Fault f) result left later done rest at reported stops = over_goes (is_whole result) done rest (Some f) (stop_end (Fault f)) (over left rest (Some f) at reported) refl
-  stop_goes Broken (Ok x) left later done rest at reported (never, low) = absurd (never refl)
+  stop_goes Broken (Ok x) left later done rest at reported never = absurd (never refl)
   stop_goes Broken (Err x) left later done rest at reported stops = inr refl
 
   -- the reader stopped
-  pub stop_ends : (left later : Option Trace) (p : Progress) (old new end : Option (List ℕ)) (waiting : List ℕ) (stop : TraceStop) (result : Result ℕ Failure) → Said t all from left p old new waiting
+  pub stop_ends : (left later : Option Trace) (p : Progress) (old new end : Option (List ℕ)) (waiting : List ℕ) (stop : TraceStop) (result : Result Outcome Failure) → Said t all from left p old new waiting
       → Tells left later (Err stop) → StopsBy stop result → Ends new waiting end (stop_end stop) result → IfSome from (λ text. WritesTrace t all text old end result)
   stop_ends left later p old new end waiting stop result s reported stops ends =
       said_ends left p old new end waiting result s (λ rest at. (stop_end stop, stop_goes stop result left later s.done rest at reported stops, ends))
 
   -- the next event was refused
-  pub refused_ends : (rows : TableRows) (left later : Option Trace) (p p' : Progress) (old new end : Option (List ℕ)) (waiting : List ℕ) (e : Event) (r : Refusal) (result : Result ℕ Failure)
+  pub refused_ends : (rows : TableRows) (left later : Option Trace) (p p' : Progress) (old new end : Option (List ℕ)) (waiting : List ℕ) (e : Event) (r : Refusal) (result : Result Outcome Failure)
       → rows ≡ t → Said t all from left p old new waiting → TellsEvent left later e → ((done : List Event) → StandsAt p done → Steps rows p' done e (Err r))
       → Ends new waiting end (refused t r.event r.fault r.number) result → IfSome from (λ text. WritesTrace t all text old end result)
   refused_ends rows left later p p' old new end waiting e r result same s reported steps ends = said_ends left p old new end waiting result s (λ rest at.
@@ -155,7 +159,7 @@ module _ (t : TableRows) (all : Bool) (from : Option (List ℕ)) where
       let (more, later_is, first) = next left later rest e at reported in
       let (may, stands, step_is) = subst (λ rows. Steps rows p' s.done e (Ok step)) same (steps s.done s.at) in
       let lines : printed step ≡ event_lines t all s.done e = ap printed step_is in
-      let tail : Answer = record { lines = event_lines t all s.done e; status = 0 } in
+      let tail : Answer = record { lines = event_lines t all s.done e; outcome = Done } in
       let front : AppendsFront old end (spelled (run_lines t all s.done ++ event_lines t all s.done e)) =
       ends_after old new end waiting (run_lines t all s.done) tail (Err Sink) s.gathered (subst (λ ls. AppendsFront new end (waiting ++ spelled ls)) lines failed) in
       let all_lines : run_lines t all s.done ++ event_lines t all s.done e ≡ run_lines t all (s.done ++ e ∷ []) ++ [] = sym (run_lines-push t all s.done e) ∙ sym (append-nil (run_lines t all (s.done ++ e ∷ []))) in (
@@ -164,7 +168,7 @@ module _ (t : TableRows) (all : Bool) (from : Option (List ℕ)) where
           done = s.done ++ e ∷ [];
           rest = more.events;
           last = nothing;
-          events = ap (λ (r : Trace). r.events) (behind_next s.done e (trace_of t 1073741824 text) rest more whole first);
+          events = ap (λ (r : Trace). r.events) (behind_next s.done e (trace_of t TRACE_LIMIT text) rest more whole first);
           follow = follow-push t [] s.done e s.follow may;
           goes_on = inr refl;
           said = refl;
@@ -187,7 +191,7 @@ module _ (t : TableRows) (all : Bool) (from : Option (List ℕ)) where
         ahead = λ text is.
             let (rest, at, whole) = s.ahead text is in
             let (more, later_is, first) = next left later rest e at reported in
-            (more, later_is, behind_next s.done e (trace_of t 1073741824 text) rest more whole first);
+            (more, later_is, behind_next s.done e (trace_of t TRACE_LIMIT text) rest more whole first);
       }
 
   -- the source gave more, when what waited was pushed
@@ -205,7 +209,7 @@ module _ (t : TableRows) (all : Bool) (from : Option (List ℕ)) where
 
   -- ---- the same, whatever the source gives
 
-  pub said_some : (left : Option Trace) (p : Progress) (old new end : Option (List ℕ)) (waiting : List ℕ) (last : Answer) (result : Result ℕ Failure) → Said t all from left p old new waiting
+  pub said_some : (left : Option Trace) (p : Progress) (old new end : Option (List ℕ)) (waiting : List ℕ) (last : Answer) (result : Result Outcome Failure) → Said t all from left p old new waiting
       → Ends new waiting end last result → EndsSome old end result
   said_some left p old new end waiting last result s ends = some_ends old new end waiting (run_lines t all s.done) last result s.gathered ends
 
@@ -213,7 +217,7 @@ module _ (t : TableRows) (all : Bool) (from : Option (List ℕ)) where
   pub cut_some : (left : Option Trace) (p : Progress) (old new end : Option (List ℕ)) (waiting : List ℕ) (lines : List (List ℕ)) (failure : Failure) → Said t all from left p old new waiting
       → AppendsFront new end (waiting ++ spelled lines) → failure ≡ Sink → EndsSome old end (Err failure)
   cut_some left p old new end waiting lines failure s failed is =
-      let last : Answer = record { lines = lines; status = 0 } in
+      let last : Answer = record { lines = lines; outcome = Done } in
       rw is (said_some left p old new end waiting last (Err Sink) s failed)
 
   -- nothing was written
@@ -222,7 +226,7 @@ module _ (t : TableRows) (all : Bool) (from : Option (List ℕ)) where
     nothing,
     record {
       done = [];
-      rest = (trace_of t 1073741824 text).events;
+      rest = (trace_of t TRACE_LIMIT text).events;
       last = nothing;
       events = refl;
       follow = tt;

@@ -7,6 +7,7 @@ use Rattle.dc_event.specs.ReplyText.{run_lines}
 use Rattle.dc_event.specs.TraceText.{Trace, trace_of}
 use Rattle.dc_event.specs.declared.event.Event.{Event}
 use Rattle.dc_event.specs.declared.trace.TraceStop.{TraceStop}
+use Rattle.dc_event.specs.declared.trace_reader.TheConstants.{TRACE_LIMIT}
 use Rattle.dc_app.specs.Replay.{AllFollow}
 use Rattle.dc_app.specs.Steps.{StandsAt}
 use Rattle.dc_app.specs.declared.steps.Progress.{Progress}
@@ -21,7 +22,7 @@ pub record Said (t : TableRows) (all : Bool) (from : Option (List ℕ)) (left : 
   pub follow : AllFollow t [] done
   pub at : StandsAt p done
   pub gathered : Gathered old [] new waiting (spelled (run_lines t all done))
-  pub ahead : (text : List ℕ) → from ≡ Some text → (rest : Trace) × (left ≡ Some rest) × (trace_of t 1073741824 text ≡ behind done rest)
+  pub ahead : (text : List ℕ) → from ≡ Some text → (rest : Trace) × (left ≡ Some rest) × (trace_of t TRACE_LIMIT text ≡ behind done rest)
 
 -- how many rounds a reader makes at most
 abbrev pub steps : Option TraceStop → ℕ → ℕ

@@ -1,12 +1,11 @@
 -- What `audit` answers to the texts of tables, of a certificate and of a trace.
-use Rattle.std.specs.Prelude.{◌≡◌, ◌⊎◌, ℕ, nat_lt, Bool, true, false, ◌&&◌, is_none, if◌then◌else◌, Option, Some, None, List, [], ◌∷◌, ◌++◌, length, Result, Ok, Err, codes, decimal}
+use Rattle.std.specs.Prelude.{◌≡◌, ◌⊎◌, ◌+◌, ℕ, nat_lt, Bool, true, false, ◌&&◌, is_none, if◌then◌else◌, Option, Some, None, List, [], ◌∷◌, ◌++◌, length, Result, Ok, Err, codes, decimal}
 use Rattle.std.specs.Global.{Vec}
 use Rattle.dc_cert.specs.Bounds.{numbers_of}
 use Rattle.dc_cert.specs.NamedRows.{NamedRows}
 use Rattle.dc_cert.specs.Reading.{Reading, certificate_of}
 use Rattle.dc_check.specs.Verdict.{verdict_of}
 use Rattle.dc_check.specs.declared.fault.CheckFault.{CheckFault}
-use Rattle.dc_device.specs.Lines.{spelled}
 use Rattle.dc_event.specs.Breaks.{BreaksBudgetsAt, BreaksSourcesAt, BreaksClaimsAt}
 use Rattle.dc_event.specs.ClaimNumber.{claim_number}
 use Rattle.dc_event.specs.TraceText.{Trace, trace_of}
@@ -19,14 +18,18 @@ use Rattle.dc_parts.specs.declared.fault.BuildError.TheVariants.{Refused, Memory
 use Rattle.dc_tables.specs.TableRows.{TableRows}
 use Rattle.dc_toml.specs.Reading.{tables_of}
 use Rattle.dc_toml.specs.Reported.{TellsTables}
-use Rattle.dc_app.specs.Answer.{Answer, Reported}
+use Rattle.dc_event.specs.declared.trace_reader.TheConstants.{TRACE_LIMIT}
+use Rattle.dc_app.specs.declared.recording.TheConstants.{MOST_EVENTS}
+use Rattle.dc_answer.specs.Answer.{Answer, Reported, WholeOrNone}
 use Rattle.dc_app.specs.Check.{AreCertified, answer_claims, answer_verdict}
-use Rattle.dc_app.specs.Refusals.{tables_end, trace_end}
-use Rattle.dc_app.specs.declared.answer.Failure.{Failure}
-use Rattle.dc_app.specs.declared.answer.Failure.TheVariants.{Source, Sink, Memory}
+use Rattle.dc_answer.specs.Exits.{is_answered}
+use Rattle.dc_answer.specs.Inputs.{tables_end}
+use Rattle.dc_app.specs.Refusals.{trace_end}
+use Rattle.dc_answer.specs.declared.exit.Exit.{Exit}
+use Rattle.dc_answer.specs.declared.exit.Outcome.TheVariants.{Done, Refused as WasRefused}
 use Rattle.dc_app.specs.declared.audit.Findings.{Findings}
-use Rattle.dc_app.specs.declared.inputs.Unloaded.{Unloaded}
-use Rattle.dc_app.specs.declared.inputs.Unloaded.TheVariants.{Refused as Faulty, Failed}
+use Rattle.dc_answer.specs.declared.inputs.Unloaded.{Unloaded}
+use Rattle.dc_answer.specs.declared.inputs.Unloaded.TheVariants.{Refused as Faulty, Failed}
 
 -- ---- the run of a trace
 
@@ -38,12 +41,12 @@ unless_faulty events (Some fault) = Err fault
 -- the run that a trace tells, or its first fault: after 100,000 events a line is one too many
 abbrev pub run_reported : Trace → Result (List Event) TraceFault
 run_reported trace =
-    if nat_lt 100000 (length trace.events) then Err (record { rule = LineTooLong; line = 100001 })
+    if nat_lt MOST_EVENTS (length trace.events) then Err (record { rule = LineTooLong; line = MOST_EVENTS + 1 })
     else unless_faulty trace.events trace.fault
 
 -- the same of a text of at most 2^30 bytes
 abbrev pub run_of : TableRows → List ℕ → Result (List Event) TraceFault
-run_of t text = run_reported (trace_of t 1073741824 text)
+run_of t text = run_reported (trace_of t TRACE_LIMIT text)
 
 -- ---- the three lines
 
@@ -65,7 +68,7 @@ abbrev pub all_hold : Findings → Bool
 all_hold f = is_none f.budgets && is_none f.sources && is_none f.claims
 
 abbrev pub answer_findings : Findings → Answer
-answer_findings f = record { lines = findings_lines f; status = if all_hold f then 0 else 1 }
+answer_findings f = record { lines = findings_lines f; outcome = if all_hold f then Done else WasRefused }
 
 -- Where a run first breaks the budgets, what is asked of the sources, and the claims by these ages, of which the least that
 -- fails there; places are counted from 1, and the event of a place is that of its line.
@@ -104,18 +107,9 @@ AnswersAudit tables certificate trace answer =
 
 -- what `audit` answers: where it is not whole, that or no line
 abbrev pub AuditAnswers : List ℕ → List ℕ → List ℕ → Bool → Answer → Type 0
-AuditAnswers tables certificate trace true answer = AnswersAudit tables certificate trace answer
-AuditAnswers tables certificate trace false answer = AnswersAudit tables certificate trace answer ⊎ (answer.lines ≡ [])
+AuditAnswers tables certificate trace = WholeOrNone (AnswersAudit tables certificate trace)
 
--- ---- what is judged, before it is written
-
--- The text and the status are those of an answer that is such, its lines parted by line feeds; or memory was refused, or
--- a source failed.
-abbrev pub Judged : (Answer → Type 0) → List ℕ → Result ℕ Failure → Type 0
-Judged Is text (Ok status) = (answer : Answer) × Is answer × (text ++ 10 ∷ [] ≡ spelled answer.lines) × (status ≡ answer.status)
-Judged Is text (Err Source) = Unit {0}
-Judged Is text (Err Memory) = Unit {0}
-Judged Is text (Err Sink) = ⊥
+-- ---- what is read
 
 -- the run that a trace tells, or its first fault; something else may fail with any trace
 abbrev pub LoadsRun : Result (List Event) TraceFault → Result (Vec Event) (Unloaded TraceFault) → Type 0
@@ -126,9 +120,9 @@ LoadsRun reported (Err (Failed failure)) = Unit {0}
 -- ---- what is reported
 
 -- What `audit` reports, where its sources and its sink failed so often before and after it
-abbrev pub ReportsAudit : List ℕ → List ℕ → List ℕ → Option (List ℕ) → Option (List ℕ) → ℕ → ℕ → ℕ → ℕ → ℕ → Type 0
-ReportsAudit tables certificate trace old new sources sources' sink sink' status =
-    Reported (AuditAnswers tables certificate trace (nat_lt status 3)) old new sources sources' sink sink' status
+abbrev pub ReportsAudit : List ℕ → List ℕ → List ℕ → Option (List ℕ) → Option (List ℕ) → ℕ → ℕ → ℕ → ℕ → Exit → Type 0
+ReportsAudit tables certificate trace old new sources sources' sink sink' exit =
+    Reported (AuditAnswers tables certificate trace (is_answered exit)) old new sources sources' sink sink' exit
 
 -- the trace is asked for only where the texts are those of tables and of a certificate that is accepted for them; else it is untouched
 abbrev pub OnlyCertified : List ℕ → List ℕ → Type 0 → Type 0

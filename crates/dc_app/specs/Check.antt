@@ -1,5 +1,5 @@
 -- What `check` answers to the texts of tables and of a certificate.
-use Rattle.std.specs.Prelude.{◌≡◌, ◌⊎◌, ℕ, nat_lt, Bool, true, false, Option, Some, None, List, [], Result, Ok, Err}
+use Rattle.std.specs.Prelude.{◌≡◌, ℕ, Bool, Option, Some, None, List, Result, Ok, Err}
 use Rattle.dc_cert.specs.NamedRows.{NamedRows}
 use Rattle.dc_cert.specs.Faults.{fault_text}
 use Rattle.dc_cert.specs.Reading.{Reading, certificate_of}
@@ -13,17 +13,22 @@ use Rattle.dc_parts.specs.declared.fault.BuildError.{BuildError}
 use Rattle.dc_parts.specs.declared.fault.BuildError.TheVariants.{Refused, Memory as NoMemory}
 use Rattle.dc_toml.specs.Reading.{tables_of}
 use Rattle.dc_toml.specs.Reported.{TellsTables, AreTablesOf}
-use Rattle.dc_app.specs.Answer.{Answer, Reported, one_line, unreadable}
-use Rattle.dc_app.specs.Refusals.{tables_end}
-use Rattle.dc_app.specs.declared.answer.Failure.{Failure}
-use Rattle.dc_app.specs.declared.answer.Failure.TheVariants.{Source, Sink, Memory}
+use Rattle.dc_answer.specs.Answer.{Answer, Reported, WholeOrNone, one_line, unreadable}
+use Rattle.dc_answer.specs.Exits.{is_answered}
+use Rattle.dc_answer.specs.Inputs.{tables_end}
+use Rattle.dc_answer.specs.declared.answer.Failure.{Failure}
+use Rattle.dc_answer.specs.declared.answer.Failure.TheVariants.{Source, Sink, Memory}
+use Rattle.dc_answer.specs.declared.exit.Exit.{Exit}
+use Rattle.dc_answer.specs.declared.exit.Exit.TheVariants.{Done}
+use Rattle.dc_answer.specs.declared.exit.Outcome.{Outcome}
+use Rattle.dc_answer.specs.declared.exit.Outcome.TheVariants.{Done as WasDone, Refused as WasRefused}
 
 -- ---- the answer
 
 -- to a verdict
 abbrev pub answer_verdict : TableRows → Option CheckFault → Answer
-answer_verdict t None = one_line (accepted_text t) 0
-answer_verdict t (Some fault) = one_line (refused_text t fault) 1
+answer_verdict t None = one_line (accepted_text t) WasDone
+answer_verdict t (Some fault) = one_line (refused_text t fault) WasRefused
 
 -- to a certificate that reads so
 abbrev pub answer_claims : TableRows → Reading NamedRows → Answer
@@ -42,8 +47,7 @@ AnswersCheck tables certificate answer = (read : Result TableRows BuildError) ×
 
 -- what `check` answers: where it is not whole, that or no line
 abbrev pub CheckAnswers : List ℕ → List ℕ → Bool → Answer → Type 0
-CheckAnswers tables certificate true answer = AnswersCheck tables certificate answer
-CheckAnswers tables certificate false answer = AnswersCheck tables certificate answer ⊎ (answer.lines ≡ [])
+CheckAnswers tables certificate = WholeOrNone (AnswersCheck tables certificate)
 
 -- ---- an accepted certificate
 
@@ -54,6 +58,10 @@ pub record Certifies (t : TableRows) (reading : Reading NamedRows) : Type 0 wher
   pub accepted : Accepts t claims
   pub kept : KeepsItsClaims t claims
 
+-- to a certificate: the verdict, and where that is to accept it, it is such
+abbrev pub AnswersVerdict : TableRows → NamedRows → Answer → Type 0
+AnswersVerdict t claims answer = (answer ≡ answer_verdict t (verdict_of t claims)) × (answer.outcome ≡ WasDone → Certifies t (Ok claims))
+
 -- the texts are those of tables and of such a certificate for them
 pub record AreCertified (tables certificate : List ℕ) : Type 0 where
   pub rows : TableRows
@@ -62,23 +70,23 @@ pub record AreCertified (tables certificate : List ℕ) : Type 0 where
 
 -- ---- what is judged, before it is written
 
--- the line and the status, with what status 0 means; or memory was refused, or the source failed
-abbrev pub Judges : TableRows → Reading NamedRows → List ℕ → Result ℕ Failure → Type 0
-Judges t reading line (Ok status) = (one_line line status ≡ answer_claims t reading) × (status ≡ 0 → Certifies t reading)
+-- the line and the outcome, with what it means to be done; or memory was refused, or the source failed
+abbrev pub Judges : TableRows → Reading NamedRows → List ℕ → Result Outcome Failure → Type 0
+Judges t reading line (Ok outcome) = (one_line line outcome ≡ answer_claims t reading) × (outcome ≡ WasDone → Certifies t reading)
 Judges t reading line (Err Source) = Unit {0}
 Judges t reading line (Err Memory) = Unit {0}
 Judges t reading line (Err Sink) = ⊥
 
-abbrev pub JudgesTexts : List ℕ → List ℕ → List ℕ → Result ℕ Failure → Type 0
-JudgesTexts tables certificate line (Ok status) = AnswersCheck tables certificate (one_line line status) × (status ≡ 0 → AreCertified tables certificate)
+abbrev pub JudgesTexts : List ℕ → List ℕ → List ℕ → Result Outcome Failure → Type 0
+JudgesTexts tables certificate line (Ok outcome) = AnswersCheck tables certificate (one_line line outcome) × (outcome ≡ WasDone → AreCertified tables certificate)
 JudgesTexts tables certificate line (Err Source) = Unit {0}
 JudgesTexts tables certificate line (Err Memory) = Unit {0}
 JudgesTexts tables certificate line (Err Sink) = ⊥
 
 -- ---- what is reported
 
--- What `check` reports, where its sources and its sink failed so often before and after it; with status 0 the certificate
+-- What `check` reports, where its sources and its sink failed so often before and after it; where it ends well, the certificate
 -- keeps its claims.
-pub record ReportsCheck (tables certificate : List ℕ) (old new : Option (List ℕ)) (sources sources' sink sink' status : ℕ) : Type 0 where
-  pub reported : Reported (CheckAnswers tables certificate (nat_lt status 3)) old new sources sources' sink sink' status
-  pub certified : status ≡ 0 → AreCertified tables certificate
+pub record ReportsCheck (tables certificate : List ℕ) (old new : Option (List ℕ)) (sources sources' sink sink' : ℕ) (exit : Exit) : Type 0 where
+  pub reported : Reported (CheckAnswers tables certificate (is_answered exit)) old new sources sources' sink sink' exit
+  pub certified : exit ≡ Done → AreCertified tables certificate

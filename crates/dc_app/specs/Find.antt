@@ -1,5 +1,5 @@
 -- What `find` answers to the text of tables.
-use Rattle.std.specs.Prelude.{◌≡◌, ◌⊎◌, ℕ, nat_lt, Bool, true, false, Option, List, [], ◌∷◌, ◌++◌, Result, Ok, Err, codes}
+use Rattle.std.specs.Prelude.{◌≡◌, ◌⊎◌, ℕ, Bool, Option, List, [], ◌∷◌, ◌++◌, Result, Ok, Err, codes}
 use Rattle.dc_cert.specs.NamedRows.{NamedRows}
 use Rattle.dc_cert.specs.Printing.{claims_text}
 use Rattle.dc_check.specs.Certified.{KeepsItsClaims}
@@ -19,11 +19,15 @@ use Rattle.dc_parts.specs.declared.fault.BuildError.TheVariants.{Refused, Memory
 use Rattle.dc_tables.specs.TableRows.{TableRows}
 use Rattle.dc_toml.specs.Reading.{tables_of}
 use Rattle.dc_toml.specs.Reported.{TellsTables}
-use Rattle.dc_app.specs.Answer.{Answer, Reported, one_line}
+use Rattle.dc_answer.specs.Answer.{Answer, Reported, WholeOrNone, one_line}
 use Rattle.dc_print.specs.Verdicts.{member_name, member_text}
-use Rattle.dc_app.specs.Refusals.{tables_end}
-use Rattle.dc_app.specs.declared.answer.Failure.{Failure}
-use Rattle.dc_app.specs.declared.answer.Failure.TheVariants.{Source, Sink, Memory}
+use Rattle.dc_answer.specs.declared.answer.Failure.{Failure}
+use Rattle.dc_answer.specs.Exits.{is_answered}
+use Rattle.dc_answer.specs.Inputs.{tables_end}
+use Rattle.dc_answer.specs.Judging.{Judged}
+use Rattle.dc_answer.specs.declared.exit.Exit.{Exit}
+use Rattle.dc_answer.specs.declared.exit.Outcome.{Outcome}
+use Rattle.dc_answer.specs.declared.exit.Outcome.TheVariants.{Done, Refused as WasRefused}
 
 -- ---- the line
 
@@ -52,14 +56,14 @@ pub record AnswersLeast (t : TableRows) (answer : Answer) : Type 0 where
   pub least : IsLeastAccepted t claims
   pub kept : KeepsItsClaims t claims
   pub text : Tells claims line
-  pub said : answer ≡ one_line line 0
+  pub said : answer ≡ one_line line Done
 
 -- none is accepted, and what stands first in the way of one
 pub record AnswersObstacle (t : TableRows) (answer : Answer) : Type 0 where
   pub fault : FindFault
   pub none : NoneAccepted t
   pub first : IsFirstInTheWay t fault
-  pub said : answer ≡ one_line (obstacle_text t fault) 1
+  pub said : answer ≡ one_line (obstacle_text t fault) WasRefused
 
 abbrev pub AnswersRows : TableRows → Answer → Type 0
 AnswersRows t answer = AnswersLeast t answer ⊎ AnswersObstacle t answer
@@ -76,28 +80,21 @@ AnswersFind tables answer = (read : Result TableRows BuildError) × TellsTables 
 
 -- what `find` answers: where it is not whole, that or no line
 abbrev pub FindAnswers : List ℕ → Bool → Answer → Type 0
-FindAnswers tables true answer = AnswersFind tables answer
-FindAnswers tables false answer = AnswersFind tables answer ⊎ (answer.lines ≡ [])
+FindAnswers tables = WholeOrNone (AnswersFind tables)
 
 -- ---- what is judged, before it is written
 
--- the line and the status; or memory was refused
-abbrev pub JudgesRows : TableRows → List ℕ → Result ℕ Failure → Type 0
-JudgesRows t line (Ok status) = AnswersRows t (one_line line status)
-JudgesRows t line (Err Source) = Unit {0}
-JudgesRows t line (Err Memory) = Unit {0}
-JudgesRows t line (Err Sink) = ⊥
+-- the line of tables that read so; or memory was refused
+abbrev pub JudgesRows : TableRows → List ℕ → Result Outcome Failure → Type 0
+JudgesRows t = Judged (AnswersRows t)
 
--- or the source failed
-abbrev pub JudgesTables : List ℕ → List ℕ → Result ℕ Failure → Type 0
-JudgesTables tables line (Ok status) = AnswersFind tables (one_line line status)
-JudgesTables tables line (Err Source) = Unit {0}
-JudgesTables tables line (Err Memory) = Unit {0}
-JudgesTables tables line (Err Sink) = ⊥
+-- the line of a text; or memory was refused, or the source failed
+abbrev pub JudgesTables : List ℕ → List ℕ → Result Outcome Failure → Type 0
+JudgesTables tables = Judged (AnswersFind tables)
 
 -- ---- what is reported
 
 -- What `find` reports, where its source and its sink failed so often before and after it
-abbrev pub ReportsFind : List ℕ → Option (List ℕ) → Option (List ℕ) → ℕ → ℕ → ℕ → ℕ → ℕ → Type 0
-ReportsFind tables old new source source' sink sink' status =
-    Reported (FindAnswers tables (nat_lt status 3)) old new source source' sink sink' status
+abbrev pub ReportsFind : List ℕ → Option (List ℕ) → Option (List ℕ) → ℕ → ℕ → ℕ → ℕ → Exit → Type 0
+ReportsFind tables old new source source' sink sink' exit =
+    Reported (FindAnswers tables (is_answered exit)) old new source source' sink sink' exit

@@ -1,10 +1,9 @@
-pub mod Answer
 pub mod Audit
 pub mod Check
 pub mod Decode
 pub mod Find
-pub mod Inputs
 pub mod Refusals
 pub mod Replay
 pub mod Steps
+pub mod Texts
 pub mod Threads

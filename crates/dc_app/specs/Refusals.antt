@@ -1,8 +1,6 @@
 -- The last line of a replay.
-use Rattle.std.specs.Prelude.{◌≡◌, ◌≢◌, ◌<◌, ℕ, Result, Ok, Err, Option, Some, None, List, [], ◌∷◌, ◌++◌, codes, decimal}
-use Rattle.dc_parts.specs.FaultText.{table_fault_text}
+use Rattle.std.specs.Prelude.{◌≡◌, ◌≢◌, ℕ, Result, Ok, Err, Option, Some, None, List, [], ◌∷◌, ◌++◌, codes, decimal}
 use Rattle.dc_tables.specs.TableRows.{TableRows}
-use Rattle.dc_parts.specs.declared.fault.TableFault.{TableFault}
 use Rattle.dc_event.specs.ReplyText.{name_at}
 use Rattle.dc_event.specs.declared.event.Actor.{Actor}
 use Rattle.dc_event.specs.declared.event.Actor.TheVariants.{Wire, Router, Output, Clock}
@@ -15,9 +13,11 @@ use Rattle.dc_event.specs.declared.trace.TraceStop.TheVariants.{End, Fault, Brok
 use Rattle.dc_core.specs.FaultText.{step_fault_code}
 use Rattle.dc_core.specs.declared.fault.StepFault.{StepFault}
 use Rattle.dc_core.specs.declared.fault.StepFault.TheVariants.{Spent, TooSoon, Owed}
-use Rattle.dc_app.specs.declared.answer.Failure.{Failure}
-use Rattle.dc_app.specs.declared.answer.Failure.TheVariants.{Source, Sink, Memory}
-use Rattle.dc_app.specs.Answer.{Answer, fault, nothing, unreadable}
+use Rattle.dc_answer.specs.declared.answer.Failure.{Failure}
+use Rattle.dc_answer.specs.declared.answer.Failure.TheVariants.{Source, Sink, Memory}
+use Rattle.dc_answer.specs.declared.exit.Outcome.{Outcome}
+use Rattle.dc_answer.specs.declared.exit.Outcome.TheVariants.{Refused}
+use Rattle.dc_answer.specs.Answer.{Answer, fault, nothing, one_line}
 
 -- after the events of a trace: nothing, or its fault
 abbrev pub trace_end : Option TraceFault → Answer
@@ -31,15 +31,11 @@ stop_end (Fault f) = fault (line_rule_code f.rule) f.line
 stop_end Broken = nothing
 
 -- a result after a reader's stop: it tells of a failed source exactly where the reader does
-abbrev pub StopsBy : TraceStop → Result ℕ Failure → Type 0
-StopsBy stop (Ok status) = (stop ≢ Broken) × (status < 3)
+abbrev pub StopsBy : TraceStop → Result Outcome Failure → Type 0
+StopsBy stop (Ok outcome) = stop ≢ Broken
 StopsBy stop (Err Source) = stop ≡ Broken
 StopsBy stop (Err Sink) = Unit {0}
 StopsBy stop (Err Memory) = ⊥
-
--- the first fault of the tables
-abbrev pub tables_end : TableFault → Answer
-tables_end f = unreadable (table_fault_text f)
 
 abbrev pub actor_name : TableRows → Actor → List ℕ
 actor_name t (Wire b) = []
@@ -63,4 +59,4 @@ unfoldable pub refused_text : TableRows → Event → StepFault → ℕ → List
 refused_text t e f number = codes "refused " ++ cause_text t f e ++ codes " at line " ++ decimal number
 
 abbrev pub refused : TableRows → Event → StepFault → ℕ → Answer
-refused t e f number = record { lines = refused_text t e f number ∷ []; status = 1 }
+refused t e f number = one_line (refused_text t e f number) Refused

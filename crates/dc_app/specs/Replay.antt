@@ -1,19 +1,26 @@
 -- What `replay` answers to the texts of tables and of a trace.
-use Rattle.std.specs.Prelude.{◌≡◌, ◌⊎◌, ℕ, ◌+◌, nat_lt, Bool, true, false, Option, List, [], ◌∷◌, ◌++◌, length, Result, Ok, Err}
+use Rattle.std.specs.Prelude.{◌≡◌, ◌⊎◌, ℕ, ◌+◌, Bool, true, false, IfSome, Option, Some, List, [], ◌∷◌, ◌++◌, length, Result, Ok, Err}
+use Rattle.std.specs.Io.KnownBytes.{Appends}
+use Rattle.dc_device.specs.Lines.{spelled}
 use Rattle.dc_tables.specs.TableRows.{TableRows}
 use Rattle.dc_parts.specs.declared.fault.BuildError.{BuildError}
 use Rattle.dc_parts.specs.declared.fault.BuildError.TheVariants.{Refused, Memory}
 use Rattle.dc_toml.specs.Reading.{tables_of}
-use Rattle.dc_toml.specs.Reported.{TellsTables}
+use Rattle.dc_toml.specs.Reported.{AreTablesOf, TellsTables}
 use Rattle.dc_event.specs.ReplyText.{run_lines}
-use Rattle.dc_event.specs.TraceText.{Trace, trace_of}
+use Rattle.dc_event.specs.TraceText.{Trace, ended_by, trace_of}
 use Rattle.dc_event.specs.declared.event.Event.{Event}
 use Rattle.dc_event.specs.declared.trace.TraceFault.{TraceFault}
 use Rattle.dc_core.specs.Standing.{IsFault, MayFollow}
 use Rattle.dc_core.specs.declared.fault.StepFault.{StepFault}
-use Rattle.dc_app.specs.declared.answer.Failure.{Failure}
-use Rattle.dc_app.specs.Answer.{Answer, Ends, Reported, after_all, is_whole}
-use Rattle.dc_app.specs.Refusals.{refused, tables_end, trace_end}
+use Rattle.dc_event.specs.declared.trace_reader.TheConstants.{TRACE_LIMIT}
+use Rattle.dc_answer.specs.declared.answer.Failure.{Failure}
+use Rattle.dc_answer.specs.declared.exit.Exit.{Exit}
+use Rattle.dc_answer.specs.declared.exit.Outcome.{Outcome}
+use Rattle.dc_answer.specs.Answer.{Answer, Ends, Reported, after_all}
+use Rattle.dc_answer.specs.Exits.{is_answered, is_whole}
+use Rattle.dc_answer.specs.Inputs.{tables_end}
+use Rattle.dc_app.specs.Refusals.{refused, trace_end}
 
 -- each event may follow those before it, where `past` stands before the first
 abbrev pub AllFollow : TableRows → List Event → List Event → Type 0
@@ -44,7 +51,7 @@ pub record Replays (t : TableRows) (all : Bool) (trace : Trace) (whole : Bool) (
 
 -- the answer to the text of a trace of at most 2^30 bytes, where the tables read so
 abbrev pub AnswersTrace : Bool → List ℕ → Bool → Answer → Result TableRows BuildError → Type 0
-AnswersTrace all text whole answer (Ok t) = Replays t all (trace_of t 1073741824 text) whole answer
+AnswersTrace all text whole answer (Ok t) = Replays t all (trace_of t TRACE_LIMIT text) whole answer
 AnswersTrace all text whole answer (Err (Refused f)) = answer ≡ tables_end f
 AnswersTrace all text whole answer (Err (Memory e)) = ⊥
 
@@ -60,14 +67,31 @@ ReplayAnswers all tables text false answer = AnswersTexts all tables text false 
 -- ---- what is written
 
 -- until something fails: what is written of the answer to a trace
-abbrev pub WritesTrace : TableRows → Bool → List ℕ → Option (List ℕ) → Option (List ℕ) → Result ℕ Failure → Type 0
-WritesTrace t all text old new result = (answer : Answer) × Replays t all (trace_of t 1073741824 text) (is_whole result) answer × Ends old [] new answer result
+abbrev pub WritesTrace : TableRows → Bool → List ℕ → Option (List ℕ) → Option (List ℕ) → Result Outcome Failure → Type 0
+WritesTrace t all text old new result = (answer : Answer) × Replays t all (trace_of t TRACE_LIMIT text) (is_whole result) answer × Ends old [] new answer result
 
 -- and of the answer to both texts
-abbrev pub WritesReplay : Bool → List ℕ → List ℕ → Option (List ℕ) → Option (List ℕ) → Result ℕ Failure → Type 0
+abbrev pub WritesReplay : Bool → List ℕ → List ℕ → Option (List ℕ) → Option (List ℕ) → Result Outcome Failure → Type 0
 WritesReplay all tables text old new result = (answer : Answer) × ReplayAnswers all tables text (is_whole result) answer × Ends old [] new answer result
 
 -- What `replay` reports, where its sources and its sink failed so often before and after it
-abbrev pub ReportsReplay : Bool → List ℕ → List ℕ → Option (List ℕ) → Option (List ℕ) → ℕ → ℕ → ℕ → ℕ → ℕ → Type 0
-ReportsReplay all tables text old new sources sources' sink sink' status =
-    Reported (ReplayAnswers all tables text (nat_lt status 3)) old new sources sources' sink sink' status
+abbrev pub ReportsReplay : Bool → List ℕ → List ℕ → Option (List ℕ) → Option (List ℕ) → ℕ → ℕ → ℕ → ℕ → Exit → Type 0
+ReportsReplay all tables text old new sources sources' sink sink' exit =
+    Reported (ReplayAnswers all tables text (is_answered exit)) old new sources sources' sink sink' exit
+
+-- ---- what is shown
+
+-- The events that are due where a trace has come up to here: those of all its whole lines, none of which is faulty, and each
+-- may follow. Behind them stand at most the bytes of a line that is not ended.
+abbrev pub AreDue : TableRows → List ℕ → List Event → Type 0
+AreDue t text events =
+    (number : ℕ) × (rest : List ℕ) × (trace_of t TRACE_LIMIT text ≡ record { events = events; fault = (ended_by number rest).fault }) × AllFollow t [] events
+
+-- what everyone saw is the lines of the events that are due
+abbrev pub ShowsTrace : TableRows → Bool → List ℕ → Option (List ℕ) → Option (List ℕ) → Type 0
+ShowsTrace t all text old seen = (events : List Event) × AreDue t text events × IfSome seen (λ bytes. Appends old (Some bytes) (spelled (run_lines t all events)))
+
+-- What everyone saw when a trace was asked for more behind its end: the lines of the events that are due. Any beginning of a
+-- trace is one that ends there, so each line is seen before what follows its event is asked for.
+abbrev pub IsPrompt : Bool → List ℕ → List ℕ → Option (List ℕ) → Option (List ℕ) → Type 0
+IsPrompt all tables text old seen = (t : TableRows) × AreTablesOf (tables_of tables) t × ShowsTrace t all text old seen

@@ -8,16 +8,20 @@ ghost use Rattle.dc_device.specs.Device.{AsksUpTo};
 ghost use Rattle.dc_device.specs.Lines.{spelled};
 ghost use Rattle.dc_event.specs.Admissible.{IsRun};
 ghost use Rattle.dc_toml.specs.Reading.{tables_of};
-ghost use Rattle.dc_app.specs.Answer.{Any, LeavesSink, Raises, Reported};
-ghost use Rattle.dc_app.specs.Audit.{AnswersAudit, AnswersClaims, AnswersRun, AreFound, Judged, OnlyCertified, ReportsAudit, answer_findings, claims_text, findings_lines, holds_text, run_of};
+ghost use Rattle.dc_event.specs.declared.trace_reader.TheConstants.{TRACE_LIMIT};
+ghost use Rattle.dc_toml.specs.declared.read.TheConstants.{TEXT_LIMIT};
+ghost use Rattle.dc_answer.specs.Answer.{Any, LeavesSink, Raises, Reported};
+ghost use Rattle.dc_app.specs.Audit.{AnswersAudit, AnswersClaims, AnswersRun, AreFound, OnlyCertified, ReportsAudit, answer_findings, claims_text, findings_lines, holds_text, run_of};
 ghost use Rattle.dc_app.specs.Check.{Certifies};
-ghost use Rattle.dc_app.specs.Inputs.{OnlyBehind};
+ghost use Rattle.dc_answer.specs.Inputs.{OnlyBehind};
+ghost use Rattle.dc_answer.specs.Judging.{Judged};
 
-use crate::answer::{Failure, print_fault, report, say};
 use crate::check::judge;
-use crate::inputs::{Unloaded, load, load_certificate};
 use crate::recording::load_run;
 use crate::replay::code_of;
+use dc_answer::{
+    Exit, Failure, Outcome, Unloaded, load, load_certificate, print_fault, report, say,
+};
 use dc_cert::Certificate;
 use dc_device::{LineWriter, Sink, Source};
 use dc_event::{Claim, Event};
@@ -72,9 +76,9 @@ fn append_holds(text: &mut Text, subject: &[u8], place: Option<usize>)
     }
 }
 
-// Puts the line of the claims at the end.
-fn append_claims(text: &mut Text, failure: Option<(Claim, usize)>)
-    requires { array_vec_len text.old ≤ 75 }
+/// Puts the line of the claims at the end.
+pub fn append_claims(text: &mut Text, failure: Option<(Claim, usize)>)
+    requires { array_vec_len text.old ≤ 88 }
     ensures { text.new.items ≡ text.old.items ++ claims_text failure }
 {
     match failure {
@@ -100,15 +104,14 @@ fn print_findings(text: &mut Text, found: Findings)
     append_claims(text, found.claims);
 }
 
-// The exit status that belongs to what was found.
-fn status(found: Findings) -> u8
-    ensures is { result ≡ (answer_findings found).status }
-    ensures low { result < 3 }
+// What an audit ends with that found this.
+fn outcome(found: Findings) -> Outcome
+    ensures { result ≡ (answer_findings found).outcome }
 {
     if found.budgets.is_none() && found.sources.is_none() && found.claims.is_none() {
-        0
+        Outcome::Done
     } else {
-        1
+        Outcome::Refused
     }
 }
 
@@ -119,15 +122,14 @@ fn audit_run(
     certificate: &Certificate,
     run: &[Event],
     text: &mut Text,
-) -> Result<u8, Failure>
+) -> Result<Outcome, Failure>
     ensures answer { IsRun tables.now run.now → Judged (λ answer. AnswersRun tables.now (certificate_rows certificate.now).ages answer (Ok run.now)) text.new.items result }
     ensures memory { IfErr result (λ e. e ≡ Failure.Memory) }
-    ensures status { IfOk result (λ status. status < 3) }
 {
     match findings_of(alloc, tables, certificate, run) {
         Ok(found) => {
             print_findings(text, found);
-            Ok(status(found))
+            Ok(outcome(found))
         }
         Err(_) => Err(Failure::Memory),
     }
@@ -140,20 +142,19 @@ fn audit_trace<S: Source>(
     certificate: &Certificate,
     trace: &mut S,
     text: &mut Text,
-) -> Result<u8, Failure>
+) -> Result<Outcome, Failure>
     requires { S.failed trace.old + 1 < 2 ^ 64 }
     ensures answer { IfSome (S.remaining trace.old) (λ events. Judged (λ answer. AnswersRun tables.now (certificate_rows certificate.now).ages answer (run_of tables.now events)) text.new.items result) }
     ensures source { Raises (S.failed trace.old) (S.failed trace.new) result }
-    ensures asks { AsksUpTo 1073741824 (S.asked trace.old) (S.asked trace.new) (S.dry trace.old) (S.dry trace.new) }
+    ensures asks { AsksUpTo TRACE_LIMIT (S.asked trace.old) (S.asked trace.new) (S.dry trace.old) (S.dry trace.new) }
     ensures sink { IfErr result (λ e. e ≢ Failure.Sink) }
-    ensures status { IfOk result (λ status. status < 3) }
 {
     tables.keyed();
     match load_run(alloc, tables, trace) {
         Ok(run) => audit_run(alloc, tables, certificate, run.as_slice(), text),
         Err(Unloaded::Refused(fault)) => {
             print_fault(text, code_of(fault.rule), fault.line);
-            Ok(2)
+            Ok(Outcome::Unreadable)
         }
         Err(Unloaded::Failed(failure)) => Err(failure),
     }
@@ -166,20 +167,17 @@ fn audit_certificate<S: Source>(
     certificate: &Certificate,
     trace: &mut S,
     text: &mut Text,
-) -> Result<u8, Failure>
+) -> Result<Outcome, Failure>
     requires { S.failed trace.old + 1 < 2 ^ 64 }
     ensures answer { IfSome (S.remaining trace.old) (λ events. Judged (λ answer. AnswersClaims tables.now events answer (Ok (named_rows certificate.now))) text.new.items result) }
     ensures source { Raises (S.failed trace.old) (S.failed trace.new) result }
-    ensures asks { AsksUpTo 1073741824 (S.asked trace.old) (S.asked trace.new) (S.dry trace.old) (S.dry trace.new) }
+    ensures asks { AsksUpTo TRACE_LIMIT (S.asked trace.old) (S.asked trace.new) (S.dry trace.old) (S.dry trace.new) }
     ensures order { Certifies tables.now (Ok (named_rows certificate.now)) ⊎ (trace.new ≡ trace.old) }
     ensures sink { IfErr result (λ e. e ≢ Failure.Sink) }
-    ensures status { IfOk result (λ status. status < 3) }
 {
-    let status = judge(tables, certificate, text);
-    if status == 0 {
-        audit_trace(alloc, tables, certificate, trace, text)
-    } else {
-        Ok(status)
+    match judge(tables, certificate, text) {
+        Outcome::Done => audit_trace(alloc, tables, certificate, trace, text),
+        refused => Ok(refused),
     }
 }
 
@@ -190,23 +188,22 @@ fn audit_source<C: Source, S: Source>(
     certificate: &mut C,
     trace: &mut S,
     text: &mut Text,
-) -> Result<u8, Failure>
+) -> Result<Outcome, Failure>
     requires certificate { C.failed certificate.old + 1 < 2 ^ 64 }
     requires trace { S.failed trace.old + 1 < 2 ^ 64 }
     ensures answer { IfSome (C.remaining certificate.old) (λ claims. IfSome (S.remaining trace.old) (λ events.
         Judged (λ answer. AnswersClaims tables.now events answer (certificate_of claims)) text.new.items result)) }
     ensures source { Raises (C.failed certificate.old + S.failed trace.old) (C.failed certificate.new + S.failed trace.new) result }
-    ensures asks_certificate { AsksUpTo 1048576 (C.asked certificate.old) (C.asked certificate.new) (C.dry certificate.old) (C.dry certificate.new) }
-    ensures asks_trace { AsksUpTo 1073741824 (S.asked trace.old) (S.asked trace.new) (S.dry trace.old) (S.dry trace.new) }
+    ensures asks_certificate { AsksUpTo TEXT_LIMIT (C.asked certificate.old) (C.asked certificate.new) (C.dry certificate.old) (C.dry certificate.new) }
+    ensures asks_trace { AsksUpTo TRACE_LIMIT (S.asked trace.old) (S.asked trace.new) (S.dry trace.old) (S.dry trace.new) }
     ensures order { IfSome (C.remaining certificate.old) (λ claims. Certifies tables.now (certificate_of claims) ⊎ (trace.new ≡ trace.old)) }
     ensures sink { IfErr result (λ e. e ≢ Failure.Sink) }
-    ensures status { IfOk result (λ status. status < 3) }
 {
     match load_certificate(alloc, certificate) {
         Ok(certificate) => audit_certificate(alloc, tables, &certificate, trace, text),
         Err(Unloaded::Refused(fault)) => {
             print_cert_fault(text, fault);
-            Ok(2)
+            Ok(Outcome::Unreadable)
         }
         Err(Unloaded::Failed(failure)) => Err(failure),
     }
@@ -219,26 +216,25 @@ fn audit_sources<T: Source, C: Source, S: Source>(
     certificate: &mut C,
     trace: &mut S,
     text: &mut Text,
-) -> Result<u8, Failure>
+) -> Result<Outcome, Failure>
     requires tables { T.failed tables.old + 1 < 2 ^ 64 }
     requires certificate { C.failed certificate.old + 1 < 2 ^ 64 }
     requires trace { S.failed trace.old + 1 < 2 ^ 64 }
     ensures answer { (rows claims events : List ℕ) → T.remaining tables.old ≡ Some rows → C.remaining certificate.old ≡ Some claims → S.remaining trace.old ≡ Some events
         → Judged (AnswersAudit rows claims events) text.new.items result }
     ensures source { Raises (T.failed tables.old + (C.failed certificate.old + S.failed trace.old)) (T.failed tables.new + (C.failed certificate.new + S.failed trace.new)) result }
-    ensures asks_tables { AsksUpTo 1048576 (T.asked tables.old) (T.asked tables.new) (T.dry tables.old) (T.dry tables.new) }
-    ensures asks_certificate { AsksUpTo 1048576 (C.asked certificate.old) (C.asked certificate.new) (C.dry certificate.old) (C.dry certificate.new) }
-    ensures asks_trace { AsksUpTo 1073741824 (S.asked trace.old) (S.asked trace.new) (S.dry trace.old) (S.dry trace.new) }
+    ensures asks_tables { AsksUpTo TEXT_LIMIT (T.asked tables.old) (T.asked tables.new) (T.dry tables.old) (T.dry tables.new) }
+    ensures asks_certificate { AsksUpTo TEXT_LIMIT (C.asked certificate.old) (C.asked certificate.new) (C.dry certificate.old) (C.dry certificate.new) }
+    ensures asks_trace { AsksUpTo TRACE_LIMIT (S.asked trace.old) (S.asked trace.new) (S.dry trace.old) (S.dry trace.new) }
     ensures order_certificate { IfSome (T.remaining tables.old) (λ rows. OnlyBehind (tables_of rows) (certificate.new ≡ certificate.old)) }
     ensures order_trace { IfSome (T.remaining tables.old) (λ rows. IfSome (C.remaining certificate.old) (λ claims. OnlyCertified rows claims (trace.new ≡ trace.old))) }
     ensures sink { IfErr result (λ e. e ≢ Failure.Sink) }
-    ensures status { IfOk result (λ status. status < 3) }
 {
     match load(alloc, tables) {
         Ok(tables) => audit_source(alloc, &tables, certificate, trace, text),
         Err(Unloaded::Refused(fault)) => {
             print_table_fault(text, fault);
-            Ok(2)
+            Ok(Outcome::Unreadable)
         }
         Err(Unloaded::Failed(failure)) => Err(failure),
     }
@@ -248,18 +244,18 @@ fn audit_sources<T: Source, C: Source, S: Source>(
 /// run of a trace keeps the budgets, what is asked of the sources, and the four claims by the certificate's ages. Each of
 /// the three is reported in a line, with the first place at which it fails.
 ///
-/// The answer is the exit status: 0 where all three hold, 1 where one fails or the certificate is refused, 2 where a text
-/// can't be read; 3 where a device failed or memory was refused: then `failed device` or `failed memory` was written, and
-/// nothing else. The certificate is asked for only where the tables are in order, and the trace only where the certificate
-/// is accepted for them. A push or flush that failed is the last call of the sink, and a pull that gave no byte the last
-/// of its source.
+/// It ends `Done` where all three hold, `Refused` where one fails or the certificate is refused, `Unreadable` where a
+/// text can't be read, `Failed` where a device failed or memory was refused: then `failed device` or `failed memory`
+/// was written, and nothing else. The certificate is asked for only where the tables are in order, and the trace only
+/// where the certificate is accepted for them. A push or flush that failed is the last call of the sink, and at most
+/// one pull of each source gives no byte.
 pub fn run_audit<T: Source, C: Source, S: Source, K: Sink>(
     alloc: Global,
     tables: &mut T,
     certificate: &mut C,
     trace: &mut S,
     sink: &mut K,
-) -> u8
+) -> Exit
     requires tables { T.failed tables.old + 1 < 2 ^ 64 }
     requires certificate { C.failed certificate.old + 1 < 2 ^ 64 }
     requires trace { S.failed trace.old + 1 < 2 ^ 64 }
@@ -271,15 +267,14 @@ pub fn run_audit<T: Source, C: Source, S: Source, K: Sink>(
     ensures reported { Reported Any (K.contents sink.old) (K.contents sink.new)
         (T.failed tables.old + (C.failed certificate.old + S.failed trace.old)) (T.failed tables.new + (C.failed certificate.new + S.failed trace.new))
         (K.failed sink.old) (K.failed sink.new) result }
-    ensures asks_tables { AsksUpTo 1048576 (T.asked tables.old) (T.asked tables.new) (T.dry tables.old) (T.dry tables.new) }
-    ensures asks_certificate { AsksUpTo 1048576 (C.asked certificate.old) (C.asked certificate.new) (C.dry certificate.old) (C.dry certificate.new) }
-    ensures asks_trace { AsksUpTo 1073741824 (S.asked trace.old) (S.asked trace.new) (S.dry trace.old) (S.dry trace.new) }
+    ensures asks_tables { AsksUpTo TEXT_LIMIT (T.asked tables.old) (T.asked tables.new) (T.dry tables.old) (T.dry tables.new) }
+    ensures asks_certificate { AsksUpTo TEXT_LIMIT (C.asked certificate.old) (C.asked certificate.new) (C.dry certificate.old) (C.dry certificate.new) }
+    ensures asks_trace { AsksUpTo TRACE_LIMIT (S.asked trace.old) (S.asked trace.new) (S.dry trace.old) (S.dry trace.new) }
     ensures order_certificate { IfSome (T.remaining tables.old) (λ rows. OnlyBehind (tables_of rows) (certificate.new ≡ certificate.old)) }
     ensures order_trace { IfSome (T.remaining tables.old) (λ rows. IfSome (C.remaining certificate.old) (λ claims. OnlyCertified rows claims (trace.new ≡ trace.old))) }
     ensures left { LeavesSink (K.failed sink.old) (K.failed sink.new) (K.last_failed sink.new) (K.hidden sink.new) }
-    ensures quiet { result < 3 → (T.failed tables.new + (C.failed certificate.new + S.failed trace.new)) + K.failed sink.new
+    ensures quiet { result ≢ Exit.Failed → (T.failed tables.new + (C.failed certificate.new + S.failed trace.new)) + K.failed sink.new
         ≡ (T.failed tables.old + (C.failed certificate.old + S.failed trace.old)) + K.failed sink.old }
-    ensures status { result ≤ 3 }
 {
     let mut text = Text::new();
     let judged = audit_sources(alloc, tables, certificate, trace, &mut text);

@@ -4,12 +4,12 @@ ghost use Rattle.dc_device.specs.Device.{AsksUpTo};
 ghost use Rattle.dc_toml.specs.Reading.{tables_of};
 ghost use Rattle.dc_cert.specs.NamedRows.{named_rows};
 ghost use Rattle.dc_cert.specs.Reading.{certificate_of};
-ghost use Rattle.dc_app.specs.Answer.{Any, LeavesSink, Raises, Reported};
+ghost use Rattle.dc_toml.specs.declared.read.TheConstants.{TEXT_LIMIT};
+ghost use Rattle.dc_answer.specs.Answer.{Any, LeavesSink, Raises, Reported};
 ghost use Rattle.dc_app.specs.Check.{Judges, JudgesTexts, ReportsCheck};
-ghost use Rattle.dc_app.specs.Inputs.{OnlyBehind};
+ghost use Rattle.dc_answer.specs.Inputs.{OnlyBehind};
 
-use crate::answer::{Failure, report, say};
-use crate::inputs::{Unloaded, load, load_certificate};
+use dc_answer::{Exit, Failure, Outcome, Unloaded, load, load_certificate, report, say};
 use dc_cert::Certificate;
 use dc_check::laws::{accepted_certificates_keep_their_claims, no_fault_is_acceptance};
 use dc_check::verdict;
@@ -18,21 +18,20 @@ use dc_print::{Text, print_accepted, print_cert_fault, print_refused, print_tabl
 use dc_tables::Tables;
 use std::alloc::Global;
 
-/// Judges a certificate, and prints the verdict. The answer is the status.
-pub fn judge(tables: &Tables, certificate: &Certificate, line: &mut Text) -> u8
-    ensures answer { Judges tables.now (Ok (named_rows certificate.now)) line.new.items (Ok result) }
-    ensures status { result < 3 }
+/// Judges a certificate, and prints the verdict.
+pub fn judge(tables: &Tables, certificate: &Certificate, line: &mut Text) -> Outcome
+    ensures { Judges tables.now (Ok (named_rows certificate.now)) line.new.items (Ok result) }
 {
     accepted_certificates_keep_their_claims(tables);
     no_fault_is_acceptance(tables);
     match verdict(tables, certificate) {
         Ok(()) => {
             print_accepted(line, tables);
-            0
+            Outcome::Done
         }
         Err(fault) => {
             print_refused(line, tables, fault);
-            1
+            Outcome::Refused
         }
     }
 }
@@ -43,19 +42,18 @@ fn judge_source<C: Source>(
     tables: &Tables,
     certificate: &mut C,
     line: &mut Text,
-) -> Result<u8, Failure>
+) -> Result<Outcome, Failure>
     requires { C.failed certificate.old + 1 < 2 ^ 64 }
     ensures answer { IfSome (C.remaining certificate.old) (λ text. Judges tables.now (certificate_of text) line.new.items result) }
     ensures source { Raises (C.failed certificate.old) (C.failed certificate.new) result }
-    ensures asks { AsksUpTo 1048576 (C.asked certificate.old) (C.asked certificate.new) (C.dry certificate.old) (C.dry certificate.new) }
+    ensures asks { AsksUpTo TEXT_LIMIT (C.asked certificate.old) (C.asked certificate.new) (C.dry certificate.old) (C.dry certificate.new) }
     ensures sink { IfErr result (λ e. e ≢ Failure.Sink) }
-    ensures status { IfOk result (λ status. status < 3) }
 {
     match load_certificate(alloc, certificate) {
         Ok(certificate) => Ok(judge(tables, &certificate, line)),
         Err(Unloaded::Refused(fault)) => {
             print_cert_fault(line, fault);
-            Ok(2)
+            Ok(Outcome::Unreadable)
         }
         Err(Unloaded::Failed(cause)) => Err(cause),
     }
@@ -67,23 +65,22 @@ fn judge_sources<T: Source, C: Source>(
     tables: &mut T,
     certificate: &mut C,
     line: &mut Text,
-) -> Result<u8, Failure>
+) -> Result<Outcome, Failure>
     requires tables { T.failed tables.old + 1 < 2 ^ 64 }
     requires certificate { C.failed certificate.old + 1 < 2 ^ 64 }
     ensures answer { (rows text : List ℕ) → T.remaining tables.old ≡ Some rows → C.remaining certificate.old ≡ Some text
         → JudgesTexts rows text line.new.items result }
     ensures source { Raises (T.failed tables.old + C.failed certificate.old) (T.failed tables.new + C.failed certificate.new) result }
-    ensures asks_tables { AsksUpTo 1048576 (T.asked tables.old) (T.asked tables.new) (T.dry tables.old) (T.dry tables.new) }
-    ensures asks_certificate { AsksUpTo 1048576 (C.asked certificate.old) (C.asked certificate.new) (C.dry certificate.old) (C.dry certificate.new) }
+    ensures asks_tables { AsksUpTo TEXT_LIMIT (T.asked tables.old) (T.asked tables.new) (T.dry tables.old) (T.dry tables.new) }
+    ensures asks_certificate { AsksUpTo TEXT_LIMIT (C.asked certificate.old) (C.asked certificate.new) (C.dry certificate.old) (C.dry certificate.new) }
     ensures order { IfSome (T.remaining tables.old) (λ rows. OnlyBehind (tables_of rows) (certificate.new ≡ certificate.old)) }
     ensures sink { IfErr result (λ e. e ≢ Failure.Sink) }
-    ensures status { IfOk result (λ status. status < 3) }
 {
     match load(alloc, tables) {
         Ok(tables) => judge_source(alloc, &tables, certificate, line),
         Err(Unloaded::Refused(fault)) => {
             print_table_fault(line, fault);
-            Ok(2)
+            Ok(Outcome::Unreadable)
         }
         Err(Unloaded::Failed(failure)) => Err(failure),
     }
@@ -92,16 +89,16 @@ fn judge_sources<T: Source, C: Source>(
 /// Judges a certificate for tables, both read whole from their sources, the tables first, and writes the verdict as one
 /// line onto a sink.
 ///
-/// The answer is the exit status: 0 where the certificate is accepted, and then it keeps its claims in every admissible
-/// run of the tables; 1 where it is refused; 2 where a text can't be read; 3 where a device failed or memory was
-/// refused: then `failed device` or `failed memory` was written, and nothing else. A push or flush that failed is the last
-/// call of the sink, and a pull that gave no byte the last of its source.
+/// It ends `Done` where the certificate is accepted, and then it keeps its claims in every admissible run of the
+/// tables; `Refused` where it is refused; `Unreadable` where a text can't be read; `Failed` where a device failed or
+/// memory was refused: then `failed device` or `failed memory` was written, and nothing else. A push or flush that
+/// failed is the last call of the sink, and at most one pull of each source gives no byte.
 pub fn run_check<T: Source, C: Source, K: Sink>(
     alloc: Global,
     tables: &mut T,
     certificate: &mut C,
     sink: &mut K,
-) -> u8
+) -> Exit
     requires tables { T.failed tables.old + 1 < 2 ^ 64 }
     requires certificate { C.failed certificate.old + 1 < 2 ^ 64 }
     requires sink { K.failed sink.old + 1 < 2 ^ 64 }
@@ -112,13 +109,12 @@ pub fn run_check<T: Source, C: Source, K: Sink>(
     ensures reported { Reported Any (K.contents sink.old) (K.contents sink.new)
         (T.failed tables.old + C.failed certificate.old) (T.failed tables.new + C.failed certificate.new)
         (K.failed sink.old) (K.failed sink.new) result }
-    ensures asks_tables { AsksUpTo 1048576 (T.asked tables.old) (T.asked tables.new) (T.dry tables.old) (T.dry tables.new) }
-    ensures asks_certificate { AsksUpTo 1048576 (C.asked certificate.old) (C.asked certificate.new) (C.dry certificate.old) (C.dry certificate.new) }
+    ensures asks_tables { AsksUpTo TEXT_LIMIT (T.asked tables.old) (T.asked tables.new) (T.dry tables.old) (T.dry tables.new) }
+    ensures asks_certificate { AsksUpTo TEXT_LIMIT (C.asked certificate.old) (C.asked certificate.new) (C.dry certificate.old) (C.dry certificate.new) }
     ensures order { IfSome (T.remaining tables.old) (λ rows. OnlyBehind (tables_of rows) (certificate.new ≡ certificate.old)) }
     ensures left { LeavesSink (K.failed sink.old) (K.failed sink.new) (K.last_failed sink.new) (K.hidden sink.new) }
-    ensures quiet { result < 3 → T.failed tables.new + C.failed certificate.new + K.failed sink.new
+    ensures quiet { result ≢ Exit.Failed → T.failed tables.new + C.failed certificate.new + K.failed sink.new
         ≡ T.failed tables.old + C.failed certificate.old + K.failed sink.old }
-    ensures status { result ≤ 3 }
 {
     let mut line = Text::new();
     let judged = judge_sources(alloc, tables, certificate, &mut line);

@@ -2,15 +2,21 @@
 ghost use Rattle.std.specs.Prelude.{◌≡◌, ◌≢◌, [], ◌∷◌, ◌++◌, ◌+◌, ◌-◌, ◌^◌, ◌<◌, ◌≤◌, IfErr, IfOk, IfSome, false, true};
 ghost use Rattle.dc_device.specs.Bytes.{Gathers};
 ghost use Rattle.dc_device.specs.Device.{AsksUpTo, failures_of};
-ghost use Rattle.dc_app.specs.Answer.{Causes, Ends, LeavesSink, Reports, SettlesBy};
-ghost use Rattle.dc_app.specs.Decode.{answer_end, decode_text};
+ghost use Rattle.dc_app.specs.declared.decode.TheConstants.{STREAM_LIMIT};
+ghost use Rattle.dc_answer.specs.Answer.{Causes, Ends, LeavesSink, Reports, SettlesBy};
+ghost use Rattle.dc_app.specs.Decode.{IsPrompt, answer_end, decode_text};
 ghost use Rattle.dc_print.specs.Words.{line_of};
 
-use crate::answer::{Failure, LIMIT, ask, end_at, report};
+use crate::replay::code_of;
+use dc_answer::{Exit, Failure, Outcome, ask, end_at, report};
 use dc_device::{Line, LineEnd, LineReader, LineWriter, Sink, Source};
-use dc_event::read_word;
+use dc_event::{LineRule, read_word};
 use dc_print::{Text, print_word};
 use dc_word::{Format, Word};
+
+/// How many bytes a text may have that is read without an end in sight: what a gigabyte a second makes in three
+/// centuries.
+const STREAM_LIMIT: u64 = 9_223_372_036_854_775_807;
 
 // Answers a text that ends after these bytes of a line.
 fn end_inside<K: Sink>(
@@ -18,7 +24,7 @@ fn end_inside<K: Sink>(
     number: u64,
     writer: &mut LineWriter,
     sink: &mut K,
-) -> Result<u8, Failure>
+) -> Result<Outcome, Failure>
     requires seen { writer.old ≡ [] }
     requires shown { K.hidden sink.old ≡ false }
     requires countable { K.failed sink.old + 1 < 2 ^ 64 }
@@ -27,11 +33,11 @@ fn end_inside<K: Sink>(
     ensures count { K.failed sink.new ≡ K.failed sink.old + failures_of result }
     ensures sink { IfErr result (λ e. e ≡ Failure.Sink) }
     ensures settled { SettlesBy result (K.last_failed sink.new) (K.hidden sink.new) }
-    ensures status { IfOk result (λ status. status < 3) }
+    ensures answered { K.answered sink.new ≡ K.answered sink.old }
 {
     match line {
-        [] => Ok(0),
-        _ => end_at(writer, sink, b"E6", number),
+        [] => Ok(Outcome::Done),
+        _ => end_at(writer, sink, code_of(LineRule::LineNotEnded), number),
     }
 }
 
@@ -63,7 +69,7 @@ fn answer<S: Source, K: Sink>(
     source: &mut S,
     writer: &mut LineWriter,
     sink: &mut K,
-) -> Result<u8, Failure>
+) -> Result<Outcome, Failure>
     requires new { writer.old ≡ [] }
     requires source { S.failed source.old + 1 < 2 ^ 64 }
     requires sink { K.failed sink.old + 1 < 2 ^ 64 }
@@ -74,10 +80,11 @@ fn answer<S: Source, K: Sink>(
         (K.failed sink.new) result }
     ensures device { IfErr result (λ e. e ≢ Failure.Memory) }
     ensures settled { SettlesBy result (K.last_failed sink.new) (K.hidden sink.new) }
-    ensures asks { AsksUpTo 9223372036854775807 (S.asked source.old) (S.asked source.new) (S.dry source.old) (S.dry source.new) }
-    ensures status { IfOk result (λ status. status < 3) }
+    ensures prompt { S.dry source.old < S.dry source.new → S.failed source.new ≡ S.failed source.old
+        → IfSome (S.remaining source.old) (λ text. IsPrompt format text (K.contents sink.old) (K.answered sink.new)) }
+    ensures asks { AsksUpTo STREAM_LIMIT (S.asked source.old) (S.asked source.new) (S.dry source.old) (S.dry source.new) }
 {
-    let mut reader = LineReader::new(LIMIT);
+    let mut reader = LineReader::new(STREAM_LIMIT);
     let mut line = Line::new();
     let mut number: u64 = 1;
     loop {
@@ -87,10 +94,15 @@ fn answer<S: Source, K: Sink>(
                 Ok(false) => return end_inside(line.as_slice(), number, writer, sink),
                 Ok(true) => {}
             },
-            Some(LineEnd::Long) => return end_at(writer, sink, b"E1", number),
+            Some(LineEnd::Long) => return end_at(
+                writer,
+                sink,
+                code_of(LineRule::LineTooLong),
+                number,
+            ),
             Some(LineEnd::Whole) => {
                 let Some(word) = read_word(line.as_slice()) else {
-                    return end_at(writer, sink, b"E5", number);
+                    return end_at(writer, sink, code_of(LineRule::NotAWord), number);
                 };
                 match write_word(writer, sink, format, word) {
                     Err(failure) => return Err(failure),
@@ -105,23 +117,24 @@ fn answer<S: Source, K: Sink>(
 
 /// Decodes the words on a source, one a line, onto a sink, with no memory but two fixed buffers.
 ///
-/// The answer is the exit status: 0 at the end of the text; 2 at the first faulty line, whose fault was written after
-/// the lines before it; 3 where a device failed. After a failed pull whole lines of the answer and then
-/// `failed device` were written; a push or flush that failed is the last call of the sink, and so is a pull that
-/// gave no byte of the source.
-pub fn run_decode<S: Source, K: Sink>(format: Format, source: &mut S, sink: &mut K) -> u8
+/// It ends `Done` at the end of the text; `Unreadable` at the first faulty line, whose fault was written after the lines
+/// before it; `Failed` where a device failed. After a failed pull whole lines of the answer and then
+/// `failed device` were written; a push or flush that failed is the last call of the sink, and at most one pull of the
+/// source gives no byte. Where a pull found the end of the text, the lines of all its whole lines had been seen before it.
+pub fn run_decode<S: Source, K: Sink>(format: Format, source: &mut S, sink: &mut K) -> Exit
     requires source { S.failed source.old + 1 < 2 ^ 64 }
     requires sink { K.failed sink.old + 1 < 2 ^ 64 }
     ensures reports { IfSome (S.remaining source.old) (λ text.
         Reports (K.contents sink.old) (K.contents sink.new) Failure.Source (K.failed sink.new - K.failed sink.old)
         (decode_text format text) result) }
-    ensures cause { result ≡ 3
+    ensures cause { result ≡ Exit.Failed
         → S.failed source.old + K.failed sink.old < S.failed source.new + K.failed sink.new }
-    ensures quiet { result < 3
+    ensures quiet { result ≢ Exit.Failed
         → (S.failed source.new ≡ S.failed source.old) × (K.failed sink.new ≡ K.failed sink.old) }
-    ensures asks { AsksUpTo 9223372036854775807 (S.asked source.old) (S.asked source.new) (S.dry source.old) (S.dry source.new) }
+    ensures prompt { S.dry source.old < S.dry source.new → S.failed source.new ≡ S.failed source.old
+        → IfSome (S.remaining source.old) (λ text. IsPrompt format text (K.contents sink.old) (K.answered sink.new)) }
+    ensures asks { AsksUpTo STREAM_LIMIT (S.asked source.old) (S.asked source.new) (S.dry source.old) (S.dry source.new) }
     ensures left { LeavesSink (K.failed sink.old) (K.failed sink.new) (K.last_failed sink.new) (K.hidden sink.new) }
-    ensures status { result ≤ 3 }
 {
     let mut writer = LineWriter::new();
     let ended = answer(format, source, &mut writer, sink);

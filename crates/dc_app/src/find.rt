@@ -5,12 +5,12 @@ ghost use Rattle.dc_cert.specs.NamedRows.{named_rows};
 ghost use Rattle.dc_device.specs.Device.{AsksUpTo};
 ghost use Rattle.dc_find.specs.Ways.{IsFirstInTheWay};
 ghost use Rattle.dc_parts.specs.FaultText.{table_fault_text};
-ghost use Rattle.dc_app.specs.Answer.{Any, LeavesSink, Raises, Reported};
+ghost use Rattle.dc_toml.specs.declared.read.TheConstants.{TEXT_LIMIT};
+ghost use Rattle.dc_answer.specs.Answer.{Any, LeavesSink, Raises, Reported};
 ghost use Rattle.dc_app.specs.Find.{JudgesRows, JudgesTables, ReportsFind, Tells, obstacle_text};
 
-use crate::answer::{Failure, report, say};
-use crate::inputs::{Unloaded, load};
 use crate::obstacles::print_obstacle;
+use dc_answer::{Exit, Failure, Outcome, Unloaded, load, report, say};
 use dc_cert::{Certificate, cert_text};
 use dc_check::laws::accepted_certificates_keep_their_claims;
 use dc_device::{LineWriter, Sink, Source};
@@ -20,16 +20,16 @@ use dc_print::{Text, print_table_fault};
 use dc_tables::Tables;
 use std::alloc::Global;
 
-// Keeps a line for a status.
-fn keep(bytes: &[u8], status: u8, line: &mut Vec<u8>) -> Result<u8, Failure>
+/// Keeps a text for an outcome.
+pub fn keep(bytes: &[u8], outcome: Outcome, line: &mut Vec<u8>) -> Result<Outcome, Failure>
     ensures kept { IfOk result (λ _. line.new.items ≡ bytes.now) }
     ensures len { IfOk result (λ _. vec_len line.new ≡ length bytes.now) }
-    ensures status { IfOk result (λ s. s ≡ status) }
+    ensures outcome { IfOk result (λ o. o ≡ outcome) }
     ensures memory { IfErr result (λ e. e ≡ Failure.Memory) }
 {
     line.clear();
     match line.extend_from_slice(bytes) {
-        Ok(()) => Ok(status),
+        Ok(()) => Ok(outcome),
         Err(_) => Err(Failure::Memory),
     }
 }
@@ -39,14 +39,14 @@ fn keep_certificate(
     alloc: Global,
     certificate: &Certificate,
     line: &mut Vec<u8>,
-) -> Result<u8, Failure>
+) -> Result<Outcome, Failure>
     ensures kept { IfOk result (λ _. Tells (named_rows certificate.now) line.new.items) }
-    ensures status { IfOk result (λ s. s ≡ 0) }
+    ensures outcome { IfOk result (λ o. o ≡ Outcome.Done) }
     ensures memory { IfErr result (λ e. e ≡ Failure.Memory) }
 {
     match cert_text(alloc, certificate) {
         Ok(text) => {
-            let kept = keep(text.as_bytes(), 0, line);
+            let kept = keep(text.as_bytes(), Outcome::Done, line);
             let _ = line.pop();
             kept
         }
@@ -54,11 +54,15 @@ fn keep_certificate(
     }
 }
 
-// Keeps what stands in the way, where that is not want of memory.
-fn keep_obstacle(tables: &Tables, fault: FindFault, line: &mut Vec<u8>) -> Result<u8, Failure>
+/// Keeps what stands in the way, where that is not want of memory.
+pub fn keep_obstacle(
+    tables: &Tables,
+    fault: FindFault,
+    line: &mut Vec<u8>,
+) -> Result<Outcome, Failure>
     requires { fault ≢ FindFault.Memory → IsFirstInTheWay tables.now fault }
     ensures kept { IfOk result (λ _. line.new.items ≡ obstacle_text tables.now fault) }
-    ensures status { IfOk result (λ s. s ≡ 1) }
+    ensures outcome { IfOk result (λ o. o ≡ Outcome.Refused) }
     ensures memory { IfErr result (λ e. e ≡ Failure.Memory) }
     ensures fault { IfOk result (λ _. fault ≢ FindFault.Memory) }
 {
@@ -67,25 +71,24 @@ fn keep_obstacle(tables: &Tables, fault: FindFault, line: &mut Vec<u8>) -> Resul
     }
     let mut text = Text::new();
     print_obstacle(&mut text, tables, fault);
-    keep(text.as_slice(), 1, line)
+    keep(text.as_slice(), Outcome::Refused, line)
 }
 
-// Keeps the first fault of the tables' text.
-fn keep_unreadable(fault: TableFault, line: &mut Vec<u8>) -> Result<u8, Failure>
+/// Keeps the first fault of the tables' text.
+pub fn keep_unreadable(fault: TableFault, line: &mut Vec<u8>) -> Result<Outcome, Failure>
     ensures kept { IfOk result (λ _. line.new.items ≡ codes "unreadable " ++ table_fault_text fault) }
-    ensures status { IfOk result (λ s. s ≡ 2) }
+    ensures outcome { IfOk result (λ o. o ≡ Outcome.Unreadable) }
     ensures memory { IfErr result (λ e. e ≡ Failure.Memory) }
 {
     let mut text = Text::new();
     print_table_fault(&mut text, fault);
-    keep(text.as_slice(), 2, line)
+    keep(text.as_slice(), Outcome::Unreadable, line)
 }
 
-// Finds the least certificate for tables, and keeps the line. The answer is the status.
-fn judge(alloc: Global, tables: &Tables, line: &mut Vec<u8>) -> Result<u8, Failure>
+// Finds the least certificate for tables, and keeps the line.
+fn judge(alloc: Global, tables: &Tables, line: &mut Vec<u8>) -> Result<Outcome, Failure>
     ensures answer { JudgesRows tables.now line.new.items result }
     ensures memory { IfErr result (λ e. e ≡ Failure.Memory) }
-    ensures status { IfOk result (λ status. status < 3) }
 {
     accepted_certificates_keep_their_claims(tables);
     match dc_find::find(alloc, tables) {
@@ -95,13 +98,16 @@ fn judge(alloc: Global, tables: &Tables, line: &mut Vec<u8>) -> Result<u8, Failu
 }
 
 // Finds the least certificate for the tables that a source gives.
-fn judge_source<T: Source>(alloc: Global, tables: &mut T, line: &mut Vec<u8>) -> Result<u8, Failure>
+fn judge_source<T: Source>(
+    alloc: Global,
+    tables: &mut T,
+    line: &mut Vec<u8>,
+) -> Result<Outcome, Failure>
     requires { T.failed tables.old + 1 < 2 ^ 64 }
     ensures answer { (rows : List ℕ) → T.remaining tables.old ≡ Some rows → JudgesTables rows line.new.items result }
     ensures source { Raises (T.failed tables.old) (T.failed tables.new) result }
-    ensures asks { AsksUpTo 1048576 (T.asked tables.old) (T.asked tables.new) (T.dry tables.old) (T.dry tables.new) }
+    ensures asks { AsksUpTo TEXT_LIMIT (T.asked tables.old) (T.asked tables.new) (T.dry tables.old) (T.dry tables.new) }
     ensures sink { IfErr result (λ e. e ≢ Failure.Sink) }
-    ensures status { IfOk result (λ status. status < 3) }
 {
     match load(alloc, tables) {
         Ok(tables) => judge(alloc, &tables, line),
@@ -113,11 +119,11 @@ fn judge_source<T: Source>(alloc: Global, tables: &mut T, line: &mut Vec<u8>) ->
 /// Finds the least certificate for tables that are read whole from their source, and writes its text onto a sink; where
 /// none is accepted, one line that says what stands first in the way of every certificate.
 ///
-/// The answer is the exit status: 0 where a certificate was found, and then it keeps its claims in every admissible run
-/// of the tables; 1 where none is accepted; 2 where the tables can't be read; 3 where a device failed or memory was
-/// refused: then `failed device` or `failed memory` was written, and nothing else. A push or flush that failed is the last
-/// call of the sink, and a pull that gave no byte the last of the source.
-pub fn run_find<T: Source, K: Sink>(alloc: Global, tables: &mut T, sink: &mut K) -> u8
+/// It ends `Done` where a certificate was found, and then it keeps its claims in every admissible run of the tables;
+/// `Refused` where none is accepted; `Unreadable` where the tables can't be read; `Failed` where a device failed or
+/// memory was refused: then `failed device` or `failed memory` was written, and nothing else. A push or flush that
+/// failed is the last call of the sink, and at most one pull of the source gives no byte.
+pub fn run_find<T: Source, K: Sink>(alloc: Global, tables: &mut T, sink: &mut K) -> Exit
     requires tables { T.failed tables.old + 1 < 2 ^ 64 }
     requires sink { K.failed sink.old + 1 < 2 ^ 64 }
     ensures reports { (rows : List ℕ) → T.remaining tables.old ≡ Some rows
@@ -125,10 +131,9 @@ pub fn run_find<T: Source, K: Sink>(alloc: Global, tables: &mut T, sink: &mut K)
         (K.failed sink.old) (K.failed sink.new) result }
     ensures reported { Reported Any (K.contents sink.old) (K.contents sink.new) (T.failed tables.old) (T.failed tables.new)
         (K.failed sink.old) (K.failed sink.new) result }
-    ensures asks { AsksUpTo 1048576 (T.asked tables.old) (T.asked tables.new) (T.dry tables.old) (T.dry tables.new) }
+    ensures asks { AsksUpTo TEXT_LIMIT (T.asked tables.old) (T.asked tables.new) (T.dry tables.old) (T.dry tables.new) }
     ensures left { LeavesSink (K.failed sink.old) (K.failed sink.new) (K.last_failed sink.new) (K.hidden sink.new) }
-    ensures quiet { result < 3 → T.failed tables.new + K.failed sink.new ≡ T.failed tables.old + K.failed sink.old }
-    ensures status { result ≤ 3 }
+    ensures quiet { result ≢ Exit.Failed → T.failed tables.new + K.failed sink.new ≡ T.failed tables.old + K.failed sink.old }
 {
     let mut line = Vec::new(alloc);
     let judged = judge_source(alloc, tables, &mut line);

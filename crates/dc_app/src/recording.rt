@@ -1,18 +1,18 @@
 //! The run that a recorded trace tells.
 ghost use Rattle.std.specs.Prelude.{◌≡◌, ◌≢◌, ◌+◌, ◌^◌, ◌<◌, IfErr, IfSome};
 ghost use Rattle.dc_device.specs.Device.{AsksUpTo};
+ghost use Rattle.dc_event.specs.declared.trace_reader.TheConstants.{TRACE_LIMIT};
 ghost use Rattle.dc_app.specs.Audit.{LoadsRun, run_of};
-ghost use Rattle.dc_app.specs.Inputs.{failed_in};
+ghost use Rattle.dc_answer.specs.Inputs.{failed_in};
 
-use crate::answer::Failure;
-use crate::inputs::Unloaded;
+use dc_answer::{Failure, Unloaded};
 use dc_device::{LineWriter, Nowhere, Source};
 use dc_event::{Event, LineRule, TRACE_LIMIT, TraceFault, TraceLines, TraceStop};
 use dc_tables::Tables;
 use std::alloc::Global;
 
 /// How many events are audited at most.
-const MOST: usize = 100_000;
+const MOST_EVENTS: usize = 100_000;
 
 /// The run that the trace of a source tells, read up to its first fault. A trace of more than 100,000 events is not read on
 /// after one more.
@@ -27,7 +27,7 @@ pub fn load_run<S: Source>(
     requires { S.failed trace.old + 1 < 2 ^ 64 }
     ensures run { IfSome (S.remaining trace.old) (λ text. LoadsRun (run_of tables.now text) result) }
     ensures count { S.failed trace.new ≡ S.failed trace.old + failed_in result }
-    ensures asks { AsksUpTo 1073741824 (S.asked trace.old) (S.asked trace.new) (S.dry trace.old) (S.dry trace.new) }
+    ensures asks { AsksUpTo TRACE_LIMIT (S.asked trace.old) (S.asked trace.new) (S.dry trace.old) (S.dry trace.new) }
     ensures sink { IfErr result (λ e. e ≢ Unloaded.Failed Failure.Sink) }
 {
     let mut run: Vec<Event> = Vec::new(alloc);
@@ -35,15 +35,15 @@ pub fn load_run<S: Source>(
     let unwatched = LineWriter::new();
     loop {
         match lines.advance() {
-            None => lines.pull(trace, &unwatched, &Nowhere),
+            None => lines.pull(trace, &unwatched, &mut Nowhere),
             Some(Err(TraceStop::End)) => return Ok(run),
             Some(Err(TraceStop::Fault(fault))) => return Err(Unloaded::Refused(fault)),
             Some(Err(TraceStop::Broken)) => return Err(Unloaded::Failed(Failure::Source)),
             Some(Ok(event)) => {
-                if run.len() == MOST {
+                if run.len() == MOST_EVENTS {
                     return Err(Unloaded::Refused(TraceFault {
                         rule: LineRule::LineTooLong,
-                        line: MOST as u64 + 1,
+                        line: MOST_EVENTS as u64 + 1,
                     }));
                 }
                 match run.push(event) {

@@ -8,16 +8,17 @@ ghost use Rattle.dc_device.specs.Lines.{spelled};
 ghost use Rattle.dc_core.specs.CoreSteps.{rows_of};
 ghost use Rattle.dc_event.specs.ReplyText.{is_reported, reply_line};
 ghost use Rattle.dc_event.specs.TraceFaults.{line_rule_code};
-ghost use Rattle.dc_app.specs.Answer.{Any, Ends, EndsSome, LeavesSink, Raises, SettlesBy, Reported, is_whole, sink_failures_of};
-ghost use Rattle.dc_app.specs.Inputs.{OnlyBehind};
-ghost use Rattle.dc_app.specs.Refusals.{StopsBy, refused, stop_end, tables_end};
-ghost use Rattle.dc_app.specs.Replay.{ReportsReplay, WritesReplay, WritesTrace};
+ghost use Rattle.dc_event.specs.declared.trace_reader.TheConstants.{TRACE_LIMIT};
+ghost use Rattle.dc_toml.specs.declared.read.TheConstants.{TEXT_LIMIT};
+ghost use Rattle.dc_answer.specs.Answer.{Any, Ends, EndsSome, LeavesSink, Raises, SettlesBy, Reported, sink_failures_of};
+ghost use Rattle.dc_answer.specs.Inputs.{OnlyBehind, tables_end};
+ghost use Rattle.dc_app.specs.Refusals.{StopsBy, refused, stop_end};
+ghost use Rattle.dc_app.specs.Replay.{IsPrompt, ReportsReplay, ShowsTrace, WritesReplay, WritesTrace};
 ghost use Rattle.dc_app.specs.Steps.{StandsAt};
 
-use crate::answer::{Failure, end_at, end_with, report};
-use crate::inputs::{Unloaded, load};
 use crate::replies::{is_printed, print_refused, print_step};
 use crate::steps::{Progress, Refusal, Step};
+use dc_answer::{Exit, Failure, Outcome, Unloaded, end_at, end_with, load, report};
 use dc_core::Core;
 use dc_device::{LineWriter, Sink, Source};
 use dc_event::{LineRule, TRACE_LIMIT, TraceLines, TraceStop};
@@ -36,13 +37,18 @@ pub fn code_of(rule: LineRule) -> &'static [u8]
 }
 
 // Pushes what waits, where the trace tells no more events.
-fn end_by<K: Sink>(stop: TraceStop, writer: &mut LineWriter, sink: &mut K) -> Result<u8, Failure>
+fn end_by<K: Sink>(
+    stop: TraceStop,
+    writer: &mut LineWriter,
+    sink: &mut K,
+) -> Result<Outcome, Failure>
     requires { K.failed sink.old + 1 < 2 ^ 64 }
     ensures bytes { Ends (K.contents sink.old) writer.old (K.contents sink.new) (stop_end stop) result }
     ensures empty { writer.new ≡ [] }
     ensures count { K.failed sink.new ≡ K.failed sink.old + sink_failures_of result }
     ensures stops { StopsBy stop result }
     ensures settled { SettlesBy result (K.last_failed sink.new) (K.hidden sink.new) }
+    ensures answered { K.answered sink.new ≡ K.answered sink.old }
 {
     if let TraceStop::Fault(fault) = stop {
         return end_at(writer, sink, code_of(fault.rule), fault.line);
@@ -51,7 +57,7 @@ fn end_by<K: Sink>(stop: TraceStop, writer: &mut LineWriter, sink: &mut K) -> Re
         Err(_) => Err(Failure::Sink),
         Ok(()) => match stop {
             TraceStop::Broken => Err(Failure::Source),
-            _ => Ok(0),
+            _ => Ok(Outcome::Done),
         },
     }
 }
@@ -62,19 +68,19 @@ fn end_refused<K: Sink>(
     refusal: Refusal,
     writer: &mut LineWriter,
     sink: &mut K,
-) -> Result<u8, Failure>
+) -> Result<Outcome, Failure>
     requires { K.failed sink.old + 1 < 2 ^ 64 }
     ensures bytes { Ends (K.contents sink.old) writer.old (K.contents sink.new) (refused tables.now refusal.event refusal.fault refusal.number) result }
     ensures empty { writer.new ≡ [] }
     ensures count { K.failed sink.new ≡ K.failed sink.old + failures_of result }
     ensures sink { IfErr result (λ e. e ≡ Failure.Sink) }
     ensures settled { SettlesBy result (K.last_failed sink.new) (K.hidden sink.new) }
-    ensures status { IfOk result (λ status. status < 3) }
+    ensures answered { K.answered sink.new ≡ K.answered sink.old }
 {
     let mut text = Text::new();
     print_refused(&mut text, tables, refusal);
     match end_with(writer, sink, text.as_slice()) {
-        Ok(()) => Ok(1),
+        Ok(()) => Ok(Outcome::Refused),
         Err(_) => Err(Failure::Sink),
     }
 }
@@ -84,19 +90,18 @@ fn end_unloaded<K: Sink>(
     fault: TableFault,
     writer: &mut LineWriter,
     sink: &mut K,
-) -> Result<u8, Failure>
+) -> Result<Outcome, Failure>
     requires { K.failed sink.old + 1 < 2 ^ 64 }
     ensures bytes { Ends (K.contents sink.old) writer.old (K.contents sink.new) (tables_end fault) result }
     ensures empty { writer.new ≡ [] }
     ensures count { K.failed sink.new ≡ K.failed sink.old + failures_of result }
     ensures sink { IfErr result (λ e. e ≡ Failure.Sink) }
     ensures settled { SettlesBy result (K.last_failed sink.new) (K.hidden sink.new) }
-    ensures status { IfOk result (λ status. status < 3) }
 {
     let mut text = Text::new();
     print_table_fault(&mut text, fault);
     match end_with(writer, sink, text.as_slice()) {
-        Ok(()) => Ok(2),
+        Ok(()) => Ok(Outcome::Unreadable),
         Err(_) => Err(Failure::Sink),
     }
 }
@@ -115,6 +120,7 @@ fn say<K: Sink>(
     ensures count { K.failed sink.new ≡ K.failed sink.old + failures_of result }
     ensures sink { IfErr result (λ e. e ≡ Failure.Sink) }
     ensures last { IfErr result (λ e. K.last_failed sink.new ≡ true) }
+    ensures answered { K.answered sink.new ≡ K.answered sink.old }
 {
     if !is_printed(all, step.reply) {
         return Ok(());
@@ -135,7 +141,7 @@ fn answer<S: Source, K: Sink>(
     trace: &mut S,
     writer: &mut LineWriter,
     sink: &mut K,
-) -> Result<u8, Failure>
+) -> Result<Outcome, Failure>
     requires new { writer.old ≡ [] }
     requires rows { rows_of progress.old.core ≡ tables.now }
     requires stands { StandsAt progress.old [] }
@@ -145,12 +151,13 @@ fn answer<S: Source, K: Sink>(
         WritesTrace tables.now all text (K.contents sink.old) (K.contents sink.new) result) }
     ensures some { EndsSome (K.contents sink.old) (K.contents sink.new) result }
     ensures settled { SettlesBy result (K.last_failed sink.new) (K.hidden sink.new) }
-    ensures asks { AsksUpTo 1073741824 (S.asked trace.old) (S.asked trace.new) (S.dry trace.old) (S.dry trace.new) }
+    ensures prompt { S.dry trace.old < S.dry trace.new → S.failed trace.new ≡ S.failed trace.old
+        → IfSome (S.remaining trace.old) (λ text. ShowsTrace tables.now all text (K.contents sink.old) (K.answered sink.new)) }
+    ensures asks { AsksUpTo TRACE_LIMIT (S.asked trace.old) (S.asked trace.new) (S.dry trace.old) (S.dry trace.new) }
     ensures device { IfErr result (λ e. e ≢ Failure.Memory) }
     ensures empty { writer.new ≡ [] }
     ensures source { Raises (S.failed trace.old) (S.failed trace.new) result }
     ensures sink { K.failed sink.new ≡ K.failed sink.old + sink_failures_of result }
-    ensures status { IfOk result (λ status. status < 3) }
 {
     let mut lines = TraceLines::new(tables, TRACE_LIMIT);
     loop {
@@ -179,7 +186,7 @@ fn answer_on<S: Source, K: Sink>(
     trace: &mut S,
     writer: &mut LineWriter,
     sink: &mut K,
-) -> Result<u8, Failure>
+) -> Result<Outcome, Failure>
     requires new { writer.old ≡ [] }
     requires source { S.failed trace.old + 1 < 2 ^ 64 }
     requires sink { K.failed sink.old + 1 < 2 ^ 64 }
@@ -187,12 +194,13 @@ fn answer_on<S: Source, K: Sink>(
         WritesTrace tables all text (K.contents sink.old) (K.contents sink.new) result) }
     ensures some { EndsSome (K.contents sink.old) (K.contents sink.new) result }
     ensures settled { SettlesBy result (K.last_failed sink.new) (K.hidden sink.new) }
-    ensures asks { AsksUpTo 1073741824 (S.asked trace.old) (S.asked trace.new) (S.dry trace.old) (S.dry trace.new) }
+    ensures prompt { S.dry trace.old < S.dry trace.new → S.failed trace.new ≡ S.failed trace.old
+        → IfSome (S.remaining trace.old) (λ text. ShowsTrace tables all text (K.contents sink.old) (K.answered sink.new)) }
+    ensures asks { AsksUpTo TRACE_LIMIT (S.asked trace.old) (S.asked trace.new) (S.dry trace.old) (S.dry trace.new) }
     ensures memory { result ≡ Err Failure.Memory → sink.new ≡ sink.old }
     ensures empty { writer.new ≡ [] }
     ensures source { Raises (S.failed trace.old) (S.failed trace.new) result }
     ensures sink { K.failed sink.new ≡ K.failed sink.old + sink_failures_of result }
-    ensures status { IfOk result (λ status. status < 3) }
 {
     let Ok(tables) = Arc::new(alloc, tables) else {
         return Err(Failure::Memory);
@@ -219,7 +227,7 @@ fn replay<T: Source, S: Source, K: Sink>(
     trace: &mut S,
     writer: &mut LineWriter,
     sink: &mut K,
-) -> Result<u8, Failure>
+) -> Result<Outcome, Failure>
     requires new { writer.old ≡ [] }
     requires tables { T.failed tables.old + 1 < 2 ^ 64 }
     requires source { S.failed trace.old + 1 < 2 ^ 64 }
@@ -228,14 +236,16 @@ fn replay<T: Source, S: Source, K: Sink>(
         WritesReplay all rows text (K.contents sink.old) (K.contents sink.new) result)) }
     ensures some { EndsSome (K.contents sink.old) (K.contents sink.new) result }
     ensures settled { SettlesBy result (K.last_failed sink.new) (K.hidden sink.new) }
-    ensures asks_tables { AsksUpTo 1048576 (T.asked tables.old) (T.asked tables.new) (T.dry tables.old) (T.dry tables.new) }
-    ensures asks_trace { AsksUpTo 1073741824 (S.asked trace.old) (S.asked trace.new) (S.dry trace.old) (S.dry trace.new) }
+    ensures prompt { S.dry trace.old < S.dry trace.new → S.failed trace.new ≡ S.failed trace.old
+        → IfSome (T.remaining tables.old) (λ rows. IfSome (S.remaining trace.old) (λ text.
+        IsPrompt all rows text (K.contents sink.old) (K.answered sink.new))) }
+    ensures asks_tables { AsksUpTo TEXT_LIMIT (T.asked tables.old) (T.asked tables.new) (T.dry tables.old) (T.dry tables.new) }
+    ensures asks_trace { AsksUpTo TRACE_LIMIT (S.asked trace.old) (S.asked trace.new) (S.dry trace.old) (S.dry trace.new) }
     ensures order { IfSome (T.remaining tables.old) (λ rows. OnlyBehind (tables_of rows) (trace.new ≡ trace.old)) }
     ensures memory { result ≡ Err Failure.Memory → sink.new ≡ sink.old }
     ensures empty { writer.new ≡ [] }
     ensures source { Raises (T.failed tables.old + S.failed trace.old) (T.failed tables.new + S.failed trace.new) result }
     ensures sink { K.failed sink.new ≡ K.failed sink.old + sink_failures_of result }
-    ensures status { IfOk result (λ status. status < 3) }
 {
     let tables = match load(alloc, tables) {
         Ok(tables) => tables,
@@ -248,18 +258,19 @@ fn replay<T: Source, S: Source, K: Sink>(
 /// Replays a recorded trace through the concentrator of a tables' text, onto a sink: each reply as a line, or only those
 /// that tell of a word that is sent or lost.
 ///
-/// The answer is the exit status: 0 at the end of the trace; 1 at the first event that may not follow, 2 at the first
-/// fault of the tables or of the trace, whose line was written after the lines before it; 3 where a device failed or
+/// It ends `Done` at the end of the trace; `Refused` at the first event that may not follow, `Unreadable` at the first
+/// fault of the tables or of the trace, whose line was written after the lines before it; `Failed` where a device failed or
 /// memory was refused. After a failed pull whole lines of the answer and then `failed device` were written, and where
-/// memory was refused `failed memory` alone. A push or flush that failed is the last call of the sink, and a pull that
-/// gave no byte the last of its source.
+/// memory was refused `failed memory` alone. A push or flush that failed is the last call of the sink, and at most
+/// one pull of each source gives no byte. Where a pull found the end of the trace, the lines of all its events that are
+/// printed had been seen before it.
 pub fn run_replay<T: Source, S: Source, K: Sink>(
     alloc: Global,
     all: bool,
     tables: &mut T,
     trace: &mut S,
     sink: &mut K,
-) -> u8
+) -> Exit
     requires tables { T.failed tables.old + 1 < 2 ^ 64 }
     requires source { S.failed trace.old + 1 < 2 ^ 64 }
     requires sink { K.failed sink.old + 1 < 2 ^ 64 }
@@ -270,13 +281,15 @@ pub fn run_replay<T: Source, S: Source, K: Sink>(
     ensures reported { Reported Any (K.contents sink.old) (K.contents sink.new)
         (T.failed tables.old + S.failed trace.old) (T.failed tables.new + S.failed trace.new)
         (K.failed sink.old) (K.failed sink.new) result }
-    ensures asks_tables { AsksUpTo 1048576 (T.asked tables.old) (T.asked tables.new) (T.dry tables.old) (T.dry tables.new) }
-    ensures asks_trace { AsksUpTo 1073741824 (S.asked trace.old) (S.asked trace.new) (S.dry trace.old) (S.dry trace.new) }
+    ensures prompt { S.dry trace.old < S.dry trace.new → S.failed trace.new ≡ S.failed trace.old
+        → IfSome (T.remaining tables.old) (λ rows. IfSome (S.remaining trace.old) (λ text.
+        IsPrompt all rows text (K.contents sink.old) (K.answered sink.new))) }
+    ensures asks_tables { AsksUpTo TEXT_LIMIT (T.asked tables.old) (T.asked tables.new) (T.dry tables.old) (T.dry tables.new) }
+    ensures asks_trace { AsksUpTo TRACE_LIMIT (S.asked trace.old) (S.asked trace.new) (S.dry trace.old) (S.dry trace.new) }
     ensures order { IfSome (T.remaining tables.old) (λ rows. OnlyBehind (tables_of rows) (trace.new ≡ trace.old)) }
     ensures left { LeavesSink (K.failed sink.old) (K.failed sink.new) (K.last_failed sink.new) (K.hidden sink.new) }
-    ensures quiet { result < 3 → T.failed tables.new + S.failed trace.new + K.failed sink.new
+    ensures quiet { result ≢ Exit.Failed → T.failed tables.new + S.failed trace.new + K.failed sink.new
         ≡ T.failed tables.old + S.failed trace.old + K.failed sink.old }
-    ensures status { result ≤ 3 }
 {
     let mut writer = LineWriter::new();
     let ended = replay(alloc, all, tables, trace, &mut writer, sink);

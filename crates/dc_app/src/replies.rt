@@ -85,7 +85,7 @@ fn append_routing(text: &mut Text, tables: &Tables, reply: Reply)
     ensures { text.new.items ≡ text.old.items ++ routing_text tables.now reply }
 {
     match reply {
-        Reply::Took(bus, word) => {
+        Reply::Took(word, bus) => {
             append(text, b" took ");
             append(text, bus_text(tables, bus));
             append_word(text, b" ", word);
@@ -120,7 +120,7 @@ pub fn print_step(text: &mut Text, tables: &Tables, step: Step)
     append_number(text, tick);
     match event {
         Event::Tick => append(text, b" tick"),
-        Event::Arrive(bus, word) => {
+        Event::Arrive(word, bus) => {
             append(text, b" ");
             append(text, bus_text(tables, bus));
             append_arrival(text, word, reply);

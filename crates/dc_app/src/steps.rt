@@ -4,11 +4,12 @@ ghost use Rattle.dc_core.specs.CoreSteps.{rows_of};
 ghost use Rattle.dc_event.specs.Time.{ends};
 ghost use Rattle.dc_event.specs.declared.event.Event.{Event};
 ghost use Rattle.dc_app.specs.Steps.{StandsAt, Steps};
+ghost use Rattle.dc_core.specs.declared.limits.TheConstants.{LAST_TICK};
 
 use dc_core::{Core, StepFault};
 use dc_event::{Event, Reply};
 
-/// A concentrator, its running tick, up to 2^40, and the number of the trace's next line.
+/// A concentrator, its running tick, up to `LAST_TICK`, and the number of the trace's next line.
 #[derive(Drop)]
 pub struct Progress {
     pub core: Core,
@@ -49,7 +50,7 @@ impl Progress {
     /// # Errors
     /// Exactly where it may not follow the events before it.
     pub fn step(&mut self, event: Event) -> Result<Step, Refusal>
-        requires early { self.old.tick ≤ 2 ^ 40 }
+        requires early { self.old.tick ≤ LAST_TICK }
         requires number { self.old.number + 1 < 2 ^ 64 }
         ensures rows { rows_of self.new.core ≡ rows_of self.old.core }
         ensures step { (done : List Event) → StandsAt self.old done → Steps (rows_of self.old.core) self.new done event result }

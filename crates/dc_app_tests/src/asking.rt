@@ -40,7 +40,7 @@ fn one_says(
     let mut sink = MemSink::new(alloc, 100, 0)?;
     let mut tables = MemSource::new(tables, 4096, 0);
     let mut certificate = MemSource::new(certificate, 4096, 0);
-    let status = run_check(alloc, &mut tables, &mut certificate, &mut sink);
+    let status = run_check(alloc, &mut tables, &mut certificate, &mut sink).code();
     assert_eq!(rt; line_of(sink.bytes()), want.as_bytes(), "{want}");
     assert_eq!(rt; status, status_of(want), "{want}");
     Ok(())
@@ -60,7 +60,7 @@ fn workers_say<R: Threads + Wait + Sync + Abort>(
     let mut sink = MemSink::new(alloc, 100, 0)?;
     let mut tables = MemSource::new(tables, 4096, 0);
     let mut certificate = MemSource::new(certificate, 4096, 0);
-    let status = run_check_par(rt, alloc, workers, &mut tables, &mut certificate, &mut sink);
+    let status = run_check_par(rt, alloc, workers, &mut tables, &mut certificate, &mut sink).code();
     assert_eq!(rt;
         line_of(sink.bytes()),
         want.as_bytes(),
@@ -95,7 +95,7 @@ pub fn find_says(
 ) -> Result<(), Fail> {
     let mut sink = MemSink::new(alloc, 1000, 0)?;
     let mut tables = MemSource::new(tables, piece.max(1), 0);
-    let status = run_find(alloc, &mut tables, &mut sink);
+    let status = run_find(alloc, &mut tables, &mut sink).code();
     assert_eq!(rt; line_of(sink.bytes()), want.as_bytes(), "{want}");
     assert_eq!(rt; status, status_of(want), "{want}");
     Ok(())
@@ -112,7 +112,7 @@ pub fn check_begins(
     let mut sink = MemSink::new(alloc, 100, 0)?;
     let mut tables = MemSource::new(tables, 4096, 0);
     let mut certificate = MemSource::new(certificate, 4096, 0);
-    let status = run_check(alloc, &mut tables, &mut certificate, &mut sink);
+    let status = run_check(alloc, &mut tables, &mut certificate, &mut sink).code();
     assert!(rt; line_of(sink.bytes()).starts_with(front.as_bytes()));
     assert_eq!(rt; status, status_of(front));
     Ok(())
@@ -143,7 +143,7 @@ pub fn replay_says(
     let mut sink = MemSink::new(alloc, room, failing.push)?;
     let mut tables = MemSource::new(tables, piece.max(1), failing.tables);
     let mut trace = MemSource::new(trace, piece.max(1), failing.trace);
-    let status = run_replay(alloc, all, &mut tables, &mut trace, &mut sink);
+    let status = run_replay(alloc, all, &mut tables, &mut trace, &mut sink).code();
     assert_eq!(rt; sink.bytes(), want, "in pieces of {piece}");
     assert_eq!(rt; status, want_status, "in pieces of {piece}");
     Ok(())
@@ -168,7 +168,7 @@ pub fn replays(rt: &impl Abort, alloc: Global, case: Case) -> Result<(), Fail> {
         let mut sink = MemSink::new(alloc, ROOM, 0)?;
         let mut tables = MemSource::new(case.tables, piece, 0);
         let mut trace = MemSource::new(case.trace, piece, 0);
-        let status = run_replay(alloc, case.all, &mut tables, &mut trace, &mut sink);
+        let status = run_replay(alloc, case.all, &mut tables, &mut trace, &mut sink).code();
         assert_eq!(rt; sink.bytes(), case.want, "in pieces of {piece}");
         assert_eq!(rt; status, case.status, "in pieces of {piece}");
     }
@@ -189,7 +189,7 @@ pub fn survives_pulls(rt: &impl Abort, alloc: Global, case: Case) -> Result<(), 
         let mut sink = MemSink::new(alloc, ROOM, 0)?;
         let mut tables = MemSource::new(case.tables, 4096, 0);
         let mut trace = MemSource::new(case.trace, 7, pull);
-        let status = run_replay(alloc, case.all, &mut tables, &mut trace, &mut sink);
+        let status = run_replay(alloc, case.all, &mut tables, &mut trace, &mut sink).code();
         if trace.failures() == 0 {
             assert_eq!(rt; sink.bytes(), case.want, "at pull {pull}");
             assert_eq!(rt; status, case.status, "at pull {pull}");
@@ -207,7 +207,7 @@ pub fn survives_pushes(rt: &impl Abort, alloc: Global, case: Case) -> Result<(),
         let mut sink = MemSink::new(alloc, ROOM, push)?;
         let mut tables = MemSource::new(case.tables, 4096, 0);
         let mut trace = MemSource::new(case.trace, 1, 0);
-        let status = run_replay(alloc, case.all, &mut tables, &mut trace, &mut sink);
+        let status = run_replay(alloc, case.all, &mut tables, &mut trace, &mut sink).code();
         if sink.failures() == 0 {
             assert_eq!(rt; sink.bytes(), case.want, "at push {push}");
             assert_eq!(rt; status, case.status, "at push {push}");
@@ -227,7 +227,7 @@ pub fn survives_flushes(rt: &impl Abort, alloc: Global, case: Case) -> Result<()
         sink.fail_flush(flush);
         let mut tables = MemSource::new(case.tables, 4096, 0);
         let mut trace = MemSource::new(case.trace, 1, 0);
-        let status = run_replay(alloc, case.all, &mut tables, &mut trace, &mut sink);
+        let status = run_replay(alloc, case.all, &mut tables, &mut trace, &mut sink).code();
         assert!(rt; case.want.starts_with(sink.bytes()), "at flush {flush}");
         if sink.failures() == 0 {
             assert_eq!(rt; sink.shown(), case.want, "at flush {flush}");

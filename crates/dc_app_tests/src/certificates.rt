@@ -2,7 +2,7 @@
 
 use crate::asking::{check_begins, check_says};
 use crate::conditions::judges;
-use crate::small::{CERTIFICATE, push_filled, push_tables};
+use dc_trials::{push_small_certificate, push_small_tables};
 use std::alloc::{AllocError, Global};
 use std::rt::HostRuntime;
 use std::test::Fail;
@@ -38,7 +38,7 @@ const TEXTS: &str = "|unreadable K1 at top
 #[test]
 fn texts_that_are_no_certificate(rt: HostRuntime) -> Result<(), Fail> {
     let mut tables = String::new(rt.alloc());
-    push_tables(&mut tables, "")?;
+    push_small_tables(&mut tables, "")?;
     for row in TEXTS.lines() {
         let (text, want) = row.split_once('|').ok_or("no line in a row")?;
         check_says(&rt, rt.alloc(), tables.as_bytes(), text.as_bytes(), want)?;
@@ -66,7 +66,7 @@ fn push_labels(text: &mut String, more: u32) -> Result<(), AllocError> {
 #[test]
 fn lists_that_are_long(rt: HostRuntime) -> Result<(), Fail> {
     let mut tables = String::new(rt.alloc());
-    push_tables(&mut tables, "")?;
+    push_small_tables(&mut tables, "")?;
     for (more, want) in [
         (0, "accepted inputs 1 outputs 1 labels 1"),
         (1023, "refused C01 labels"),
@@ -82,7 +82,7 @@ fn lists_that_are_long(rt: HostRuntime) -> Result<(), Fail> {
 #[test]
 fn brackets_that_are_deep(rt: HostRuntime) -> Result<(), Fail> {
     let mut tables = String::new(rt.alloc());
-    push_tables(&mut tables, "")?;
+    push_small_tables(&mut tables, "")?;
     for (depth, want) in [(100, "unreadable K5 at top"), (200, "unreadable K1 at top")] {
         let mut text = String::new(rt.alloc());
         push_times(&mut text, "[", depth)?;
@@ -95,9 +95,9 @@ fn brackets_that_are_deep(rt: HostRuntime) -> Result<(), Fail> {
 #[test]
 fn each_front_of_a_certificate_is_refused(rt: HostRuntime) -> Result<(), Fail> {
     let mut tables = String::new(rt.alloc());
-    push_tables(&mut tables, "")?;
+    push_small_tables(&mut tables, "")?;
     let mut whole = String::new(rt.alloc());
-    push_filled(&mut whole, CERTIFICATE, "", "", "")?;
+    push_small_certificate(&mut whole, "")?;
     for length in 0..whole.len() {
         let front = &whole.as_bytes()[..length];
         check_says(
@@ -123,9 +123,9 @@ fn with_byte(alloc: Global, text: &[u8], place: usize, byte: u8) -> Result<Vec<u
 #[test]
 fn each_byte_of_a_certificate_counts(rt: HostRuntime) -> Result<(), Fail> {
     let mut tables = String::new(rt.alloc());
-    push_tables(&mut tables, "")?;
+    push_small_tables(&mut tables, "")?;
     let mut whole = String::new(rt.alloc());
-    push_filled(&mut whole, CERTIFICATE, "", "", "")?;
+    push_small_certificate(&mut whole, "")?;
     for (place, old) in whole.as_bytes().iter().enumerate() {
         for (byte, front) in [
             (0x00, "unreadable K1 at top"),

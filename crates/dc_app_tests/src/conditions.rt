@@ -1,7 +1,7 @@
 //! Each condition of a certificate on the small tables, and which of two broken ones is reported.
 
 use crate::asking::check_says;
-use crate::small::{CERTIFICATE, push_filled, push_tables};
+use dc_trials::{push_small_certificate, push_small_tables};
 use std::alloc::Global;
 use std::process::Abort;
 use std::rt::HostRuntime;
@@ -18,9 +18,9 @@ pub fn judges<R: Threads + Wait + Sync + Abort>(
     for row in rows.lines() {
         let (values, want) = row.split_once('|').ok_or("no line in a row")?;
         let mut tables = String::new(alloc);
-        push_tables(&mut tables, values)?;
+        push_small_tables(&mut tables, values)?;
         let mut certificate = String::new(alloc);
-        push_filled(&mut certificate, CERTIFICATE, values, "", "")?;
+        push_small_certificate(&mut certificate, values)?;
         check_says(rt, alloc, tables.as_bytes(), certificate.as_bytes(), want)?;
     }
     Ok(())

@@ -1,8 +1,8 @@
 //! Words decoded: printed text in pieces of each size, devices that fail in mid-stream, and a person at a terminal.
-ghost use Rattle.std.specs.Prelude.{None};
 
+use crate::terminal::{Person, Terminal};
 use dc_app::run_decode;
-use dc_device::{Broken, MemSink, MemSource, ReadSource, Sink, Source, WriteSink};
+use dc_device::{MemSink, MemSource, ReadSource, Sink, Source, WriteSink};
 use dc_word::Format;
 use std::alloc::Global;
 use std::cell::Cell;
@@ -21,7 +21,7 @@ fn decoded(
 ) -> Result<(MemSink, u8), Fail> {
     let mut source = MemSource::new(text, piece.max(1), pull);
     let mut sink = MemSink::new(alloc, room, push)?;
-    let status = run_decode(format, &mut source, &mut sink);
+    let status = run_decode(format, &mut source, &mut sink).code();
     Ok((sink, status))
 }
 
@@ -157,128 +157,33 @@ fn readers_and_writers_of_std_serve(rt: HostRuntime) -> Result<(), Fail> {
     let mut out = [0; 57];
     let mut source = ReadSource::new(b"600000C1\n".as_slice());
     let mut sink = WriteSink::new(out.as_mut_slice());
-    assert_eq!(rt; run_decode(Format::Bnr, &mut source, &mut sink), 0);
+    assert_eq!(rt; run_decode(Format::Bnr, &mut source, &mut sink).code(), 0);
     assert_eq!(rt; out.as_slice(), FIRST);
     Ok(())
-}
-
-// A person who types each line only when the answer to the line before is seen: else the pull fails.
-#[derive(Drop)]
-struct Person<'a> {
-    seen: &'a Cell<u64>,
-    typed: u64,
-    failures: u64,
-    pulls: u64,
-    dry_pulls: u64,
-}
-
-impl<'a> Source for Person<'a> {
-    ghost remaining = { λ _. None };
-
-    ghost failed = { λ s. s.failures };
-
-    ghost asked = { λ s. s.pulls };
-
-    ghost dry = { λ s. s.dry_pulls };
-
-    fn pull(&mut self, buf: &mut [u8]) -> Result<usize, Broken> {
-        self.pulls = self.pulls.saturating_add(1);
-        if self.seen.get() < self.typed || buf.len() < 9 {
-            self.failures += 1;
-            self.dry_pulls = self.dry_pulls.saturating_add(1);
-            return Err(Broken);
-        }
-        if self.typed >= 3 {
-            self.dry_pulls = self.dry_pulls.saturating_add(1);
-            return Ok(0);
-        }
-        self.typed += 1;
-        buf[..9].copy_from_slice(b"600000C1\n");
-        Ok(9)
-    }
-
-    fn failures(&self) -> u64 {
-        self.failures
-    }
-
-    fn pulls(&self) -> u64 {
-        self.pulls
-    }
-
-    fn dry_pulls(&self) -> u64 {
-        self.dry_pulls
-    }
-}
-
-// How many line feeds there are.
-fn feeds(bytes: &[u8]) -> u64 {
-    bytes.iter().filter(|byte| **byte == b'\n').count() as u64
-}
-
-// A terminal that counts the lines that it shows: those that were flushed.
-#[derive(Drop)]
-struct Terminal<'a> {
-    seen: &'a Cell<u64>,
-    waiting: u64,
-    failures: u64,
-    has_failed: bool,
-    hides: bool,
-}
-
-impl<'a> Sink for Terminal<'a> {
-    ghost contents = { λ _. None };
-
-    ghost failed = { λ s. s.failures };
-
-    ghost last_failed = { λ s. s.has_failed };
-
-    ghost hidden = { λ s. s.hides };
-
-    fn push(&mut self, bytes: &[u8]) -> Result<usize, Broken> {
-        self.waiting = self.waiting.wrapping_add(feeds(bytes));
-        self.has_failed = false;
-        self.hides = true;
-        Ok(bytes.len())
-    }
-
-    fn flush(&mut self) -> Result<(), Broken> {
-        self.has_failed = false;
-        self.hides = false;
-        self.seen.set(self.seen.get().wrapping_add(self.waiting));
-        self.waiting = 0;
-        Ok(())
-    }
-
-    fn failures(&self) -> u64 {
-        self.failures
-    }
-
-    fn hides(&self) -> bool {
-        self.hides
-    }
 }
 
 #[test]
 fn each_line_is_seen_before_the_next_is_typed(rt: HostRuntime) {
     let seen = Cell::new(0);
-    let mut person = Person {
-        seen: &seen,
-        typed: 0,
-        failures: 0,
-        pulls: 0,
-        dry_pulls: 0,
-    };
-    let mut terminal = Terminal {
-        seen: &seen,
-        waiting: 0,
-        failures: 0,
-        has_failed: false,
-        hides: false,
-    };
-    assert_eq!(rt; run_decode(Format::Bnr, &mut person, &mut terminal), 0);
+    let mut person = Person::new(b"600000C1\n600000C1\n600000C1\n", &seen);
+    let mut terminal = Terminal::new(&seen);
+    assert_eq!(rt;
+        run_decode(Format::Bnr, &mut person, &mut terminal).code(),
+        0
+    );
     assert_eq!(rt; seen.get(), 3);
     assert_eq!(rt; person.pulls(), 4);
     assert_eq!(rt; person.dry_pulls(), 1);
+}
+
+#[test]
+fn each_line_was_seen_when_its_source_was_last_asked(rt: HostRuntime) -> Result<(), Fail> {
+    for piece in [1, 7, 64] {
+        let (sink, status) = decoded(rt.alloc(), Format::Bnr, b"600000C1\n60", piece, 0, 0, 1000)?;
+        assert_eq!(rt; sink.answered(), FIRST, "in pieces of {piece}");
+        assert_eq!(rt; status, 2, "in pieces of {piece}");
+    }
+    Ok(())
 }
 
 #[test]
@@ -288,7 +193,7 @@ fn nothing_is_written_after_a_flush_that_failed(rt: HostRuntime) -> Result<(), F
         let mut source = MemSource::new(b"600000C1\n600000C1\n", 9, 0);
         let mut sink = MemSink::new(rt.alloc(), 1000, 0)?;
         sink.fail_flush(number);
-        let status = run_decode(Format::Bnr, &mut source, &mut sink);
+        let status = run_decode(Format::Bnr, &mut source, &mut sink).code();
         assert_eq!(rt; status, want, "flush {number}");
         assert_eq!(rt; sink.bytes().len(), FIRST.len() * lines, "flush {number}");
         assert_eq!(rt; sink.hides(), want == 3, "flush {number}");

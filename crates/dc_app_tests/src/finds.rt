@@ -1,9 +1,9 @@
 //! The least certificates of the small tables with one value changed, or what stands in their way; and devices that fail.
 
 use crate::asking::find_says;
-use crate::small::push_tables;
 use dc_app::{run_check, run_find};
 use dc_device::{MemSink, MemSource, Sink};
+use dc_trials::push_small_tables;
 use std::alloc::Global;
 use std::process::Abort;
 use std::rt::HostRuntime;
@@ -34,7 +34,7 @@ fn the_least_certificate_or_what_stands_in_its_way(rt: HostRuntime) -> Result<()
     for line in ROWS.lines() {
         if let Some((row, want)) = line.split_once('|') {
             let mut tables = String::new(rt.alloc());
-            push_tables(&mut tables, row)?;
+            push_small_tables(&mut tables, row)?;
             find_says(&rt, rt.alloc(), tables.as_bytes(), 4096, want)?;
         }
     }
@@ -44,7 +44,7 @@ fn the_least_certificate_or_what_stands_in_its_way(rt: HostRuntime) -> Result<()
 #[test]
 fn the_pieces_of_the_text_count_for_nothing(rt: HostRuntime) -> Result<(), Fail> {
     let mut tables = String::new(rt.alloc());
-    push_tables(&mut tables, "")?;
+    push_small_tables(&mut tables, "")?;
     for piece in [1, 7, 64] {
         find_says(&rt, rt.alloc(), tables.as_bytes(), piece, FOUND)?;
     }
@@ -54,14 +54,14 @@ fn the_pieces_of_the_text_count_for_nothing(rt: HostRuntime) -> Result<(), Fail>
 #[test]
 fn what_is_found_is_accepted(rt: HostRuntime) -> Result<(), Fail> {
     let mut text = String::new(rt.alloc());
-    push_tables(&mut text, "")?;
+    push_small_tables(&mut text, "")?;
     let mut tables = MemSource::new(text.as_bytes(), 64, 0);
     let mut found = MemSink::new(rt.alloc(), 1000, 0)?;
-    assert_eq!(rt; run_find(rt.alloc(), &mut tables, &mut found), 0);
+    assert_eq!(rt; run_find(rt.alloc(), &mut tables, &mut found).code(), 0);
     let mut tables = MemSource::new(text.as_bytes(), 64, 0);
     let mut certificate = MemSource::new(found.bytes(), 64, 0);
     let mut sink = MemSink::new(rt.alloc(), 100, 0)?;
-    let status = run_check(rt.alloc(), &mut tables, &mut certificate, &mut sink);
+    let status = run_check(rt.alloc(), &mut tables, &mut certificate, &mut sink).code();
     assert_eq!(rt;
         sink.bytes(),
         b"accepted inputs 1 outputs 1 labels 1\n".as_slice()
@@ -97,7 +97,7 @@ fn breaks(
     let mut tables = MemSource::new(tables, 64, failing.pull);
     let mut sink = MemSink::new(alloc, failing.room, failing.push)?;
     sink.fail_flush(failing.flush);
-    let status = run_find(alloc, &mut tables, &mut sink);
+    let status = run_find(alloc, &mut tables, &mut sink).code();
     assert_eq!(rt; sink.bytes(), want);
     assert_eq!(rt; status, 3);
     Ok(())
@@ -106,7 +106,7 @@ fn breaks(
 #[test]
 fn devices_that_fail(rt: HostRuntime) -> Result<(), Fail> {
     let mut text = String::new(rt.alloc());
-    push_tables(&mut text, "")?;
+    push_small_tables(&mut text, "")?;
     let tables = text.as_bytes();
     // in pieces of 64, and once more at the end
     let pulls = (tables.len() as u64).div_ceil(64).saturating_add(1);

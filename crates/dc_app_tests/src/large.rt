@@ -1,7 +1,7 @@
 //! Tables of 64 buses: the largest by streams, and the small ones 64 times.
 
 use crate::asking::check_says;
-use crate::small::{push_filled, value};
+use dc_trials::{push_filled, value};
 use std::alloc::{AllocError, Global};
 use std::process::Abort;
 use std::rt::HostRuntime;

@@ -20,6 +20,6 @@ mod replays;
 #[cfg(test)]
 mod rows;
 #[cfg(test)]
-mod small;
+mod terminal;
 #[cfg(test)]
 mod verdicts;

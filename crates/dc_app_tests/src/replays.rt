@@ -1,8 +1,12 @@
 //! Replays on two buses, and replays where each pull, each push and each byte of room runs out in turn.
 
 use crate::asking::{Failing, replay_says};
-use crate::small::push_tables;
+use crate::terminal::{Person, Terminal};
+use dc_app::run_replay;
+use dc_device::{MemSink, MemSource, Source};
+use dc_trials::push_small_tables;
 use std::alloc::{AllocError, Global};
+use std::cell::Cell;
 use std::rt::HostRuntime;
 use std::test::Fail;
 
@@ -25,7 +29,7 @@ const EACH: &str =
 #[test]
 fn a_usable_second_source_is_sent(rt: HostRuntime) -> Result<(), Fail> {
     let mut tables = String::new(rt.alloc());
-    push_tables(
+    push_small_tables(
         &mut tables,
         "buses=2 visits=\"A\",\"B\" sources=\"A-203\",\"B-203\"",
     )?;
@@ -83,7 +87,7 @@ fn first(alloc: Global, count: usize) -> Result<String, AllocError> {
 #[test]
 fn each_pull_of_the_tables_fails_in_turn(rt: HostRuntime) -> Result<(), Fail> {
     let mut tables = String::new(rt.alloc());
-    push_tables(&mut tables, "")?;
+    push_small_tables(&mut tables, "")?;
     // in pieces of 64, and once more at the end
     let pulls = (tables.len() as u64).div_ceil(64).saturating_add(1);
     for pull in 1..=pulls.saturating_add(1) {
@@ -114,7 +118,7 @@ fn each_pull_of_the_tables_fails_in_turn(rt: HostRuntime) -> Result<(), Fail> {
 #[test]
 fn each_pull_of_the_trace_fails_in_turn(rt: HostRuntime) -> Result<(), Fail> {
     let mut tables = String::new(rt.alloc());
-    push_tables(&mut tables, "")?;
+    push_small_tables(&mut tables, "")?;
     for bytes in 0u32..=43 {
         let failing = Failing {
             trace: u64::from(bytes) + 1,
@@ -143,7 +147,7 @@ fn each_pull_of_the_trace_fails_in_turn(rt: HostRuntime) -> Result<(), Fail> {
 #[test]
 fn nothing_follows_a_failed_push(rt: HostRuntime) -> Result<(), Fail> {
     let mut tables = String::new(rt.alloc());
-    push_tables(&mut tables, "")?;
+    push_small_tables(&mut tables, "")?;
     for count in 0u32..=6 {
         let failing = Failing {
             push: u64::from(count) + 1,
@@ -172,7 +176,7 @@ fn nothing_follows_a_failed_push(rt: HostRuntime) -> Result<(), Fail> {
 #[test]
 fn nothing_follows_a_failed_push_of_the_failure(rt: HostRuntime) -> Result<(), Fail> {
     let mut tables = String::new(rt.alloc());
-    push_tables(&mut tables, "")?;
+    push_small_tables(&mut tables, "")?;
     for (pull, push, count) in [(1, 1, 0), (6, 2, 1), (18, 2, 1), (19, 3, 2), (43, 7, 6)] {
         let failing = Failing {
             trace: pull,
@@ -198,7 +202,7 @@ fn nothing_follows_a_failed_push_of_the_failure(rt: HostRuntime) -> Result<(), F
 #[test]
 fn a_full_sink_holds_the_front_of_the_replies(rt: HostRuntime) -> Result<(), Fail> {
     let mut tables = String::new(rt.alloc());
-    push_tables(&mut tables, "")?;
+    push_small_tables(&mut tables, "")?;
     let mut front: Vec<u8> = Vec::new(rt.alloc());
     for byte in REPLIES.as_bytes() {
         for piece in [1, 7, 4096] {
@@ -215,6 +219,39 @@ fn a_full_sink_holds_the_front_of_the_replies(rt: HostRuntime) -> Result<(), Fai
             )?;
         }
         front.push(*byte)?;
+    }
+    Ok(())
+}
+
+#[test]
+fn each_reply_is_seen_before_the_next_event_is_typed(rt: HostRuntime) -> Result<(), Fail> {
+    let mut tables = String::new(rt.alloc());
+    push_small_tables(&mut tables, "")?;
+    let seen = Cell::new(0);
+    let mut rows = MemSource::new(tables.as_bytes(), 4096, 0);
+    let mut person = Person::new(TRACE.as_bytes(), &seen);
+    let mut terminal = Terminal::new(&seen);
+    let status = run_replay(rt.alloc(), true, &mut rows, &mut person, &mut terminal).code();
+    assert_eq!(rt; status, 0);
+    assert_eq!(rt; seen.get(), 6);
+    assert_eq!(rt; person.pulls(), 7);
+    assert_eq!(rt; person.dry_pulls(), 1);
+    Ok(())
+}
+
+#[test]
+fn each_reply_was_seen_when_the_trace_was_last_asked(rt: HostRuntime) -> Result<(), Fail> {
+    let mut tables = String::new(rt.alloc());
+    push_small_tables(&mut tables, "")?;
+    let mut trace = String::from_str(rt.alloc(), TRACE)?;
+    trace.push_str("R R")?;
+    for piece in [1, 7, 64] {
+        let mut rows = MemSource::new(tables.as_bytes(), 4096, 0);
+        let mut source = MemSource::new(trace.as_bytes(), piece, 0);
+        let mut sink = MemSink::new(rt.alloc(), 1000, 0)?;
+        let status = run_replay(rt.alloc(), true, &mut rows, &mut source, &mut sink).code();
+        assert_eq!(rt; sink.answered(), REPLIES.as_bytes(), "in pieces of {piece}");
+        assert_eq!(rt; status, 2, "in pieces of {piece}");
     }
     Ok(())
 }

@@ -2,7 +2,7 @@
 //! push failing in turn.
 
 use crate::asking::{Case, replays, survives_flushes, survives_pulls, survives_pushes};
-use crate::small::push_tables;
+use dc_trials::push_small_tables;
 use std::alloc::{AllocError, Global};
 use std::process::Abort;
 use std::rt::HostRuntime;
@@ -83,7 +83,7 @@ fn replays_row(rt: &impl Abort, alloc: Global, row: &str, all: bool) -> Result<(
     let (each, rest) = rest.split_once('|').ok_or("no reported replies in a row")?;
     let (reported, status) = rest.split_once('|').ok_or("no status in a row")?;
     let mut tables = String::new(alloc);
-    push_tables(&mut tables, changes)?;
+    push_small_tables(&mut tables, changes)?;
     let mut trace = String::new(alloc);
     push_lines(&mut trace, lines)?;
     let mut want = String::new(alloc);

@@ -1,7 +1,6 @@
 //! Which text is read first, devices that fail while a certificate is judged, and the calls of the checker one by one.
 
 use crate::asking::check_says;
-use crate::small::{CERTIFICATE, push_filled, push_tables};
 use dc_app::{run_check, run_check_par};
 use dc_cert::{Certificate, read_cert};
 use dc_check::laws::no_fault_is_acceptance;
@@ -12,6 +11,7 @@ use dc_check::{
 use dc_device::{MemSink, MemSource};
 use dc_tables::Tables;
 use dc_toml::read_tables;
+use dc_trials::{push_small_certificate, push_small_tables};
 use std::alloc::Global;
 use std::process::Abort;
 use std::rt::HostRuntime;
@@ -25,7 +25,7 @@ const EMPTY: &str = "{\"version\":1,\"inputs\":[],\"outputs\":[],\"labels\":[]}"
 #[test]
 fn the_tables_are_read_first(rt: HostRuntime) -> Result<(), Fail> {
     let mut small = String::new(rt.alloc());
-    push_tables(&mut small, "")?;
+    push_small_tables(&mut small, "")?;
     for (tables, certificate, want) in [
         (small.as_str(), EMPTY, "refused C01 inputs"),
         (small.as_str(), "{\"inputs\":[", "unreadable K1 at top"),
@@ -57,7 +57,7 @@ fn workers_break<R: Threads + Wait + Sync + Abort>(
     let mut tables = MemSource::new(tables, 64, first);
     let mut certificate = MemSource::new(certificate, 64, second);
     let mut sink = MemSink::new(alloc, 100, push)?;
-    let status = run_check_par(rt, alloc, 2, &mut tables, &mut certificate, &mut sink);
+    let status = run_check_par(rt, alloc, 2, &mut tables, &mut certificate, &mut sink).code();
     assert_eq!(rt; sink.bytes(), want.as_bytes());
     assert_eq!(rt; status, 3);
     Ok(())
@@ -76,7 +76,7 @@ fn breaks(
     let mut tables = MemSource::new(tables, 64, first);
     let mut certificate = MemSource::new(certificate, 64, second);
     let mut sink = MemSink::new(alloc, 100, push)?;
-    let status = run_check(alloc, &mut tables, &mut certificate, &mut sink);
+    let status = run_check(alloc, &mut tables, &mut certificate, &mut sink).code();
     assert_eq!(rt; sink.bytes(), want.as_bytes());
     assert_eq!(rt; status, 3);
     Ok(())
@@ -85,9 +85,9 @@ fn breaks(
 #[test]
 fn devices_that_fail(rt: HostRuntime) -> Result<(), Fail> {
     let mut tables = String::new(rt.alloc());
-    push_tables(&mut tables, "")?;
+    push_small_tables(&mut tables, "")?;
     let mut certificate = String::new(rt.alloc());
-    push_filled(&mut certificate, CERTIFICATE, "", "", "")?;
+    push_small_certificate(&mut certificate, "")?;
     let texts = [tables.as_bytes(), certificate.as_bytes()];
     for (fails, want) in [
         ([1, 0, 0], "failed device\n"),
@@ -106,9 +106,9 @@ fn devices_that_fail(rt: HostRuntime) -> Result<(), Fail> {
 /// The tables and the certificate of a row.
 fn read(alloc: Global, row: &str) -> Result<(Tables, Certificate), Fail> {
     let mut tables = String::new(alloc);
-    push_tables(&mut tables, row)?;
+    push_small_tables(&mut tables, row)?;
     let mut certificate = String::new(alloc);
-    push_filled(&mut certificate, CERTIFICATE, row, "", "")?;
+    push_small_certificate(&mut certificate, row)?;
     Ok((
         read_tables(alloc, tables.as_bytes())?,
         read_cert(alloc, certificate.as_bytes())?,

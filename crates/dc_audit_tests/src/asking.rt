@@ -27,7 +27,7 @@ pub fn audits(rt: &impl Abort, alloc: Global, case: &Case) -> Result<(), Fail> {
         let mut tables = MemSource::new(case.tables, piece, 0);
         let mut certificate = MemSource::new(case.certificate, piece, 0);
         let mut trace = MemSource::new(case.trace, piece, 0);
-        let status = run_audit(alloc, &mut tables, &mut certificate, &mut trace, &mut sink);
+        let status = run_audit(alloc, &mut tables, &mut certificate, &mut trace, &mut sink).code();
         assert_eq!(rt; sink.shown(), case.want, "in pieces of {piece}");
         assert_eq!(rt; status, case.status, "in pieces of {piece}");
     }
@@ -48,7 +48,7 @@ pub fn pulls_of(
     let mut tables = MemSource::new(case.tables, piece, 0);
     let mut certificate = MemSource::new(case.certificate, piece, 0);
     let mut trace = MemSource::new(case.trace, piece, fails_at);
-    let status = run_audit(alloc, &mut tables, &mut certificate, &mut trace, &mut sink);
+    let status = run_audit(alloc, &mut tables, &mut certificate, &mut trace, &mut sink).code();
     assert_eq!(rt; sink.shown(), case.want);
     assert_eq!(rt; status, case.status);
     Ok(trace.pulls())
@@ -69,7 +69,7 @@ fn breaks_at(rt: &impl Abort, alloc: Global, case: &Case, pulls: [u64; 3]) -> Re
     let mut tables = MemSource::new(case.tables, 64, first);
     let mut certificate = MemSource::new(case.certificate, 64, second);
     let mut trace = MemSource::new(case.trace, 7, third);
-    let status = run_audit(alloc, &mut tables, &mut certificate, &mut trace, &mut sink);
+    let status = run_audit(alloc, &mut tables, &mut certificate, &mut trace, &mut sink).code();
     let broken = tables.failures() > 0 || certificate.failures() > 0 || trace.failures() > 0;
     if broken {
         assert_eq!(rt; sink.shown(), b"failed device\n".as_slice());
@@ -116,7 +116,7 @@ pub fn survives_pushes(rt: &impl Abort, alloc: Global, case: &Case) -> Result<()
         let mut tables = MemSource::new(case.tables, 4096, 0);
         let mut certificate = MemSource::new(case.certificate, 4096, 0);
         let mut trace = MemSource::new(case.trace, 4096, 0);
-        let status = run_audit(alloc, &mut tables, &mut certificate, &mut trace, &mut sink);
+        let status = run_audit(alloc, &mut tables, &mut certificate, &mut trace, &mut sink).code();
         if sink.failures() == 0 {
             assert_eq!(rt; sink.shown(), case.want, "at push {push}");
             assert_eq!(rt; status, case.status, "at push {push}");
@@ -136,7 +136,7 @@ pub fn survives_flushes(rt: &impl Abort, alloc: Global, case: &Case) -> Result<(
         let mut tables = MemSource::new(case.tables, 4096, 0);
         let mut certificate = MemSource::new(case.certificate, 4096, 0);
         let mut trace = MemSource::new(case.trace, 4096, 0);
-        let status = run_audit(alloc, &mut tables, &mut certificate, &mut trace, &mut sink);
+        let status = run_audit(alloc, &mut tables, &mut certificate, &mut trace, &mut sink).code();
         if sink.failures() == 0 {
             assert_eq!(rt; sink.shown(), case.want, "at flush {flush}");
             assert_eq!(rt; status, case.status, "at flush {flush}");
@@ -156,7 +156,7 @@ pub fn fills_its_sink(rt: &impl Abort, alloc: Global, case: &Case) -> Result<(),
         let mut tables = MemSource::new(case.tables, 4096, 0);
         let mut certificate = MemSource::new(case.certificate, 4096, 0);
         let mut trace = MemSource::new(case.trace, 4096, 0);
-        let status = run_audit(alloc, &mut tables, &mut certificate, &mut trace, &mut sink);
+        let status = run_audit(alloc, &mut tables, &mut certificate, &mut trace, &mut sink).code();
         assert_eq!(rt;
             sink.bytes(),
             case.want.get(..room).unwrap_or(&[]),

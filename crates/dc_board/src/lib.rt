@@ -1,10 +1,12 @@
 //! A board of high-water marks, which threads note and read without waiting.
 #![tactic(auto)]
 
+mod limits;
 mod marks;
 #[cfg(test)]
 mod tests;
 mod view;
 
-pub use marks::{Board, BoardSeat, MOST_WORDS};
+pub use limits::MOST_WORDS;
+pub use marks::{Board, BoardSeat};
 pub use view::View;

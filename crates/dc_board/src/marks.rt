@@ -4,14 +4,13 @@ ghost use Rattle.std.specs.Prelude.{◌≡◌, ℕ, List, ◌+◌, ◌<◌, ◌�
 ghost use Rattle.atomic_table.specs.Seated.{TableId};
 ghost use Rattle.dc_board.specs.declared.view.View.{View};
 ghost use Rattle.dc_board.specs.Marks.{IsBoard, fresh, Notes, Reads, raised, stepped_once, IsSeatOf};
+ghost use Rattle.dc_board.specs.declared.limits.TheConstants.{MOST_WORDS};
 
+use crate::limits::MOST_WORDS;
 use crate::view::View;
 use atomic_table::{Play, Seat, Split, Table, TableRule};
 use std::alloc::{AllocError, Global};
 use std::marker::Model;
-
-/// The most words of a board.
-pub const MOST_WORDS: usize = 64;
 
 /// The rule of a board. Its key are the caps.
 struct Law;
@@ -75,7 +74,7 @@ impl Board {
     /// # Errors
     /// Out of memory.
     pub fn new(alloc: Global, caps: Vec<u64>) -> Result<(Board, BoardSeat), AllocError>
-        requires { length caps.items ≤ 64 }
+        requires { length caps.items ≤ MOST_WORDS }
         ensures board { IfOk result (λ r. r.0.1 ≡ caps.items) }
         ensures seat { IfOk result (λ r. IsSeatOf r.0 r.1 × (r.1.1 ≡ fresh caps.items)) }
     {

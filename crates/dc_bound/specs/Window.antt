@@ -1,5 +1,6 @@
 -- Windows of consecutive ticks.
 use Rattle.std.specs.Prelude.{◌≡◌, ℕ, ◌+◌, ◌-◌, ◌*◌, ◌/◌, ◌<◌, ◌≤◌, min, max, Option, Some, None, MatchOption, ◌&&◌, nat_le, nat_lt, cond, zero, suc, List, [], ◌∷◌}
+use Rattle.dc_bound.specs.declared.limits.TheConstants.{LONGEST_SPAN}
 
 -- 1 if tick t is one of the d consecutive ticks from u on, else 0
 abbrev pub within : ℕ → ℕ → ℕ → ℕ
@@ -27,11 +28,15 @@ FlatTo f d e = (k : ℕ) → d ≤ k → k ≤ e → f k ≡ f d
 
 -- j is the first after d at which f is more than at d
 abbrev pub JumpsAt : (ℕ → ℕ) → ℕ → ℕ → Type 0
-JumpsAt f d j = (d < j) × (j ≤ 1000000) × FlatTo f d (j - 1) × (f d < f j)
+JumpsAt f d j = (d < j) × (j ≤ LONGEST_SPAN) × FlatTo f d (j - 1) × (f d < f j)
 
--- the first jump of f after d, up to 1,000,000, or None where f stays
+-- the first jump of f after d, up to the longest span, or None where f stays
 abbrev pub IsNextJump : (ℕ → ℕ) → ℕ → Option ℕ → Type 0
-IsNextJump f d jump = MatchOption jump (FlatTo f d 1000000) (λ j. JumpsAt f d j)
+IsNextJump f d jump = MatchOption jump (FlatTo f d LONGEST_SPAN) (λ j. JumpsAt f d j)
+
+-- a jump that is kept as a number: past the longest span where there is none
+abbrev pub IsKept : ℕ → Option ℕ → Type 0
+IsKept n jump = MatchOption jump (LONGEST_SPAN < n) (λ j. (j ≡ n) × (j ≤ LONGEST_SPAN))
 
 -- the earlier of two jumps
 abbrev pub earlier_jump : Option ℕ → Option ℕ → Option ℕ

@@ -1,6 +1,6 @@
 //! Bounds on what may arrive in so many consecutive ticks.
 
-ghost use Rattle.std.specs.Prelude.{◌≡◌, ℕ, ◌+◌, ◌-◌, ◌*◌, ◌/◌, ◌^◌, ◌<◌, ◌≤◌, ◌↔◌, ◌++◌, List, length, min, refl, MatchOption};
+ghost use Rattle.std.specs.Prelude.{◌≡◌, ℕ, ◌+◌, ◌-◌, ◌*◌, ◌/◌, ◌^◌, ◌<◌, ◌≤◌, ◌↔◌, ◌++◌, List, Option, length, min, refl, IfSome};
 ghost use Rattle.std.specs.List.{sum_by};
 ghost use Rattle.dc_bound.specs.Window.{count_in, ticks_of, IsNextJump, HoldAtMost, HoldsWire, Spaced, wire_cap};
 ghost use Rattle.dc_bound.specs.Turns.{NeverFall};
@@ -8,10 +8,13 @@ ghost use Rattle.dc_bound.specs.Tags.{SumAllows};
 ghost use Rattle.dc_bound.specs.lemmas.Sums.{SumAllows-count, SumAllows-prefix, sum_zero, sum_monotone, sum_bounded};
 ghost use Rattle.dc_bound.specs.lemmas.Counts.{ceil_zero, ceil_mono, ceil_bounded, both_zero, both_mono, both_bounded, both_holds, wire_mono, wire_bounded, wire_holds, wire_prefix};
 ghost use Rattle.dc_bound.specs.lemmas.Budget.{one_each_holds, one_each_prefix};
-ghost use Rattle.dc_bound.specs.Window.{earlier_jump, later_jump};
+ghost use Rattle.dc_bound.specs.Window.{IsKept, earlier_jump, later_jump};
+ghost use Rattle.dc_bound.specs.declared.limits.TheConstants.{GREATEST_CAP, LONGEST_SPAN, LONGEST_TICK};
 
-// The greatest number of ticks of a window.
-const LONGEST_SPAN: u64 = 1_000_000;
+use crate::limits::LONGEST_SPAN;
+
+// A number of ticks that stands for no jump.
+const NO_JUMP: u32 = LONGEST_SPAN + 1;
 
 /// What may come at most in any so many consecutive ticks.
 pub trait ArrivalBound {
@@ -21,21 +24,21 @@ pub trait ArrivalBound {
     // the lists of (tick, tag) that keep the bound
     ghost allows: { Self → List (ℕ × ℕ) → Type 0 };
 
-    /// The most entries in any `d` consecutive ticks; `d` is at most 1,000,000.
+    /// The most entries in any `d` consecutive ticks; `d` is at most [`LONGEST_SPAN`].
     fn at_most(&self, d: u32) -> u64
-        requires { d ≤ 1000000 }
+        requires { d ≤ LONGEST_SPAN }
         ensures { result ≡ cap self.now d };
 
     /// Both at once: what `at_most` says of `d`, and what `next_jump` says of it.
     fn at_most_and_jump(&self, d: u32) -> (u64, Option<u32>)
-        requires { d ≤ 1000000 }
+        requires { d ≤ LONGEST_SPAN }
         ensures most { result.0 ≡ cap self.now d }
         ensures jump { IsNextJump (cap self.now) d result.1 };
 
-    /// The least number of ticks above `d`, up to 1,000,000, in which more may come than in `d`; `None` where there is
-    /// none. `d` is at most 1,000,000.
+    /// The least number of ticks above `d`, up to [`LONGEST_SPAN`], in which more may come than in `d`; `None` where there is
+    /// none. `d` is at most [`LONGEST_SPAN`].
     fn next_jump(&self, d: u32) -> Option<u32>
-        requires { d ≤ 1000000 }
+        requires { d ≤ LONGEST_SPAN }
         ensures { IsNextJump (cap self.now) d result }
     {
         let (_, jump) = self.at_most_and_jump(d);
@@ -48,7 +51,7 @@ pub trait ArrivalBound {
     // no less comes in more ticks
     ghost cap_monotone: { (x : Self) (d e : ℕ) → d ≤ e → cap x d ≤ cap x e };
 
-    ghost cap_bounded: { (x : Self) (d : ℕ) → d ≤ 1000000 → cap x d ≤ 2 ^ 40 };
+    ghost cap_bounded: { (x : Self) (d : ℕ) → d ≤ LONGEST_SPAN → cap x d ≤ GREATEST_CAP };
 
     // an allowed list has at most the cap in any d consecutive ticks
     ghost cap_holds: { (x : Self) (xs : List (ℕ × ℕ)) (u d : ℕ) → allows x xs → count_in u d (ticks_of xs) ≤ cap x d };
@@ -108,21 +111,21 @@ impl ArrivalBound for Sporadic {
 /// and one more.
 #[derive(Clone, Copy, Debug)]
 pub struct Wire {
-    /// The length of a tick in microseconds, 1 to 10,000.
+    /// The length of a tick in microseconds, 1 to [`LONGEST_TICK`].
     pub tick: u32,
     /// The time from a word to the next in microseconds, at least 1.
     pub spacing: u32,
     ghost some_tick: { 1 ≤ tick },
-    ghost short_tick: { tick ≤ 10000 },
+    ghost short_tick: { tick ≤ LONGEST_TICK },
     ghost some_spacing: { 1 ≤ spacing },
 }
 
 impl Wire {
     /// The bound of a wire whose words lie `spacing` microseconds apart, 1 or more, in ticks of `tick` microseconds, 1 to
-    /// 10,000.
+    /// [`LONGEST_TICK`].
     pub fn new(tick: u32, spacing: u32) -> Wire
         requires some_tick { 1 ≤ tick }
-        requires short_tick { tick ≤ 10000 }
+        requires short_tick { tick ≤ LONGEST_TICK }
         requires some_spacing { 1 ≤ spacing }
         ensures cap { (d : ℕ) → ⟦<Wire as ArrivalBound>⟧.cap result d ≡ wire_cap tick spacing d }
         ensures allows { (xs : List (ℕ × ℕ)) → ⟦<Wire as ArrivalBound>⟧.allows result xs ↔ HoldsWire tick spacing (ticks_of xs) }
@@ -171,14 +174,14 @@ impl ArrivalBound for Wire {
 pub struct SumOf<'a, B: ArrivalBound> {
     first: usize,
     members: &'a [B],
-    ghost small: { sum_by (λ (b : B). B.cap b 1000000) members.now ≤ 2 ^ 40 },
+    ghost small: { sum_by (λ (b : B). B.cap b LONGEST_SPAN) members.now ≤ GREATEST_CAP },
 }
 
 impl<'a, B: ArrivalBound> SumOf<'a, B> {
-    /// The sum of `members`, the first of which has the tag `first`. Their caps at 1,000,000 ticks sum up to at most
-    /// 2^40.
+    /// The sum of `members`, the first of which has the tag `first`. Their caps at [`LONGEST_SPAN`] ticks sum up to at
+    /// most [`GREATEST_CAP`].
     pub fn new(first: usize, members: &'a [B]) -> SumOf<'a, B>
-        requires { sum_by (λ (b : B). B.cap b 1000000) members.now ≤ 2 ^ 40 }
+        requires { sum_by (λ (b : B). B.cap b LONGEST_SPAN) members.now ≤ GREATEST_CAP }
         ensures cap { (d : ℕ) → ⟦<SumOf<'a, B> as ArrivalBound>⟧.cap result d ≡ sum_by (λ (b : B). B.cap b d) members.now }
         ensures allows { (xs : List (ℕ × ℕ)) → ⟦<SumOf<'a, B> as ArrivalBound>⟧.allows result xs ↔ SumAllows (λ (b : B) ys. B.allows b ys) first members.now xs }
     {
@@ -201,13 +204,13 @@ impl<'a, B: ArrivalBound> ArrivalBound for SumOf<'a, B> {
 
     fn at_most_and_jump(&self, d: u32) -> (u64, Option<u32>) {
         let mut total: u64 = 0;
-        let mut jump = None;
+        let mut jump = NO_JUMP;
         for member in self.members {
             let (most, next) = member.at_most_and_jump(d);
             total += most;
             jump = earlier(jump, next);
         }
-        (total, jump)
+        (total, jump_at(jump as u64))
     }
 
     ghost cap_zero = { λ x. sum_zero (λ (b : B). B.cap b 0) (λ b. B.cap_zero b) x.members.now };
@@ -272,24 +275,21 @@ impl<A: ArrivalBound, B: ArrivalBound> ArrivalBound for Both<A, B> {
 
 // A jump that is known by its tick count, if it is not past the longest window.
 pub(crate) fn jump_at(ticks: u64) -> Option<u32>
-    ensures { MatchOption result (1000000 < ticks) (λ j. (j ≡ ticks) × (j ≤ 1000000)) }
+    ensures { IsKept ticks result }
 {
-    if ticks <= LONGEST_SPAN {
+    if ticks <= LONGEST_SPAN as u64 {
         Some(ticks as u32)
     } else {
         None
     }
 }
 
-// The earlier of two jumps.
-fn earlier(one: Option<u32>, other: Option<u32>) -> Option<u32>
-    ensures { result ≡ earlier_jump one other }
+// The earlier of a jump that is kept as a number and another.
+fn earlier(kept: u32, other: Option<u32>) -> u32
+    requires { IfSome other (λ j. j ≤ LONGEST_SPAN) }
+    ensures { (jump : Option ℕ) → IsKept kept jump → IsKept result (earlier_jump jump other) }
 {
-    match (one, other) {
-        (None, jump) => jump,
-        (jump, None) => jump,
-        (Some(i), Some(j)) => Some(i.min(j)),
-    }
+    kept.min(other.unwrap_or(NO_JUMP))
 }
 
 // The later of two jumps, where there are two.

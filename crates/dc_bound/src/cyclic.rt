@@ -6,8 +6,10 @@ ghost use Rattle.dc_bound.specs.Frame.{due, IsDue, Offsets};
 ghost use Rattle.dc_bound.specs.Frame.{cyclic_cap};
 ghost use Rattle.dc_bound.specs.lemmas.Spans.{cyclic_zero, cap_grows, cyclic_bounded, cyclic_holds, due_prefix};
 ghost use Rattle.dc_bound.specs.Frame.{IsLeastSpan};
+ghost use Rattle.dc_bound.specs.declared.limits.TheConstants.{LONGEST_FRAME, LONGEST_SPAN, MOST_OFFSETS};
 
 use crate::arrival::ArrivalBound;
+use crate::limits::LONGEST_SPAN;
 
 /// Entries that are due at offsets in a frame that comes again and again.
 #[derive(Drop)]
@@ -15,17 +17,17 @@ pub struct Cyclic<'a> {
     frame: u32,
     offsets: &'a [u32],
     ghost framed: { Offsets frame offsets.now },
-    ghost short: { frame ≤ 100000 },
-    ghost few: { length offsets.now ≤ 1024 },
+    ghost short: { frame ≤ LONGEST_FRAME },
+    ghost few: { length offsets.now ≤ MOST_OFFSETS },
 }
 
 impl<'a> Cyclic<'a> {
-    /// The bound of entries that are due in each frame of `frame` ticks, at most 100,000, at `offsets` from its start: 1 to
-    /// 1,024 of them, ascending and below the frame.
+    /// The bound of entries that are due in each frame of `frame` ticks, at most [`LONGEST_FRAME`](crate::LONGEST_FRAME),
+    /// at `offsets` from its start: 1 to [`MOST_OFFSETS`](crate::MOST_OFFSETS) of them, ascending and below the frame.
     pub fn new(frame: u32, offsets: &'a [u32]) -> Cyclic<'a>
         requires framed { Offsets frame offsets.now }
-        requires short { frame ≤ 100000 }
-        requires few { length offsets.now ≤ 1024 }
+        requires short { frame ≤ LONGEST_FRAME }
+        requires few { length offsets.now ≤ MOST_OFFSETS }
         ensures cap { (d : ℕ) → ⟦<Cyclic<'a> as ArrivalBound>⟧.cap result d ≡ cyclic_cap frame offsets.now d }
         ensures allows { (xs : List (ℕ × ℕ)) → ⟦<Cyclic<'a> as ArrivalBound>⟧.allows result xs ↔ IsDue frame offsets.now xs }
     {
@@ -47,7 +49,7 @@ impl<'a> ArrivalBound for Cyclic<'a> {
     fn at_most_and_jump(&self, d: u32) -> (u64, Option<u32>) {
         let count = self.at_most(d);
         let span = least_span(self.frame, self.offsets, count as usize);
-        if span < 1000000 {
+        if span < LONGEST_SPAN as u64 {
             (count, Some(span as u32 + 1))
         } else {
             (count, None)
@@ -82,7 +84,7 @@ fn due_of(frame: u32, offsets: &[u32], n: usize) -> u64
 fn most_in_part(frame: u32, offsets: &[u32], ticks: u32) -> u64
     requires framed { Offsets frame offsets.now }
     requires short { ticks ≤ frame }
-    requires few { length offsets.now ≤ 1024 }
+    requires few { length offsets.now ≤ MOST_OFFSETS }
     ensures { result ≡ cyclic_cap frame offsets.now ticks }
 {
     let mut best: usize = 0;
@@ -97,8 +99,8 @@ fn most_in_part(frame: u32, offsets: &[u32], ticks: u32) -> u64
 // The least span of k + 1 neighbouring entries: whole frames, and the part of the last.
 fn least_span(frame: u32, offsets: &[u32], k: usize) -> u64
     requires framed { Offsets frame offsets.now }
-    requires few { length offsets.now ≤ 1024 }
-    requires near { k ≤ 1000000 }
+    requires few { length offsets.now ≤ MOST_OFFSETS }
+    requires near { k ≤ LONGEST_SPAN }
     ensures { IsLeastSpan frame offsets.now k (length offsets.now) result }
 {
     let len = offsets.len();
@@ -110,7 +112,7 @@ fn least_span(frame: u32, offsets: &[u32], k: usize) -> u64
 // The least span of k + 1 neighbouring entries, at most a frame's.
 fn least_span_in_part(frame: u32, offsets: &[u32], k: usize) -> u64
     requires framed { Offsets frame offsets.now }
-    requires few { length offsets.now ≤ 1024 }
+    requires few { length offsets.now ≤ MOST_OFFSETS }
     requires part { k < length offsets.now }
     ensures span { IsLeastSpan frame offsets.now k (length offsets.now) result }
     ensures small { result ≤ 2 * frame }

@@ -6,12 +6,17 @@ mod alike;
 mod arrival;
 mod cyclic;
 mod jitter;
+mod limits;
 mod service;
 
 pub use alike::Alike;
 pub use arrival::{ArrivalBound, Both, Sporadic, SumOf, Wire};
 pub use cyclic::Cyclic;
 pub use jitter::{Capped, Jittered};
+pub use limits::{
+    GREATEST_CAP, GREATEST_JITTER, LONGEST_FRAME, LONGEST_SPAN, LONGEST_TICK, MOST_OFFSETS,
+    MOST_PLACES, MOST_SOURCES,
+};
 pub use service::{Paced, ServiceBound, Visits};
 
 #[cfg(test)]

@@ -7,6 +7,7 @@ ghost use Rattle.dc_bound.specs.Rounds.{among, is_at, fewest_visits};
 ghost use Rattle.dc_bound.specs.lemmas.Cycle.{fewest_visits_zero, fewest_visits_mono};
 ghost use Rattle.dc_bound.specs.Turns.{VisitsInTurn};
 ghost use Rattle.dc_bound.specs.lemmas.Visited.{in_turn_holds};
+ghost use Rattle.dc_bound.specs.declared.limits.TheConstants.{LONGEST_SPAN, MOST_PLACES};
 
 /// What so many consecutive whole ticks serve at least.
 pub trait ServiceBound {
@@ -16,9 +17,10 @@ pub trait ServiceBound {
     // the lists of ticks of steps, of which so many ticks are whole, that meet the floor
     ghost serves: { Self → (whole : ℕ) → List ℕ → Type 0 };
 
-    /// The fewest steps in any `d` consecutive whole ticks; `d` is at most 1,000,000.
+    /// The fewest steps in any `d` consecutive whole ticks; `d` is at most
+    /// [`LONGEST_SPAN`](crate::LONGEST_SPAN).
     fn at_least(&self, d: u32) -> u64
-        requires { d ≤ 1000000 }
+        requires { d ≤ LONGEST_SPAN }
         ensures { result ≡ floor self.now d };
 
     // no ticks serve nothing
@@ -77,15 +79,15 @@ pub struct Visits<'a> {
     visits: &'a [usize],
     bus: usize,
     ghost some: { 1 ≤ length visits.now },
-    ghost few: { length visits.now ≤ 256 },
+    ghost few: { length visits.now ≤ MOST_PLACES },
 }
 
 impl<'a> Visits<'a> {
-    /// The floor of the visits of `bus` where steps at the pace `pace` visit the buses of `visits`, 1 to 256 places,
-    /// in turn from any place of it.
+    /// The floor of the visits of `bus` where steps at the pace `pace` visit the buses of `visits`, 1 to
+    /// [`MOST_PLACES`](crate::MOST_PLACES) places, in turn from any place of it.
     pub fn new(pace: Paced, visits: &'a [usize], bus: usize) -> Visits<'a>
         requires some { 1 ≤ length visits.now }
-        requires few { length visits.now ≤ 256 }
+        requires few { length visits.now ≤ MOST_PLACES }
         ensures floor { (d : ℕ) → ⟦<Visits<'a> as ServiceBound>⟧.floor result d ≡ fewest_visits visits.now bus (pace.steps * (d / pace.within)) }
         ensures serves { (whole : ℕ) (ts : List ℕ) → ⟦<Visits<'a> as ServiceBound>⟧.serves result whole ts ↔ VisitsInTurn visits.now bus pace.steps pace.within whole ts }
     {
@@ -133,7 +135,7 @@ fn visit(visits: &[usize], bus: usize, n: usize) -> u64
 // How many of the first k steps visit the bus.
 #[tactic(auto, unfolding(crate::specs::Rounds::among))]
 fn visits_in_front(visits: &[usize], bus: usize, k: usize) -> u64
-    requires few { length visits.now ≤ 256 }
+    requires few { length visits.now ≤ MOST_PLACES }
     requires round { k ≤ length visits.now }
     ensures value { result ≡ among (λ i. is_at visits.now bus i) (length visits.now) 0 k }
     ensures small { result ≤ k }
@@ -148,7 +150,7 @@ fn visits_in_front(visits: &[usize], bus: usize, k: usize) -> u64
 // The fewest visits of the bus among so many steps: whole rounds, and the part of the last.
 fn fewest(visits: &[usize], bus: usize, steps: u64) -> u64
     requires some { 1 ≤ length visits.now }
-    requires few { length visits.now ≤ 256 }
+    requires few { length visits.now ≤ MOST_PLACES }
     requires steps { steps < 2 ^ 52 }
     ensures { result ≡ fewest_visits visits.now bus steps }
 {
@@ -163,10 +165,10 @@ fn fewest(visits: &[usize], bus: usize, steps: u64) -> u64
 // The fewest visits of the bus among less steps than the list has: a window of so many steps slides along it.
 fn fewest_in_part(visits: &[usize], bus: usize, rest: usize) -> u64
     requires some { 1 ≤ length visits.now }
-    requires few { length visits.now ≤ 256 }
+    requires few { length visits.now ≤ MOST_PLACES }
     requires rest { rest < length visits.now }
     ensures value { result ≡ fewest_visits visits.now bus rest }
-    ensures small { result ≤ 256 }
+    ensures small { result ≤ MOST_PLACES }
 {
     let mut here = visits_in_front(visits, bus, rest);
     let mut least = here;

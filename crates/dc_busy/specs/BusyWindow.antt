@@ -1,11 +1,12 @@
 -- The window tests and the busy-window law, over the moves of a queue.
 use Rattle.std.specs.Prelude.{◌≡◌, ℕ, ◌+◌, ◌-◌, ◌<◌, ◌≤◌, List, ◌++◌, length, Option, MatchOption}
 use Rattle.dc_bound.specs.Window.{count_in}
+use Rattle.dc_bound.specs.declared.limits.TheConstants.{LONGEST_SPAN}
 use Rattle.dc_bound.specs.Moves.{Move, ticks_in, visit_ticks, entries, ins, passed, arrived_tick}
 
 -- each d whole ticks hold at least s d visits
 abbrev pub Serves : (ℕ → ℕ) → List Move → Type 0
-Serves s ms = (u d : ℕ) → d ≤ 1000000 → u + d ≤ ticks_in ms → s d ≤ count_in u d (visit_ticks ms)
+Serves s ms = (u d : ℕ) → d ≤ LONGEST_SPAN → u + d ≤ ticks_in ms → s d ≤ count_in u d (visit_ticks ms)
 
 -- the window closes: as many visits in its ticks but the first as entries in all of them
 abbrev pub Closes : (a s : ℕ → ℕ) → ℕ → Type 0

@@ -2,12 +2,14 @@
 
 ghost use Rattle.std.specs.Prelude.{◌≡◌, ◌<◌, ◌≤◌, Some, MatchOption};
 ghost use Rattle.dc_busy.specs.BusyWindow.{BacklogAt, DelayAt, IsFirstBetween};
+ghost use Rattle.dc_busy.specs.declared.limits.TheConstants.{LONGEST_WINDOW};
 
 use dc_bound::{ArrivalBound, ServiceBound};
 
-/// The first of the numbers of ticks from `first`, at least 1, to `last`, at most 100,000, in which more than `backlog`
-/// may come above the visits in the whole ticks inside them, and the first in which more may come than is visited in as
-/// many ticks less one and `delay` more, at most 100,000. `None` where there is none.
+/// The first of the numbers of ticks from `first`, at least 1, to `last`, at most
+/// [`LONGEST_WINDOW`](crate::LONGEST_WINDOW), in which more than `backlog` may come above the visits in the whole ticks
+/// inside them, and the first in which more may come than is visited in as many ticks less one and `delay` more, at most
+/// as many as the longest window. `None` where there is none.
 pub fn failures_between<A: ArrivalBound, S: ServiceBound>(
     arrivals: &A,
     service: &S,
@@ -17,8 +19,8 @@ pub fn failures_between<A: ArrivalBound, S: ServiceBound>(
     delay: u32,
 ) -> (Option<u32>, Option<u32>)
     requires least { 1 ≤ first }
-    requires most { last ≤ 100000 }
-    requires short { delay ≤ 100000 }
+    requires most { last ≤ LONGEST_WINDOW }
+    requires short { delay ≤ LONGEST_WINDOW }
     ensures backlog { IsFirstBetween (BacklogAt (A.cap arrivals.now) (S.floor service.now) backlog) first last result.0 }
     ensures delay { IsFirstBetween (DelayAt (A.cap arrivals.now) (S.floor service.now) delay) first last result.1 }
 {

@@ -3,17 +3,19 @@
 
 ghost use Rattle.std.specs.Prelude.{◌≡◌, ℕ, ◌<◌, ◌≤◌, Some, MatchOption};
 ghost use Rattle.dc_busy.specs.BusyWindow.{Closes, BacklogBounded, DelayBounded};
-ghost use Rattle.dc_busy.specs.Least.{IsLeast, IsLeastUpTo100000, ClosesWithin};
+ghost use Rattle.dc_busy.specs.Least.{IsLeast, IsLeastUpToLongest, ClosesWithin};
+ghost use Rattle.dc_bound.specs.declared.limits.TheConstants.{LONGEST_SPAN};
+ghost use Rattle.dc_busy.specs.declared.limits.TheConstants.{LONGEST_WINDOW};
 
 use crate::LONGEST_WINDOW;
 use dc_bound::{ArrivalBound, ServiceBound};
 
-/// The greatest number by which what may come in some number of ticks up to `window`, 1 to 100,000, is above the visits
+/// The greatest number by which what may come in some number of ticks up to `window`, 1 to [`LONGEST_WINDOW`], is above the visits
 /// in the whole ticks inside them, two less; 0 where it is never above. It is the least backlog of which
 /// [`crate::backlog_fails`] finds nothing.
 pub fn most_backlog<A: ArrivalBound, S: ServiceBound>(arrivals: &A, service: &S, window: u32) -> u64
     requires least { 1 ≤ window }
-    requires most { window ≤ 100000 }
+    requires most { window ≤ LONGEST_WINDOW }
     ensures { IsLeast (BacklogBounded (A.cap arrivals.now) (S.floor service.now) window) result }
 {
     let mut greatest = 0;
@@ -30,7 +32,7 @@ pub fn most_backlog<A: ArrivalBound, S: ServiceBound>(arrivals: &A, service: &S,
     greatest
 }
 
-/// The least delay up to 100,000 of which [`crate::delay_fails`] finds nothing in `window`, 1 to 100,000 ticks; `None`
+/// The least delay up to [`LONGEST_WINDOW`] of which [`crate::delay_fails`] finds nothing in `window`, 1 to as many ticks; `None`
 /// where there is none.
 pub fn least_delay<A: ArrivalBound, S: ServiceBound>(
     arrivals: &A,
@@ -38,8 +40,8 @@ pub fn least_delay<A: ArrivalBound, S: ServiceBound>(
     window: u32,
 ) -> Option<u32>
     requires least { 1 ≤ window }
-    requires most { window ≤ 100000 }
-    ensures exact { IsLeastUpTo100000 (DelayBounded (A.cap arrivals.now) (S.floor service.now) window) result }
+    requires most { window ≤ LONGEST_WINDOW }
+    ensures exact { IsLeastUpToLongest (DelayBounded (A.cap arrivals.now) (S.floor service.now) window) result }
 {
     let mut delay = 0;
     let mut ticks = 1;
@@ -58,9 +60,9 @@ pub fn least_delay<A: ArrivalBound, S: ServiceBound>(
     Some(delay)
 }
 
-/// The least window of 1 to 100,000 ticks that closes; `None` where there is none.
+/// The least window of 1 to [`LONGEST_WINDOW`] ticks that closes; `None` where there is none.
 pub fn least_window<A: ArrivalBound, S: ServiceBound>(arrivals: &A, service: &S) -> Option<u32>
-    ensures { IsLeastUpTo100000 (ClosesWithin (A.cap arrivals.now) (S.floor service.now)) result }
+    ensures { IsLeastUpToLongest (ClosesWithin (A.cap arrivals.now) (S.floor service.now)) result }
 {
     let mut ticks = 1;
     while ticks <= LONGEST_WINDOW {
@@ -77,7 +79,7 @@ pub fn least_window<A: ArrivalBound, S: ServiceBound>(arrivals: &A, service: &S)
 // The same as `least_ticks`, in one look where `from` ticks are enough.
 fn first_served<S: ServiceBound>(service: &S, count: u64, from: u32, to: u32) -> Option<u32>
     requires order { from ≤ to }
-    requires far { to ≤ 1000000 }
+    requires far { to ≤ LONGEST_SPAN }
     ensures { MatchOption result (S.floor service.now to < count) (λ d. (from ≤ d) × (d ≤ to) × (count ≤ S.floor service.now d) × ((e : ℕ) → from ≤ e → e < d → S.floor service.now e < count)) }
 {
     if service.at_least(from) >= count {
@@ -86,11 +88,11 @@ fn first_served<S: ServiceBound>(service: &S, count: u64, from: u32, to: u32) ->
     least_ticks(service, count, from, to)
 }
 
-// The least number of ticks from `from` to `to`, at most 1,000,000, that hold at least `count` visits; `None` where
+// The least number of ticks from `from` to `to`, at most the longest span, that hold at least `count` visits; `None` where
 // there is none.
 fn least_ticks<S: ServiceBound>(service: &S, count: u64, from: u32, to: u32) -> Option<u32>
     requires order { from ≤ to }
-    requires far { to ≤ 1000000 }
+    requires far { to ≤ LONGEST_SPAN }
     ensures { MatchOption result (S.floor service.now to < count) (λ d. (from ≤ d) × (d ≤ to) × (count ≤ S.floor service.now d) × ((e : ℕ) → from ≤ e → e < d → S.floor service.now e < count)) }
 {
     if service.at_least(to) < count {

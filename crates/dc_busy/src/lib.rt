@@ -8,28 +8,28 @@
 
 ghost use Rattle.std.specs.Prelude.{◌≤◌, ◌↔◌, MatchOption, IsTrue};
 ghost use Rattle.dc_busy.specs.BusyWindow.{Closes, BacklogAt, BacklogBounded, DelayAt, DelayBounded, IsLeastFailing, QueueBacklog, QueueDelay, QueueInTime};
+ghost use Rattle.dc_busy.specs.declared.limits.TheConstants.{LONGEST_WINDOW};
 
 mod between;
 mod least;
+mod limits;
 
 pub use between::failures_between;
 use dc_bound::{ArrivalBound, ServiceBound};
 pub use least::{least_delay, least_window, most_backlog};
-
-/// The longest window, and the longest delay, that a certificate may claim, in ticks.
-pub const LONGEST_WINDOW: u32 = 100_000;
+pub use limits::LONGEST_WINDOW;
 
 /// Whether a window closes: as many visits in its ticks but the first as may come in all of them. `window` is 1 to
-/// 100,000.
+/// [`LONGEST_WINDOW`].
 pub fn closes<A: ArrivalBound, S: ServiceBound>(arrivals: &A, service: &S, window: u32) -> bool
     requires least { 1 ≤ window }
-    requires most { window ≤ 100000 }
+    requires most { window ≤ LONGEST_WINDOW }
     ensures { IsTrue result ↔ Closes (A.cap arrivals.now) (S.floor service.now) window }
 {
     arrivals.at_most(window) <= service.at_least(window - 1)
 }
 
-/// The first number of ticks up to `window`, 1 to 100,000, in which more than `backlog` may come above the visits in
+/// The first number of ticks up to `window`, 1 to [`LONGEST_WINDOW`], in which more than `backlog` may come above the visits in
 /// the whole ticks inside them, two less; `None` where there is none.
 pub fn backlog_fails<A: ArrivalBound, S: ServiceBound>(
     arrivals: &A,
@@ -38,7 +38,7 @@ pub fn backlog_fails<A: ArrivalBound, S: ServiceBound>(
     backlog: u64,
 ) -> Option<u32>
     requires least { 1 ≤ window }
-    requires most { window ≤ 100000 }
+    requires most { window ≤ LONGEST_WINDOW }
     ensures { MatchOption result (BacklogBounded (A.cap arrivals.now) (S.floor service.now) window backlog) (λ w. IsLeastFailing (BacklogAt (A.cap arrivals.now) (S.floor service.now) backlog) window w) }
 {
     let mut ticks = 1;
@@ -55,8 +55,8 @@ pub fn backlog_fails<A: ArrivalBound, S: ServiceBound>(
     None
 }
 
-/// The first number of ticks up to `window`, 1 to 100,000, in which more may come than is visited in as many ticks less
-/// one and `delay` more, at most 100,000; `None` where there is none.
+/// The first number of ticks up to `window`, 1 to [`LONGEST_WINDOW`], in which more may come than is visited in as many ticks less
+/// one and `delay` more, at most [`LONGEST_WINDOW`]; `None` where there is none.
 pub fn delay_fails<A: ArrivalBound, S: ServiceBound>(
     arrivals: &A,
     service: &S,
@@ -64,8 +64,8 @@ pub fn delay_fails<A: ArrivalBound, S: ServiceBound>(
     delay: u32,
 ) -> Option<u32>
     requires least { 1 ≤ window }
-    requires most { window ≤ 100000 }
-    requires short { delay ≤ 100000 }
+    requires most { window ≤ LONGEST_WINDOW }
+    requires short { delay ≤ LONGEST_WINDOW }
     ensures { MatchOption result (DelayBounded (A.cap arrivals.now) (S.floor service.now) window delay) (λ w. IsLeastFailing (DelayAt (A.cap arrivals.now) (S.floor service.now) delay) window w) }
 {
     let mut ticks = 1;
@@ -82,7 +82,8 @@ pub fn delay_fails<A: ArrivalBound, S: ServiceBound>(
     None
 }
 
-/// What `backlog_fails` and `delay_fails` find, by one walk. `window` is 1 to 100,000, `delay` at most 100,000.
+/// What `backlog_fails` and `delay_fails` find, by one walk. `window` is 1 to [`LONGEST_WINDOW`],
+/// `delay` at most as many.
 pub fn first_failures<A: ArrivalBound, S: ServiceBound>(
     arrivals: &A,
     service: &S,
@@ -91,8 +92,8 @@ pub fn first_failures<A: ArrivalBound, S: ServiceBound>(
     delay: u32,
 ) -> (Option<u32>, Option<u32>)
     requires least { 1 ≤ window }
-    requires most { window ≤ 100000 }
-    requires short { delay ≤ 100000 }
+    requires most { window ≤ LONGEST_WINDOW }
+    requires short { delay ≤ LONGEST_WINDOW }
     ensures backlog { MatchOption result.0 (BacklogBounded (A.cap arrivals.now) (S.floor service.now) window backlog) (λ w. IsLeastFailing (BacklogAt (A.cap arrivals.now) (S.floor service.now) backlog) window w) }
     ensures delay { MatchOption result.1 (DelayBounded (A.cap arrivals.now) (S.floor service.now) window delay) (λ w. IsLeastFailing (DelayAt (A.cap arrivals.now) (S.floor service.now) delay) window w) }
 {
@@ -107,7 +108,7 @@ pub fn first_failures<A: ArrivalBound, S: ServiceBound>(
 /// - if `delay_fails` finds nothing, then what came in tick t or before has been taken by the end of tick t + `delay`,
 ///   where that tick is whole, and so has each item by its number.
 ///
-/// `window` is 1 to 100,000, `delay` at most 100,000. The call does nothing: its contract is the law.
+/// `window` is 1 to [`LONGEST_WINDOW`], `delay` at most as many. The call does nothing: its contract is the law.
 pub fn queue_law<A: ArrivalBound, S: ServiceBound>(
     arrivals: &A,
     service: &S,
@@ -116,8 +117,8 @@ pub fn queue_law<A: ArrivalBound, S: ServiceBound>(
     delay: u32,
 )
     requires least { 1 ≤ window }
-    requires most { window ≤ 100000 }
-    requires short { delay ≤ 100000 }
+    requires most { window ≤ LONGEST_WINDOW }
+    requires short { delay ≤ LONGEST_WINDOW }
     ensures backlog { QueueBacklog (A.cap arrivals.now) (A.allows arrivals.now) (S.floor service.now) window backlog }
     ensures delay { QueueDelay (A.cap arrivals.now) (A.allows arrivals.now) (S.floor service.now) window delay }
     ensures in_time { QueueInTime (A.cap arrivals.now) (A.allows arrivals.now) (S.floor service.now) window delay }

@@ -11,8 +11,6 @@ mod keys;
 mod print;
 mod read;
 mod row;
-#[cfg(test)]
-mod tests;
 
 pub use certificate::{Certificate, InputRow, LabelRow, OutputRow};
 pub use fault::{CertFault, CertRule, Fault, ShortText, TextPlace};

@@ -53,7 +53,7 @@ in_of-tags t b k w (Some s) h = All-cons (λ e. IsStreamOf t b e.1) (k, s) [] (h
 move_of-tags : (t : TableRows) (b k : ℕ) (past : List Event) (e : Event) → All (λ e. IsStreamOf t b e.1) (stamped move_ends tag_of k (move_of t b past e))
 unfolding stamped
 move_of-tags t b k past Tick = All-nil (λ e. IsStreamOf t b e.1)
-move_of-tags t b k past (Arrive a w) =
+move_of-tags t b k past (Arrive w a) =
     elim (eqb a b && is_odd w) as (λ v. All (λ e. IsStreamOf t b e.1) (stamped move_ends tag_of k (cond v (in_of (let_in t b past (stream_of t b w)) w) []))) [
       | true ↦ in_of-tags t b k w (let_in t b past (stream_of t b w)) (λ s h. stream_of-there t b w s (let_in-some t b past (stream_of t b w) s h))
       | false ↦ All-nil (λ e. IsStreamOf t b e.1)

@@ -20,7 +20,7 @@ use Rattle.dc_tables.specs.TableRows.{TableRows, AreValid, label_row, output_row
 pub emitted : (t : TableRows) (past : List Event) (e : Event) (x : ℕ) → AreValid t → IsNumbered t e → emission t past e ≡ Some x → x < length t.labels
 unfolding emission
 emitted t past Tick x valid there is = absurd cc
-emitted t past (Arrive b w) x valid there is = absurd cc
+emitted t past (Arrive w b) x valid there is = absurd cc
 emitted t past (Route r) x valid there is = absurd cc
 emitted t past (Send o) x valid there is =
     let some = valid.entries_some o there in

@@ -146,7 +146,7 @@ marked : (t : TableRows) → AreValid t → (x : ℕ) (past : List Event) (e : E
     × (tick_after (past ++ e ∷ []) ≡ tick_after past)
 unfolding emission Marked
 marked t v x past Tick g m = absurd (cc)
-marked t v x past (Arrive b w) g m = absurd (cc)
+marked t v x past (Arrive w b) g m = absurd (cc)
 marked t v x past (Route r) g m = absurd (cc)
 marked t v x past (Send q) g m =
     elim (either (nat_lt (sent t q past) (sent t q (past ++ Send q ∷ [])))) [
@@ -174,7 +174,7 @@ other_own t v x o h past n =
 other_of : (t : TableRows) → AreValid t → (x o : ℕ) → o < length t.outputs → (past : List Event) (e : Event) → IsNumbered t e → marks x (emission t past e) ≡ false → Other t o x past e
 unfolding Other
 other_of t v x o h past Tick g n = inl (other_still t v o h past Tick refl)
-other_of t v x o h past (Arrive b w) g n = inl (other_still t v o h past (Arrive b w) refl)
+other_of t v x o h past (Arrive w b) g n = inl (other_still t v o h past (Arrive w b) refl)
 other_of t v x o h past (Route r) g n = inl (other_still t v o h past (Route r) refl)
 other_of t v x o h past (Send q) g n =
     elim (either (q == o)) [
@@ -245,7 +245,7 @@ spaced_some t past (Some x) h = λ some. omega (arith, h x (eq_test x x refl) so
 emitted_there : (t : TableRows) → AreValid t → (x : ℕ) (past : List Event) (e : Event) → IsNumbered t e → marks x (emission t past e) ≡ true → x < length t.labels
 unfolding emission
 emitted_there t v x past Tick g m = absurd (cc)
-emitted_there t v x past (Arrive b w) g m = absurd (cc)
+emitted_there t v x past (Arrive w b) g m = absurd (cc)
 emitted_there t v x past (Route r) g m = absurd (cc)
 emitted_there t v x past (Send q) g m =
     elim (either (nat_lt (sent t q past) (sent t q (past ++ Send q ∷ [])))) [

@@ -28,12 +28,12 @@ not_overrun true true false false false n h e = cc
 not_overrun true false early before now n h e = cc
 not_overrun false known early before now n h e = cc
 
-pub arrive-no_overrun : (t : TableRows) (past : List Event) (b w : ℕ) → is_latched t b (past ++ Arrive b w ∷ []) ≡ false → NoOverrun t past (Arrive b w)
+pub arrive-no_overrun : (t : TableRows) (past : List Event) (b w : ℕ) → is_latched t b (past ++ Arrive w b ∷ []) ≡ false → NoOverrun t past (Arrive w b)
 unfolding reply
 arrive-no_overrun t past b w calm e =
-    not_overrun (is_odd w) (is_some (stream_of t b w)) (refuses t b past (stream_of t b w)) (is_latched t b past) (is_latched t b (past ++ Arrive b w ∷ [])) (length (bus_entered t b (past ++ Arrive b w ∷ [])) - bus_taken t b (past ++ Arrive b w ∷ [])) calm e
+    not_overrun (is_odd w) (is_some (stream_of t b w)) (refuses t b past (stream_of t b w)) (is_latched t b past) (is_latched t b (past ++ Arrive w b ∷ [])) (length (bus_entered t b (past ++ Arrive w b ∷ [])) - bus_taken t b (past ++ Arrive w b ∷ [])) calm e
 
-route-no_overrun : (risen : Bool) (b w : ℕ) → (if risen then Took b w else Empty b) ≡ Overrun → ⊥
+route-no_overrun : (risen : Bool) (b w : ℕ) → (if risen then Took w b else Empty b) ≡ Overrun → ⊥
 route-no_overrun true b w e = cc
 route-no_overrun false b w e = cc
 
@@ -55,9 +55,9 @@ unfolding reply
 no_overrun t c valid ok past rest Tick keeps = λ h. (let x : Now (tick_after past + 1) ≡ Overrun = h in cc)
 no_overrun t c valid ok past rest (Route r) keeps = λ h. route-no_overrun _ _ _ h
 no_overrun t c valid ok past rest (Send o) keeps = λ h. send-no_overrun _ _ _ h
-no_overrun t c valid ok past rest (Arrive b w) keeps =
-    let there : b < length t.buses = numbered-at t past rest (Arrive b w) keeps.numbers in
+no_overrun t c valid ok past rest (Arrive w b) keeps =
+    let there : b < length t.buses = numbered-at t past rest (Arrive w b) keeps.numbers in
     let P : List Event → Type 0 = λ run. IsAdmissible t run in
-    let whole : IsAdmissible t ((past ++ Arrive b w ∷ []) ++ rest) = subst P (sym (append_assoc past (Arrive b w ∷ []) rest)) keeps in
-    let up = bus_keeps_up t c valid ok (past ++ Arrive b w ∷ []) rest whole b there in
-    arrive-no_overrun t past b w (unlatched-not t b (past ++ Arrive b w ∷ []) up.unlatched)
+    let whole : IsAdmissible t ((past ++ Arrive w b ∷ []) ++ rest) = subst P (sym (append_assoc past (Arrive w b ∷ []) rest)) keeps in
+    let up = bus_keeps_up t c valid ok (past ++ Arrive w b ∷ []) rest whole b there in
+    arrive-no_overrun t past b w (unlatched-not t b (past ++ Arrive w b ∷ []) up.unlatched)

@@ -208,7 +208,7 @@ output_sees : (t : TableRows) (o : ℕ) (past : List Event) (e : Event) → Sees
 output_sees t o past Tick =
     let next : tick_after past + 1 ≡ suc (tick_after past) = omega arith in
     ended (ap (λ z. TickMove ∷ z) (ins_at ((tick_after past + 1) % (output_row t o).frame) (output_row t o).entries ∙ ap (λ z. come_in (dues t o z)) next)) refl refl
-output_sees t o past (Arrive b w) = idle refl refl refl
+output_sees t o past (Arrive w b) = idle refl refl refl
 output_sees t o past (Route r) = idle refl refl refl
 output_sees t o past (Send q) =
     elim (either (q == o)) [

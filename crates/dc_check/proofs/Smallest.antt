@@ -252,7 +252,7 @@ unfolding ticks
 small_ticks = refl
 
 small_numbers : IsRun small_tables small_run
-small_numbers = All-cons (IsNumbered small_tables) (Arrive 0 0x600000C1) (Route 0 ∷ Send 0 ∷ Tick ∷ []) (lit≤ tt)
+small_numbers = All-cons (IsNumbered small_tables) (Arrive 0x600000C1 0) (Route 0 ∷ Send 0 ∷ Tick ∷ []) (lit≤ tt)
     (All-cons (IsNumbered small_tables) (Route 0) (Send 0 ∷ Tick ∷ []) (lit≤ tt)
     (All-cons (IsNumbered small_tables) (Send 0) (Tick ∷ []) (lit≤ tt)
     (All-cons (IsNumbered small_tables) Tick [] tt (All-nil (IsNumbered small_tables)))))
@@ -278,13 +278,13 @@ small_admissible = record {
   };
 }
 
-small_leaves : emission small_tables (Arrive 0 0x600000C1 ∷ Route 0 ∷ []) (Send 0) ≡ Some 0
+small_leaves : emission small_tables (Arrive 0x600000C1 0 ∷ Route 0 ∷ []) (Send 0) ≡ Some 0
 unfolding emission sent served_in due_by ticks picks
 small_leaves = refl
 
-small_copied : chosen_source small_tables 0 (Arrive 0 0x600000C1 ∷ Route 0 ∷ Send 0 ∷ []) ≡ Some (0, 0x600000C1)
+small_copied : chosen_source small_tables 0 (Arrive 0x600000C1 0 ∷ Route 0 ∷ Send 0 ∷ []) ≡ Some (0, 0x600000C1)
 unfolding served_in first_place each_place ones_in is_odd reversed ticks picks stamped stream_of ins passed is_overfull latch entered taken routed_tick arrived_tick latest_number latest_by moves latest fresh chosen_source
 small_copied = refl
 
 pub small_copies : SendsCopy small_tables small_run
-small_copies = record { past = Arrive 0 0x600000C1 ∷ Route 0 ∷ []; rest = Tick ∷ []; output = 0; label = 0; word = (0, 0x600000C1); at = refl; leaves = small_leaves; copied = small_copied }
+small_copies = record { past = Arrive 0x600000C1 0 ∷ Route 0 ∷ []; rest = Tick ∷ []; output = 0; label = 0; word = (0, 0x600000C1); at = refl; leaves = small_leaves; copied = small_copied }

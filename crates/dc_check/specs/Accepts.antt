@@ -2,6 +2,7 @@
 use Rattle.std.specs.Prelude.{◌≡◌, ℕ, ◌+◌, ◌≤◌, ◌<◌, List, length, map, slice_index}
 use Rattle.std.specs.List.{All}
 use Rattle.dc_busy.specs.BusyWindow.{Closes, BacklogBounded, DelayBounded}
+use Rattle.dc_busy.specs.declared.limits.TheConstants.{LONGEST_WINDOW}
 use Rattle.dc_cert.specs.Bounds.{InputBound, OutputBound, CertificateRows, input_bound, output_bound, numbers_of}
 use Rattle.dc_cert.specs.NamedRows.{NamedRows}
 use Rattle.dc_parts.specs.Names.{text_of}
@@ -13,7 +14,7 @@ use Rattle.dc_transmit.specs.Schedule.{schedule_of, label_gaps}
 -- the window is in range, and a busy stretch ends within it
 pub record WindowCloses (cap floor : ℕ → ℕ) (window : ℕ) : Type 0 where
   pub some : 1 ≤ window
-  pub most : window ≤ 100000
+  pub most : window ≤ LONGEST_WINDOW
   pub closes : Closes cap floor window
 
 -- no more than the backlog wait at any place of the window, and the queue has room for them
@@ -23,7 +24,7 @@ pub record BacklogFits (cap floor : ℕ → ℕ) (window backlog queue : ℕ) : 
 
 -- the delay is in range, and none waits longer from any place of the window on
 pub record DelayHolds (cap floor : ℕ → ℕ) (window delay : ℕ) : Type 0 where
-  pub short : delay ≤ 100000
+  pub short : delay ≤ LONGEST_WINDOW
   pub bounded : DelayBounded cap floor window delay
 
 -- ---- one input, output, label

@@ -73,7 +73,7 @@ small_claims age = record {
 
 -- a word of label 203 comes, is routed and is sent in the first tick
 abbrev pub small_run : List Event
-small_run = Arrive 0 0x600000C1 ∷ Route 0 ∷ Send 0 ∷ Tick ∷ []
+small_run = Arrive 0x600000C1 0 ∷ Route 0 ∷ Send 0 ∷ Tick ∷ []
 
 -- at a step of the run a label leaves that copies a word which came in
 pub record SendsCopy (t : TableRows) (run : List Event) : Type 0 where

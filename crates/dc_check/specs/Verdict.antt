@@ -5,6 +5,7 @@ use Rattle.std.specs.List.{list_all}
 use Rattle.std.specs.Option.{option_or}
 use Rattle.std.specs.Str.{bytes_eq}
 use Rattle.dc_bound.specs.Places.{when, or_else}
+use Rattle.dc_busy.specs.declared.limits.TheConstants.{LONGEST_WINDOW}
 use Rattle.dc_cert.specs.Bounds.{InputBound, OutputBound, CertificateRows, input_bound, output_bound, numbers_of}
 use Rattle.dc_cert.specs.NamedRows.{NamedRows}
 use Rattle.dc_check.specs.Accepts.{gaps_of, label_delay, source_delay}
@@ -39,10 +40,10 @@ first_of (rule ∷ rules) = option_or rule (first_of rules)
 -- ---- tests of a window
 
 abbrev pub is_window : ℕ → Bool
-is_window window = nat_le 1 window && nat_le window 100000
+is_window window = nat_le 1 window && nat_le window LONGEST_WINDOW
 
 abbrev pub is_delay : ℕ → Bool
-is_delay delay = nat_le delay 100000
+is_delay delay = nat_le delay LONGEST_WINDOW
 
 -- as many are taken in the window's ticks but the first as come in all of them
 abbrev pub is_closing : (cap floor : ℕ → ℕ) → ℕ → Bool

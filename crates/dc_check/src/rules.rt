@@ -3,6 +3,7 @@
 ghost use Rattle.std.specs.Prelude.{◌≡◌, ℕ, ◌≤◌};
 ghost use Rattle.dc_check.specs.Verdict.{fault_at, unless, at_window, first_of, range_rules, is_closing, backlog_failure, delay_failure};
 ghost use Rattle.dc_check.specs.declared.fault.Condition.TheVariants.{WindowDoesNotClose};
+ghost use Rattle.dc_busy.specs.declared.limits.TheConstants.{LONGEST_WINDOW};
 
 use crate::fault::{CertificateList, CheckFault, Condition};
 use dc_bound::{ArrivalBound, ServiceBound};
@@ -82,7 +83,7 @@ pub(crate) fn range_fault(
     ])
 }
 
-/// The fault of a window, 1 to 100,000, that does not close.
+/// The fault of a window, 1 to [`LONGEST_WINDOW`], that does not close.
 pub(crate) fn closing_fault<A: ArrivalBound, S: ServiceBound>(
     part: CertificateList,
     index: usize,
@@ -91,7 +92,7 @@ pub(crate) fn closing_fault<A: ArrivalBound, S: ServiceBound>(
     window: u32,
 ) -> Option<CheckFault>
     requires least { 1 ≤ window }
-    requires most { window ≤ 100000 }
+    requires most { window ≤ LONGEST_WINDOW }
     ensures { result ≡ unless (is_closing (A.cap arrivals.now) (S.floor service.now) window) (fault_at part index WindowDoesNotClose 0) }
 {
     fault_unless(
@@ -100,8 +101,8 @@ pub(crate) fn closing_fault<A: ArrivalBound, S: ServiceBound>(
     )
 }
 
-/// The first window up to this one, 1 to 100,000, in which more may wait than the backlog, and the first in which a word
-/// may wait longer than the delay, at most 100,000.
+/// The first window up to this one, 1 to [`LONGEST_WINDOW`], in which more may wait than the backlog, and the first in
+/// which a word may wait longer than the delay, at most as many.
 pub(crate) fn first_failing<A: ArrivalBound, S: ServiceBound>(
     arrivals: &A,
     service: &S,
@@ -110,15 +111,16 @@ pub(crate) fn first_failing<A: ArrivalBound, S: ServiceBound>(
     delay: u32,
 ) -> (Option<u32>, Option<u32>)
     requires least { 1 ≤ window }
-    requires most { window ≤ 100000 }
-    requires short { delay ≤ 100000 }
+    requires most { window ≤ LONGEST_WINDOW }
+    requires short { delay ≤ LONGEST_WINDOW }
     ensures backlog { result.0 ≡ backlog_failure (A.cap arrivals.now) (S.floor service.now) window backlog }
     ensures delay { result.1 ≡ delay_failure (A.cap arrivals.now) (S.floor service.now) window delay }
 {
     first_failures(arrivals, service, window, u64::from(backlog), delay)
 }
 
-/// The first window up to this one, 1 to 100,000, in which a word may wait longer than the delay, at most 100,000.
+/// The first window up to this one, 1 to [`LONGEST_WINDOW`], in which a word may wait longer than the delay, at most as
+/// many.
 pub(crate) fn first_overdue<A: ArrivalBound, S: ServiceBound>(
     arrivals: &A,
     service: &S,
@@ -126,8 +128,8 @@ pub(crate) fn first_overdue<A: ArrivalBound, S: ServiceBound>(
     delay: u32,
 ) -> Option<u32>
     requires least { 1 ≤ window }
-    requires most { window ≤ 100000 }
-    requires short { delay ≤ 100000 }
+    requires most { window ≤ LONGEST_WINDOW }
+    requires short { delay ≤ LONGEST_WINDOW }
     ensures { result ≡ delay_failure (A.cap arrivals.now) (S.floor service.now) window delay }
 {
     delay_fails(arrivals, service, window, delay)

@@ -4,6 +4,7 @@ use mathlib.Core.Option.{some}
 use lib.ListN.{get_elem?}
 use Rattle.atomic_table.specs.Table.{State, Me, Step}
 use Rattle.dc_checkpar.specs.declared.view.View.{View}
+use Rattle.dc_checkpar.specs.declared.limits.TheConstants.{MOST_WORKERS}
 
 -- the first drawer, which alone splits; and one that was split from it
 abbrev pub leader : ℕ → View
@@ -45,7 +46,7 @@ Given jobs s =
     (length s.words ≡ 2) × (slice_index s.words 0 ≡ 0)
     × ((x : ℕ) → total (λ (v : View). times x v.drawn) s.views ≡ once_below x (slice_index s.words 1))
     × (slice_index s.words 1 ≤ jobs + total (λ (v : View). past jobs v.drawn) s.views)
-    × (length s.views ≤ 64)
+    × (length s.views ≤ MOST_WORKERS)
     × ((by : ℕ) (v : View) → get_elem? s.views by ≡ some v → (v.jobs ≡ jobs) × (past jobs v.drawn ≤ 1) × (v.leads ≡ true → (by ≡ 0) × (length s.views ≡ v.splits + 1)))
 
 -- one number is drawn, the one that was found

@@ -5,9 +5,11 @@ ghost use Rattle.dc_cert.specs.Bounds.{certificate_rows, input_bound, output_bou
 ghost use Rattle.dc_check.specs.Verdict.{IsSized, job_count, job_verdict};
 ghost use Rattle.std.specs.Thread.{IsSync};
 ghost use Rattle.dc_tables.specs.TableRows.{bus_cap, bus_floor, output_cap, output_floor};
+ghost use Rattle.dc_busy.specs.declared.limits.TheConstants.{LONGEST_WINDOW};
 
 use crate::jobs::Jobs;
-use crate::long::{LONG, first_failures};
+use crate::limits::LONG;
+use crate::long::first_failures;
 use dc_bound::{ArrivalBound, ServiceBound};
 use dc_busy::LONGEST_WINDOW;
 use dc_cert::Certificate;
@@ -65,14 +67,14 @@ impl<'a, R: Threads + Sync> Jobs for Case<'a, R> {
 
 // Whether a window is long, and neither it nor the delay is out of range.
 fn is_long(window: u32, delay: u32) -> bool
-    ensures { result ≡ true → (1 ≤ window) × (window ≤ 100000) × (delay ≤ 100000) }
+    ensures { result ≡ true → (1 ≤ window) × (window ≤ LONGEST_WINDOW) × (delay ≤ LONGEST_WINDOW) }
 {
     LONG < window && window <= LONGEST_WINDOW && delay <= LONGEST_WINDOW
 }
 
 // Whether a window is to be searched in pieces.
 fn is_for_pieces(in_pieces: bool, window: u32, delay: u32) -> bool
-    ensures { result ≡ true → (1 ≤ window) × (window ≤ 100000) × (delay ≤ 100000) }
+    ensures { result ≡ true → (1 ≤ window) × (window ≤ LONGEST_WINDOW) × (delay ≤ LONGEST_WINDOW) }
 {
     in_pieces && is_long(window, delay)
 }

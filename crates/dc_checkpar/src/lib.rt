@@ -6,6 +6,7 @@ mod fault;
 mod gate;
 mod jobs;
 pub mod laws;
+mod limits;
 mod long;
 mod par;
 mod pool;
@@ -14,4 +15,5 @@ mod worker;
 
 pub use fault::ParFault;
 pub use gate::{Gate, Open, Stuck};
+pub use limits::MOST_WORKERS;
 pub use par::check_par;

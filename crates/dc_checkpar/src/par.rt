@@ -10,6 +10,7 @@ ghost use Rattle.dc_check.specs.Verdict.{job_count, verdict_of};
 ghost use Rattle.dc_checkpar.specs.Faults.{IsOfVerdict, halt_fault};
 ghost use Rattle.dc_checkpar.specs.Reports.{MayStick};
 ghost use Rattle.dc_checkpar.specs.declared.fault.ParFault.TheVariants.{GateStuck};
+ghost use Rattle.dc_checkpar.specs.declared.limits.TheConstants.{MOST_WORKERS};
 
 use crate::case::{Case, long_count};
 use crate::fault::ParFault;
@@ -24,7 +25,7 @@ use std::marker::Sync;
 use std::sync::{Arc, Wait};
 use std::thread::Threads;
 
-/// Judges a certificate for tables, as `dc_check::check` does, by so many workers, 1 to 64, of which one is the calling
+/// Judges a certificate for tables, as `dc_check::check` does, by so many workers, 1 to [`MOST_WORKERS`](crate::MOST_WORKERS), of which one is the calling
 /// thread. A worker enters the gate before each job and leaves it afterwards. A fault of the certificate is the first one,
 /// whichever worker finds it first. All threads have returned when it returns.
 pub fn check_par<G: Gate, R: Threads + Wait + Sync>(
@@ -35,7 +36,7 @@ pub fn check_par<G: Gate, R: Threads + Wait + Sync>(
     workers: usize,
     gate: &G,
 ) -> Result<Certified, ParFault>
-    requires { (1 ≤ workers) × (workers ≤ 64) }
+    requires { (1 ≤ workers) × (workers ≤ MOST_WORKERS) }
     ensures claims { IfOk result (λ _. KeepsItsClaims (arc_value tables) (named_rows certificate)) }
     ensures lends { IfOk result (λ c. (tables_of c ≡ arc_value tables) × (certificate_of c ≡ certificate)) }
     ensures exact { MatchResult result (λ _. verdict_of (arc_value tables) (named_rows certificate) ≡ None) (λ fault. IsOfVerdict (arc_value tables) (named_rows certificate) fault) }
@@ -60,7 +61,7 @@ fn verdict_by<G: Gate, R: Threads + Wait + Sync>(
     workers: usize,
     gate: &G,
 ) -> Result<(), ParFault>
-    requires { (1 ≤ workers) × (workers ≤ 64) }
+    requires { (1 ≤ workers) × (workers ≤ MOST_WORKERS) }
     ensures exact { MatchResult result (λ _. verdict_of tables.now (named_rows certificate.now) ≡ None) (λ fault. IsOfVerdict tables.now (named_rows certificate.now) fault) }
     ensures stuck { IfErr result (λ fault. fault ≡ GateStuck → MayStick (job_count tables.now) (G.may_stick gate.now)) }
 {

@@ -6,6 +6,7 @@ ghost use Rattle.dc_check.specs.declared.fault.CheckFault.{CheckFault};
 ghost use Rattle.dc_checkpar.specs.Drawing.{leader as leader_of, past};
 ghost use Rattle.dc_checkpar.specs.Reports.{AreJudged, AreKnown, ArePromised, IsReport, MayStick};
 ghost use Rattle.dc_checkpar.specs.declared.worker.Halt.TheVariants.{GateStuck};
+ghost use Rattle.dc_checkpar.specs.declared.limits.TheConstants.{MOST_WORKERS};
 
 use crate::gate::{Gate, Stuck};
 use crate::jobs::Jobs;
@@ -68,7 +69,7 @@ fn start_all<'s, E, J: Jobs + 's, G: Gate + 's>(
     children: &mut Vec<Child<J, G>>,
 ) -> Result<(), Halt>
     requires leader { (leader.old.0 ≡ source.now.0) × (leader.old.1 ≡ leader_of source.now.1) }
-    requires others { others < 64 }
+    requires others { others < MOST_WORKERS }
     requires jobs { J.may_ask jobs.now × (source.now.1 ≡ J.jobs jobs.now) }
     requires room { (vec_len children.old ≡ 0) × (others ≤ vec_capacity children.old) }
     ensures leader { (leader.new.0 ≡ source.now.0) × (leader.new.1.jobs ≡ source.now.1) × (past source.now.1 leader.new.1.drawn ≡ 0) }
@@ -151,7 +152,7 @@ fn work_together<'s, E, J: Jobs + 's, G: Gate + 's, R: Threads>(
     mut known: Vec<Option<Option<CheckFault>>>,
 ) -> Found
     requires leader { (leader.0 ≡ source.now.0) × (leader.1 ≡ leader_of source.now.1) }
-    requires others { others < 64 }
+    requires others { others < MOST_WORKERS }
     requires jobs { J.may_ask jobs.now × (source.now.1 ≡ J.jobs jobs.now) }
     requires room { (vec_len children ≡ 0) × (others ≤ vec_capacity children) }
     requires known { AreKnown (J.verdict jobs.now) known.items }
@@ -192,7 +193,7 @@ fn in_threads<J: Jobs, G: Gate, R: Threads + Wait + Sync>(
     known: Vec<Option<Option<CheckFault>>>,
 ) -> Found
     requires leader { (leader.0 ≡ source.now.0) × (leader.1 ≡ leader_of source.now.1) }
-    requires others { others < 64 }
+    requires others { others < MOST_WORKERS }
     requires jobs { J.may_ask jobs.now × (source.now.1 ≡ J.jobs jobs.now) }
     requires room { (vec_len children ≡ 0) × (others ≤ vec_capacity children) }
     requires known { AreKnown (J.verdict jobs.now) known.items }
@@ -206,7 +207,7 @@ fn in_threads<J: Jobs, G: Gate, R: Threads + Wait + Sync>(
         rt,
         |scope| -> Found
             requires leader { (leader.0 ≡ source.now.0) × (leader.1 ≡ leader_of source.now.1) }
-            requires others { others < 64 }
+            requires others { others < MOST_WORKERS }
             requires jobs { J.may_ask jobs.now × (source.now.1 ≡ J.jobs jobs.now) }
             requires room { (vec_len children ≡ 0) × (others ≤ vec_capacity children) }
             requires known { AreKnown (J.verdict jobs.now) known.items }
@@ -272,7 +273,7 @@ fn decide<J: Jobs, G: Gate>(
     Ok(None)
 }
 
-/// The first fault of all jobs, by so many workers, 1 to 64, of which one is the calling thread. All have returned when
+/// The first fault of all jobs, by so many workers, 1 to `MOST_WORKERS`, of which one is the calling thread. All have returned when
 /// it returns.
 pub(crate) fn first_fault<J: Jobs, G: Gate, R: Threads + Wait + Sync>(
     rt: &R,
@@ -281,7 +282,7 @@ pub(crate) fn first_fault<J: Jobs, G: Gate, R: Threads + Wait + Sync>(
     gate: &G,
     workers: usize,
 ) -> Result<Option<CheckFault>, Halt>
-    requires workers { (1 ≤ workers) × (workers ≤ 64) }
+    requires workers { (1 ≤ workers) × (workers ≤ MOST_WORKERS) }
     requires jobs { J.may_ask jobs.now × (J.jobs jobs.now < 2 ^ 63) }
     ensures ok { IfOk result (λ fault. fault ≡ first_job_fault (J.verdict jobs.now) (J.jobs jobs.now)) }
     ensures stuck { result ≡ Err GateStuck → MayStick (J.jobs jobs.now) (G.may_stick gate.now) }

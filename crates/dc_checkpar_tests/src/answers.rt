@@ -2,13 +2,13 @@
 
 ghost use Rattle.std.specs.Prelude.{◌≤◌};
 
-use crate::chance::Chance;
 use crate::fixture::{LARGEST, MANY, Plan, SMALL, certificate_of, tables_of};
-use crate::gates::{Counting, Meeting};
 use dc_cert::Certificate;
 use dc_check::{CertificateList, CheckFault, Condition, verdict};
 use dc_checkpar::{Gate, Open, ParFault, check_par};
+use dc_gates::{Counting, Meeting};
 use dc_tables::Tables;
+use dc_trials::Chance;
 use std::alloc::Global;
 use std::process::Abort;
 use std::rt::HostRuntime;

@@ -4,8 +4,4 @@
 #[cfg(test)]
 mod answers;
 #[cfg(test)]
-mod chance;
-#[cfg(test)]
 mod fixture;
-#[cfg(test)]
-mod gates;

@@ -88,7 +88,7 @@ fn push_word(
         return Ok(());
     }
     let word = word_of(chance, source, manner);
-    run.push(Event::Arrive(source.bus, word))?;
+    run.push(Event::Arrive(word, source.bus))?;
     source.next = tick.wrapping_add(pause_of(chance, source, manner));
     Ok(())
 }

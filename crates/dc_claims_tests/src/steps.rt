@@ -150,7 +150,7 @@ fn other_step(tick: u32) -> Step {
 /// A step of a router.
 fn route_step(tables: &Tables, tick: u32, reply: &Reply) -> Step {
     match reply {
-        Reply::Took(bus, word) => word_step(tables, Kind::Took, tick, *bus, *word),
+        Reply::Took(word, bus) => word_step(tables, Kind::Took, tick, *bus, *word),
         _ => other_step(tick),
     }
 }
@@ -173,7 +173,7 @@ fn send_step(labels: &[LabelRow], tick: u32, output: usize, reply: &Reply) -> St
 /// The step of an event and its reply.
 fn step_of(tables: &Tables, labels: &[LabelRow], tick: u32, event: &Event, reply: &Reply) -> Step {
     match event {
-        Event::Arrive(bus, word) => word_step(tables, kind_of(reply), tick, *bus, *word),
+        Event::Arrive(word, bus) => word_step(tables, kind_of(reply), tick, *bus, *word),
         Event::Route(_) => route_step(tables, tick, reply),
         Event::Send(output) => send_step(labels, tick, *output, reply),
         Event::Tick => other_step(tick),

@@ -3,7 +3,7 @@ use Rattle.std.proofs.Common.{◌≡◌, ◌∙◌, ℕ, Bool, true, false, code
 use Rattle.clap.specs.Words.{Text, first_of, first_value, one_of, one_text, rows_of}
 use Rattle.clap.specs.declared.parser.matches.Found.{Found}
 use Rattle.clap.proofs.WalkLemmas.{first_value-rows, one_text-rows}
-use Rattle.dc_command.specs.Asked.{AreGiven, IsSet}
+use Rattle.dc_command.specs.Asked.{AreGiven, IsSet, TicksAre}
 
 -- a text that is given
 pub text_given : (f : Found) (id text : Text) → Some text ≡ first_value f id → first_of id (rows_of f) ≡ Some text
@@ -12,6 +12,10 @@ text_given f id text is = sym (is ∙ first_value-rows f id)
 -- the number of workers
 pub workers_given : (f : Found) (id : Text) (workers : Option ℕ) → AreGiven (first_value f id) workers → AreGiven (first_of id (rows_of f)) workers
 workers_given f id workers given = subst (λ o. AreGiven o workers) (first_value-rows f id) given
+
+-- the number of ticks
+pub ticks_given : (f : Found) (id : Text) (ticks : ℕ) → TicksAre (first_value f id) ticks → TicksAre (first_of id (rows_of f)) ticks
+ticks_given f id ticks given = subst (λ o. TicksAre o ticks) (first_value-rows f id) given
 
 -- a flag
 pub flag_given : (f : Found) (id : Text) (set : Bool) → (one_text f id ≡ None → set ≡ false) → (one_text f id ≡ Some (codes "true") → set ≡ true)

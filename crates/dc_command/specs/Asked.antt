@@ -1,5 +1,5 @@
 -- What a command line may ask.
-use Rattle.std.specs.Prelude.{◌≡◌, ◌≤◌, ℕ, Bool, true, false, List, Option, Some, None, IfSome, codes}
+use Rattle.std.specs.Prelude.{◌≡◌, ◌≤◌, ℕ, Bool, true, false, List, Option, Some, None, IfSome, codes, option_map}
 use Rattle.std.specs.Str.Parse.{IsNumeral, digits_value, without_leading_plus}
 use Rattle.clap.specs.Walk.{Row, Text, first_of, one_of}
 use Rattle.clap.specs.Simple.{subcommand_of}
@@ -8,11 +8,12 @@ use Rattle.dc_word.specs.declared.format.Format.{Format}
 use Rattle.dc_word.specs.declared.format.Format.TheVariants.{Bnr, Bcd, Disc}
 use Rattle.dc_command.specs.Program.{program_app}
 use Rattle.dc_command.specs.declared.asked.Order.{Order}
-use Rattle.dc_command.specs.declared.asked.Order.TheVariants.{Decode, Check, Find, Replay, Audit}
+use Rattle.dc_command.specs.declared.asked.Order.TheVariants.{Decode, Check, Find, Report, Margins, Replay, Audit, Bench}
+use Rattle.dc_command.specs.declared.limits.TheConstants.{MOST_TICKS, MOST_WORKERS, USUAL_TICKS}
 
--- the text is this number of 1 to 64, in decimal
+-- the text is this number of workers, in decimal
 abbrev pub IsCount : List ℕ → ℕ → Type 0
-IsCount text n = IsNumeral 10 (without_leading_plus text) × (digits_value 10 (without_leading_plus text) ≡ n) × (1 ≤ n) × (n ≤ 64)
+IsCount text n = IsNumeral 10 (without_leading_plus text) × (digits_value 10 (without_leading_plus text) ≡ n) × (1 ≤ n) × (n ≤ MOST_WORKERS)
 
 -- it is none of these
 abbrev pub IsNoCount : List ℕ → Type 0
@@ -22,6 +23,19 @@ IsNoCount text = (n : ℕ) → IsCount text n → ⊥
 abbrev pub AreGiven : Option (List ℕ) → Option ℕ → Type 0
 AreGiven None workers = workers ≡ None
 AreGiven (Some text) workers = (n : ℕ) × (workers ≡ Some n) × IsCount text n
+
+-- the text is this number of ticks, in decimal
+abbrev pub IsTickCount : List ℕ → ℕ → Type 0
+IsTickCount text n = IsNumeral 10 (without_leading_plus text) × (digits_value 10 (without_leading_plus text) ≡ n) × (1 ≤ n) × (n ≤ MOST_TICKS)
+
+-- it is none of these
+abbrev pub IsNoTickCount : List ℕ → Type 0
+IsNoTickCount text = (n : ℕ) → IsTickCount text n → ⊥
+
+-- the number of ticks that is said by a text, or the usual one where there is no text
+abbrev pub TicksAre : Option (List ℕ) → ℕ → Type 0
+TicksAre None ticks = ticks ≡ USUAL_TICKS
+TicksAre (Some text) ticks = IsTickCount text ticks
 
 abbrev pub format_name : Format → List ℕ
 format_name Bnr = codes "bnr"
@@ -39,10 +53,17 @@ AsksBy name rows (Check tables certificate workers) =
     (name ≡ codes "check") × (first_of (codes "TABLES") rows ≡ Some tables.now) × (first_of (codes "CERT") rows ≡ Some certificate.now)
     × AreGiven (first_of (codes "workers") rows) workers
 AsksBy name rows (Find tables) = (name ≡ codes "find") × (first_of (codes "TABLES") rows ≡ Some tables.now)
+AsksBy name rows (Report tables certificate) =
+    (name ≡ codes "report") × (first_of (codes "TABLES") rows ≡ Some tables.now) × (option_map (λ s. s.now) certificate ≡ first_of (codes "CERT") rows)
+AsksBy name rows (Margins tables certificate) =
+    (name ≡ codes "margins") × (first_of (codes "TABLES") rows ≡ Some tables.now) × (option_map (λ s. s.now) certificate ≡ first_of (codes "CERT") rows)
 AsksBy name rows (Replay tables all) =
     (name ≡ codes "replay") × (first_of (codes "TABLES") rows ≡ Some tables.now) × IsSet (one_of (codes "all") rows) all
 AsksBy name rows (Audit tables certificate) =
     (name ≡ codes "audit") × (first_of (codes "TABLES") rows ≡ Some tables.now) × (first_of (codes "CERT") rows ≡ Some certificate.now)
+AsksBy name rows (Bench tables certificate ticks) =
+    (name ≡ codes "bench") × (first_of (codes "TABLES") rows ≡ Some tables.now) × (first_of (codes "CERT") rows ≡ Some certificate.now)
+    × TicksAre (first_of (codes "ticks") rows) ticks
 
 -- what a command and its matches ask
 abbrev pub Asks : Option (Text × List Row) → Order → Type 0
@@ -55,5 +76,6 @@ AsksIn words order = (formats : ValueParser) × Asks (subcommand_of (program_app
 
 -- each number is in its range
 abbrev pub IsInRange : Order → Type 0
-IsInRange (Check tables certificate workers) = IfSome workers (λ n. (1 ≤ n) × (n ≤ 64))
+IsInRange (Check tables certificate workers) = IfSome workers (λ n. (1 ≤ n) × (n ≤ MOST_WORKERS))
+IsInRange (Bench tables certificate ticks) = (1 ≤ ticks) × (ticks ≤ MOST_TICKS)
 IsInRange _ = Unit {0}

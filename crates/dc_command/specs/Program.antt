@@ -7,6 +7,7 @@ use Rattle.clap.specs.declared.builder.command.Command.TheViews.{out-Command}
 use Rattle.clap.specs.declared.builder.action.ArgAction.TheVariants.{SetTrue}
 use Rattle.clap.specs.declared.builder.value_parser.ValueParser.{ValueParser}
 use Rattle.clap.specs.declared.builder.value_parser.ValueParser.TheVariants as vp
+use Rattle.dc_command.specs.declared.limits.TheConstants.{MOST_TICKS, MOST_WORKERS}
 
 -- a file that is wanted
 abbrev pub file_rule : Text → Rule
@@ -21,7 +22,15 @@ abbrev pub workers_rule : Rule
 workers_rule = record (new_rule (codes "workers")) {
   long = Some (codes "workers");
   value_names = 1;
-  parser = Some (vp.Signed (pos 1) (pos 64));
+  parser = Some (vp.Signed (pos 1) (pos MOST_WORKERS));
+}
+
+-- `--ticks`
+abbrev pub ticks_rule : Rule
+ticks_rule = record (new_rule (codes "ticks")) {
+  long = Some (codes "ticks");
+  value_names = 1;
+  parser = Some (vp.Signed (pos 1) (pos MOST_TICKS));
 }
 
 -- `--all`
@@ -40,6 +49,13 @@ decode_app formats = with_rule (new_app (codes "decode")) (format_rule formats)
 abbrev pub check_app : App
 check_app = with_rule (certificate_app (codes "check")) workers_rule
 
+abbrev pub bench_app : App
+bench_app = with_rule (certificate_app (codes "bench")) ticks_rule
+
+-- a certificate that may be given
+abbrev pub optional_app : Text → App
+optional_app name = with_rule (tables_app name) (new_rule (codes "CERT"))
+
 abbrev pub replay_app : App
 replay_app = with_rule (tables_app (codes "replay")) all_rule
 
@@ -50,8 +66,9 @@ bare_app = on_top (λ s. record s { has_version = true; subcommand_required = tr
 -- the program, whose formats are read by this parser
 abbrev pub program_app : ValueParser → App
 program_app formats =
-    with_subcommand (with_subcommand (with_subcommand (with_subcommand (with_subcommand bare_app (decode_app formats).top)
-    check_app.top) (tables_app (codes "find")).top) replay_app.top) (certificate_app (codes "audit")).top
+    with_subcommand (with_subcommand (with_subcommand (with_subcommand (with_subcommand (with_subcommand (with_subcommand (with_subcommand bare_app (decode_app formats).top)
+    check_app.top) (tables_app (codes "find")).top) replay_app.top) (certificate_app (codes "audit")).top) bench_app.top)
+    (optional_app (codes "report")).top) (optional_app (codes "margins")).top
 
 -- clap reads this of a command, none of whose arguments is global
 abbrev pub IsRead : App → Command → Type 0

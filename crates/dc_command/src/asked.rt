@@ -2,9 +2,10 @@
 ghost use Rattle.std.specs.Prelude.{codes, map, IfOk, IfSome, MatchResult};
 ghost use Rattle.std.specs.String.{string_bytes};
 ghost use Rattle.clap.specs.Words.{first_value, found_of, rows_of, subcommand_rows_of};
-ghost use Rattle.dc_command.specs.Asked.{AreGiven, Asks, AsksBy, AsksIn, IsCount, IsInRange, IsNoCount};
+ghost use Rattle.dc_command.specs.Asked.{AreGiven, Asks, AsksBy, AsksIn, IsCount, IsInRange, IsNoCount, IsNoTickCount, IsTickCount, TicksAre};
 
 use crate::known::program;
+use crate::limits::{MOST_TICKS, MOST_WORKERS, USUAL_TICKS};
 use clap::error::ErrorKind;
 use clap::{ArgMatches, Error};
 use dc_word::Format;
@@ -29,6 +30,20 @@ pub enum Order<'a> {
         /// The path of the tables.
         tables: &'a str,
     },
+    /// Report on the certificate in a file, or on the least one, for the tables in another.
+    Report {
+        /// The path of the tables.
+        tables: &'a str,
+        /// The path of the certificate, where there is one.
+        certificate: Option<&'a str>,
+    },
+    /// Tell the margins of the certificate in a file, or of the least one, for the tables in another.
+    Margins {
+        /// The path of the tables.
+        tables: &'a str,
+        /// The path of the certificate, where there is one.
+        certificate: Option<&'a str>,
+    },
     /// Replay the trace on standard input through the concentrator of the tables in a file.
     Replay {
         /// The path of the tables.
@@ -43,9 +58,18 @@ pub enum Order<'a> {
         /// The path of the certificate.
         certificate: &'a str,
     },
+    /// Run the concentrator of the tables in a file, with the certificate in another.
+    Bench {
+        /// The path of the tables.
+        tables: &'a str,
+        /// The path of the certificate.
+        certificate: &'a str,
+        /// For how many ticks.
+        ticks: u16,
+    },
 }
 
-// A text says no number of workers.
+// A text says no number that is in its range.
 #[derive(Clone, Copy, Debug, PartialEq, Eq)]
 struct OutOfRange;
 
@@ -54,8 +78,28 @@ fn count_of(text: &str) -> Result<u8, OutOfRange>
     ensures { MatchResult result (λ n. IsCount text.now n) (λ _. IsNoCount text.now) }
 {
     match text.parse::<u8>() {
-        Ok(count) if 1 <= count && count <= 64 => Ok(count),
+        Ok(count) if 1 <= count && count <= MOST_WORKERS => Ok(count),
         _ => Err(OutOfRange),
+    }
+}
+
+// The number of ticks that a text says.
+fn tick_count_of(text: &str) -> Result<u16, OutOfRange>
+    ensures { MatchResult result (λ n. IsTickCount text.now n) (λ _. IsNoTickCount text.now) }
+{
+    match text.parse::<u16>() {
+        Ok(ticks) if 1 <= ticks && ticks <= MOST_TICKS => Ok(ticks),
+        _ => Err(OutOfRange),
+    }
+}
+
+// The number of ticks that the matches of `bench` say, `USUAL_TICKS` where they say none.
+fn ticks_in(matches: &ArgMatches<'_>) -> Result<u16, OutOfRange>
+    ensures { MatchResult result (TicksAre (first_value (found_of matches.now) (codes "ticks"))) (λ _. IfSome (first_value (found_of matches.now) (codes "ticks")) IsNoTickCount) }
+{
+    match matches.get_str("ticks") {
+        Some(text) => tick_count_of(text),
+        None => Ok(USUAL_TICKS),
     }
 }
 
@@ -108,6 +152,30 @@ fn find_in<'a>(matches: &ArgMatches<'a>) -> Option<Order<'a>>
     Some(Order::Find { tables })
 }
 
+// What the matches of `report` ask.
+fn report_in<'a>(matches: &ArgMatches<'a>) -> Option<Order<'a>>
+    ensures { IfSome result (AsksBy (codes "report") (rows_of (found_of matches.now))) }
+{
+    let tables = matches.get_str("TABLES")?;
+    let certificate = matches.get_str("CERT");
+    Some(Order::Report {
+        tables,
+        certificate,
+    })
+}
+
+// What the matches of `margins` ask.
+fn margins_in<'a>(matches: &ArgMatches<'a>) -> Option<Order<'a>>
+    ensures { IfSome result (AsksBy (codes "margins") (rows_of (found_of matches.now))) }
+{
+    let tables = matches.get_str("TABLES")?;
+    let certificate = matches.get_str("CERT");
+    Some(Order::Margins {
+        tables,
+        certificate,
+    })
+}
+
 // What the matches of `replay` ask.
 fn replay_in<'a>(matches: &ArgMatches<'a>) -> Option<Order<'a>>
     ensures { IfSome result (AsksBy (codes "replay") (rows_of (found_of matches.now))) }
@@ -129,6 +197,22 @@ fn audit_in<'a>(matches: &ArgMatches<'a>) -> Option<Order<'a>>
     })
 }
 
+// What the matches of `bench` ask.
+fn bench_in<'a>(matches: &ArgMatches<'a>) -> Option<Order<'a>>
+    ensures { IfSome result (AsksBy (codes "bench") (rows_of (found_of matches.now))) }
+{
+    let tables = matches.get_str("TABLES")?;
+    let certificate = matches.get_str("CERT")?;
+    match ticks_in(matches) {
+        Ok(ticks) => Some(Order::Bench {
+            tables,
+            certificate,
+            ticks,
+        }),
+        Err(_) => None,
+    }
+}
+
 // What the matches of a command of this name ask, where they have what is required.
 fn order_by<'a>(name: &str, matches: &ArgMatches<'a>) -> Option<Order<'a>>
     ensures { IfSome result (AsksBy name.now (rows_of (found_of matches.now))) }
@@ -137,8 +221,11 @@ fn order_by<'a>(name: &str, matches: &ArgMatches<'a>) -> Option<Order<'a>>
         "decode" => decode_in(matches),
         "check" => check_in(matches),
         "find" => find_in(matches),
+        "report" => report_in(matches),
+        "margins" => margins_in(matches),
         "replay" => replay_in(matches),
         "audit" => audit_in(matches),
+        "bench" => bench_in(matches),
         _ => None,
     }
 }

@@ -1,8 +1,9 @@
 //! The commands that there are, with their arguments and what is said of them.
 ghost use Rattle.std.specs.Prelude.{◌≡◌, false, codes, IfOk};
 ghost use Rattle.clap.specs.Words.{rule_of};
-ghost use Rattle.dc_command.specs.Program.{IsDecode, IsProgram, IsRead, bare_app, certificate_app, check_app, file_rule, replay_app, tables_app};
+ghost use Rattle.dc_command.specs.Program.{IsDecode, IsProgram, IsRead, bare_app, bench_app, certificate_app, check_app, file_rule, optional_app, replay_app, tables_app};
 
+use crate::limits::{MOST_TICKS, MOST_WORKERS};
 use clap::{Arg, ArgAction, Command, Error, value_parser};
 use std::alloc::Global;
 
@@ -32,6 +33,20 @@ fn on_certificate<'a>(alloc: Global, name: &'a str, about: &'a str) -> Result<Co
     Ok(on_tables(alloc, name, about)?.arg(file(alloc, "CERT", "The certificate, in JSON"))?)
 }
 
+// A subcommand that reads tables, and a certificate where one is given.
+fn on_some_certificate<'a>(
+    alloc: Global,
+    name: &'a str,
+    about: &'a str,
+) -> Result<Command<'a>, Error>
+    ensures { IfOk result (IsRead (optional_app name.entry.now)) }
+{
+    let certificate = Arg::new(alloc, "CERT").help(
+        "The certificate, in JSON; without it the least one is taken",
+    );
+    Ok(on_tables(alloc, name, about)?.arg(certificate)?)
+}
+
 fn decode<'a>(alloc: Global) -> Result<Command<'a>, Error>
     ensures { IfOk result IsDecode }
 {
@@ -53,7 +68,7 @@ fn check<'a>(alloc: Global) -> Result<Command<'a>, Error>
         .long("workers")
         .value_name("N")
         .help("Checks by so many threads, 1 to 64")
-        .value_parser(value_parser!(u8).range(1..=64));
+        .value_parser(value_parser!(u8).range(1..=i64::from(MOST_WORKERS)));
     let check = on_certificate(
         alloc,
         "check",
@@ -69,6 +84,26 @@ fn find<'a>(alloc: Global) -> Result<Command<'a>, Error>
         alloc,
         "find",
         "Finds the least certificate for tables, or what stands in the way of one",
+    )
+}
+
+fn report<'a>(alloc: Global) -> Result<Command<'a>, Error>
+    ensures { IfOk result (IsRead (optional_app (codes "report"))) }
+{
+    on_some_certificate(
+        alloc,
+        "report",
+        "Writes a page of HTML: why a certificate is accepted or refused, and how near it came",
+    )
+}
+
+fn margins<'a>(alloc: Global) -> Result<Command<'a>, Error>
+    ensures { IfOk result (IsRead (optional_app (codes "margins"))) }
+{
+    on_some_certificate(
+        alloc,
+        "margins",
+        "Judges a certificate for tables, and prints how far each of its conditions is from failing",
     )
 }
 
@@ -97,6 +132,22 @@ fn audit<'a>(alloc: Global) -> Result<Command<'a>, Error>
     )
 }
 
+fn bench<'a>(alloc: Global) -> Result<Command<'a>, Error>
+    ensures { IfOk result (IsRead bench_app) }
+{
+    let ticks = Arg::new(alloc, "ticks")
+        .long("ticks")
+        .value_name("N")
+        .help("Runs for so many ticks, 1 to 1000, where none is said 200")
+        .value_parser(value_parser!(u16).range(1..=i64::from(MOST_TICKS)));
+    let bench = on_certificate(
+        alloc,
+        "bench",
+        "Runs the concentrator of the tables with a thread for each actor, and audits the run",
+    )?;
+    Ok(bench.arg(ticks)?)
+}
+
 // The program without its commands.
 fn bare<'a>(alloc: Global) -> Command<'a>
     ensures { IsRead bare_app result }
@@ -117,6 +168,9 @@ pub fn program<'a>(alloc: Global) -> Result<Command<'a>, Error>
             .subcommand(check(alloc)?)?
             .subcommand(find(alloc)?)?
             .subcommand(replay(alloc)?)?
-            .subcommand(audit(alloc)?)?,
+            .subcommand(audit(alloc)?)?
+            .subcommand(bench(alloc)?)?
+            .subcommand(report(alloc)?)?
+            .subcommand(margins(alloc)?)?,
     )
 }

@@ -3,7 +3,7 @@
 
 mod asked;
 mod known;
-#[cfg(test)]
-mod tests;
+mod limits;
 
 pub use asked::{Order, command};
+pub use limits::{MOST_TICKS, MOST_WORKERS, USUAL_TICKS};

@@ -47,19 +47,19 @@ module _ (t : TableRows) (v : AreValid t) (paces : List ℕ) (run : List Event) 
   unchanged true s ne = get_or-set_other paces k s (max now (get_or paces k 0) + (stream_row t k).minimum) 0 ne
   unchanged false s ne = refl
 
-  pub paces-arrive : length paces ≡ length t.streams → refuses t b run (Some k) ≡ false → HoldsPaces t (paces_after t paces now b k) (run ++ Arrive b w ∷ [])
+  pub paces-arrive : length paces ≡ length t.streams → refuses t b run (Some k) ≡ false → HoldsPaces t (paces_after t paces now b k) (run ++ Arrive w b ∷ [])
   paces-arrive sized free s l policed = elim (cases_eq k s) [
     | inl same ↦
-        let P : ℕ → Type 0 = λ s. get_or (paces_after t paces now b k) s 0 ≡ pace_of (stream_row t s).minimum (ticks_of (arrivals t s (run ++ Arrive b w ∷ []))) in
+        let P : ℕ → Type 0 = λ s. get_or (paces_after t paces now b k) s 0 ≡ pace_of (stream_row t s).minimum (ticks_of (arrivals t s (run ++ Arrive w b ∷ []))) in
         let yes' : is_policed t b ≡ true = ap (is_policed t) (sym own.1) ∙ ap (λ s. is_policed t (stream_row t s).bus) same ∙ policed in
         subst P same (
         ap (λ x. get_or (cond x (set paces k (max now (get_or paces k 0) + (stream_row t k).minimum)) paces) k 0) yes'
         ∙ get_or-set_same paces k (max now (get_or paces k 0) + (stream_row t k).minimum) 0 (omega (arith, own.0))
         ∙ ap (λ n. max n (get_or paces k 0) + (stream_row t k).minimum) clock
         ∙ ap (λ p. max (tick_after run) p + (stream_row t k).minimum) (h k own.0 (ap (is_policed t) own.1 ∙ yes'))
-        ∙ sym (ap (pace_of (stream_row t k).minimum) (arrivals-push t k k run (Arrive b w) (arrival-own t run b w k odd some free)) ∙ pace_of-push (stream_row t k).minimum (ticks_of (arrivals t k run)) (tick_after run)))
+        ∙ sym (ap (pace_of (stream_row t k).minimum) (arrivals-push t k k run (Arrive w b) (arrival-own t run b w k odd some free)) ∙ pace_of-push (stream_row t k).minimum (ticks_of (arrivals t k run)) (tick_after run)))
     | inr other ↦
         let ne : s ≡ k → ⊥ = λ e. other (sym e) in
         unchanged (is_policed t b) s ne
-        ∙ h s l policed ∙ ap (pace_of (stream_row t s).minimum) (sym (arrivals-other t s run (Arrive b w) (arrival-others t run b w k odd some free s other)))
+        ∙ h s l policed ∙ ap (pace_of (stream_row t s).minimum) (sym (arrivals-other t s run (Arrive w b) (arrival-others t run b w k odd some free s other)))
   ]

@@ -220,12 +220,12 @@ module _ (t : TableRows) (now : ℕ) (buses buses' : ℕ → BusData) (lasts : L
       let stays : ltb (taken (room t b) (moves t b run)) (taken (room t b) (moves t b run ++ Visit ∷ [])) ≡ false = le-ltb _ _ (omega (arith, empty_is none)) in
       rw (visits_b, more_b, stays) refl
 
-  pub took_reply : (x : ℕ) → w ≡ Some x → Took b x ≡ reply t run (Route r)
+  pub took_reply : (x : ℕ) → w ≡ Some x → Took x b ≡ reply t run (Route r)
   unfolding reply
   took_reply x some =
       let q = took_is x some in
       let rises : ltb (taken (room t b) (moves t b run)) (taken (room t b) (moves t b run ++ Visit ∷ [])) ≡ true = lt-ltb _ _ (omega (arith, (queue-visit (room t b) (moves t b run)).2, q.0)) in
-      rw (visits_b, more_b, rises) (ap (λ y. Took b y) q.1)
+      rw (visits_b, more_b, rises) (ap (λ y. Took y b) q.1)
 
   pub words_empty : w ≡ None → (s : ℕ) → s < length t.streams → get_or lasts s None ≡ option_map word_and_tick (latest t s (run ++ Route r ∷ []))
   words_empty none s l = h.words s l ∙ ap (option_map word_and_tick) (sym (latest_empty none s))

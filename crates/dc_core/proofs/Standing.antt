@@ -152,7 +152,7 @@ false_and : (a b : Bool) → b ≡ false → (a && b) ≡ false
 false_and true b h = h
 false_and false b h = refl
 
-pub arrive_even : (t : TableRows) (run : List Event) (b w : ℕ) → is_odd w ≡ false → IsNothing t run (Arrive b w)
+pub arrive_even : (t : TableRows) (run : List Event) (b w : ℕ) → is_odd w ≡ false → IsNothing t run (Arrive w b)
 arrive_even t run b w h = record {
   no_tick = refl;
   no_move = λ a. ap (λ x. cond x (in_of (let_in t a run (stream_of t a w)) w) []) (false_and (b == a) (is_odd w) h);
@@ -160,36 +160,36 @@ arrive_even t run b w h = record {
   no_send = λ o. refl;
 }
 
-move_elsewhere : (t : TableRows) (run : List Event) (a b w : ℕ) → (b == a) ≡ false → move_of t a run (Arrive b w) ≡ []
+move_elsewhere : (t : TableRows) (run : List Event) (a b w : ℕ) → (b == a) ≡ false → move_of t a run (Arrive w b) ≡ []
 move_elsewhere t run a b w h = ap (λ x. cond (x && is_odd w) (in_of (let_in t a run (stream_of t a w)) w) []) h
 
 cond_same : (b : Bool) → cond {A = List Move} b [] [] ≡ []
 cond_same true = refl
 cond_same false = refl
 
-pub arrive_undeclared : (t : TableRows) (run : List Event) (b w : ℕ) → stream_of t b w ≡ None → IsNothing t run (Arrive b w)
+pub arrive_undeclared : (t : TableRows) (run : List Event) (b w : ℕ) → stream_of t b w ≡ None → IsNothing t run (Arrive w b)
 arrive_undeclared t run b w h = record {
   no_tick = refl;
   no_move = λ a. ⊎_elim
-      (λ (same : b ≡ a). (let P : ℕ → Type 0 = λ a. move_of t a run (Arrive b w) ≡ [] in subst P same (ap (λ o. cond ((b == b) && is_odd w) (in_of (let_in t b run o) w) []) h ∙ cond_same ((b == b) && is_odd w))))
+      (λ (same : b ≡ a). (let P : ℕ → Type 0 = λ a. move_of t a run (Arrive w b) ≡ [] in subst P same (ap (λ o. cond ((b == b) && is_odd w) (in_of (let_in t b run o) w) []) h ∙ cond_same ((b == b) && is_odd w))))
       (λ (other : b ≡ a → ⊥). move_elsewhere t run a b w (ne_eqb b a other)) (cases_eq b a);
   no_route = λ r. refl;
   no_send = λ o. refl;
 }
 
 -- a word that the bus refuses
-pub arrive_refused : (t : TableRows) (run : List Event) (b w s : ℕ) → stream_of t b w ≡ Some s → refuses t b run (Some s) ≡ true → IsNothing t run (Arrive b w)
+pub arrive_refused : (t : TableRows) (run : List Event) (b w s : ℕ) → stream_of t b w ≡ Some s → refuses t b run (Some s) ≡ true → IsNothing t run (Arrive w b)
 arrive_refused t run b w s some early = record {
   no_tick = refl;
   no_move = λ a. ⊎_elim
-      (λ (same : b ≡ a). (let P : ℕ → Type 0 = λ a. move_of t a run (Arrive b w) ≡ [] in
+      (λ (same : b ≡ a). (let P : ℕ → Type 0 = λ a. move_of t a run (Arrive w b) ≡ [] in
       subst P same (ap (λ o. cond ((b == b) && is_odd w) (in_of (let_in t b run o) w) []) some ∙ ap (λ v. cond ((b == b) && is_odd w) (in_of (cond v None (Some s)) w) []) early ∙ cond_same ((b == b) && is_odd w))))
       (λ (other : b ≡ a → ⊥). move_elsewhere t run a b w (ne_eqb b a other)) (cases_eq b a);
   no_route = λ r. refl;
   no_send = λ o. refl;
 }
 
-move_here : (t : TableRows) (run : List Event) (b w s : ℕ) → is_odd w ≡ true → stream_of t b w ≡ Some s → refuses t b run (Some s) ≡ false → move_of t b run (Arrive b w) ≡ In (s, w) ∷ []
+move_here : (t : TableRows) (run : List Event) (b w s : ℕ) → is_odd w ≡ true → stream_of t b w ≡ Some s → refuses t b run (Some s) ≡ false → move_of t b run (Arrive w b) ≡ In (s, w) ∷ []
 move_here t run b w s odd some free = let e : (b == b) ≡ true = eq-eqb b b refl in rw (e, odd, some, free) refl
 
 -- a word that comes leaves every latest word
@@ -201,35 +201,35 @@ latest_by-in room p ms x =
     (λ (full : room ≤ length (entered room ms) - taken room ms). (let q = queue-in_full room ms x (none_from (latch room ms) l) full in latest_by-same room p ms (In x) [] (q.1 ∙ sym (append-nil (entered room ms))) q.2))
     (cases_lt (length (entered room ms) - taken room ms) room)) (cases_Bool (is_some (latch room ms)))
 
-latest-arrive : (t : TableRows) (s : ℕ) (run : List Event) (b w k : ℕ) → is_odd w ≡ true → stream_of t b w ≡ Some k → refuses t b run (Some k) ≡ false → latest t s (run ++ Arrive b w ∷ []) ≡ latest t s run
+latest-arrive : (t : TableRows) (s : ℕ) (run : List Event) (b w k : ℕ) → is_odd w ≡ true → stream_of t b w ≡ Some k → refuses t b run (Some k) ≡ false → latest t s (run ++ Arrive w b ∷ []) ≡ latest t s run
 unfolding latest
 latest-arrive t s run b w k odd some free =
     let a = (stream_row t s).bus in
     ⊎_elim (λ (same : b ≡ a).
-    (let here : move_of t a run (Arrive b w) ≡ In (k, w) ∷ [] = (let P : ℕ → Type 0 = λ a. move_of t a run (Arrive b w) ≡ In (k, w) ∷ [] in subst P same (move_here t run b w k odd some free)) in
-    ap (λ ms. latest_by (room t a) (is_of s) ms) (moves-push t a run (Arrive b w) ∙ ap (λ m. moves t a run ++ m) here) ∙ latest_by-in (room t a) (is_of s) (moves t a run) (k, w)))
-    (λ (other : b ≡ a → ⊥). latest-other t s run (Arrive b w) (move_elsewhere t run a b w (ne_eqb b a other))) (cases_eq b a)
+    (let here : move_of t a run (Arrive w b) ≡ In (k, w) ∷ [] = (let P : ℕ → Type 0 = λ a. move_of t a run (Arrive w b) ≡ In (k, w) ∷ [] in subst P same (move_here t run b w k odd some free)) in
+    ap (λ ms. latest_by (room t a) (is_of s) ms) (moves-push t a run (Arrive w b) ∙ ap (λ m. moves t a run ++ m) here) ∙ latest_by-in (room t a) (is_of s) (moves t a run) (k, w)))
+    (λ (other : b ≡ a → ⊥). latest-other t s run (Arrive w b) (move_elsewhere t run a b w (ne_eqb b a other))) (cases_eq b a)
 
 pub standing-arrive : (t : TableRows) (now : ℕ) (buses buses' : ℕ → BusData) (lasts : List (Option (ℕ × ℕ))) (routers : List RouterState) (outputs : List OutputState) (run : List Event) (b w s : ℕ) (r : Reply) (new : BusData)
     → b < length t.buses → Changes b new buses buses' → is_odd w ≡ true → stream_of t b w ≡ Some s → refuses t b run (Some s) ≡ false
     → Receives (buses b) w r new
-    → Standing t now buses lasts routers outputs run → Standing t now buses' lasts routers outputs (run ++ Arrive b w ∷ []) × (r ≡ reply t run (Arrive b w))
+    → Standing t now buses lasts routers outputs run → Standing t now buses' lasts routers outputs (run ++ Arrive w b ∷ []) × (r ≡ reply t run (Arrive w b))
 unfolding reply
 standing-arrive t now buses buses' lasts routers outputs run b w s r new lt ch odd some free d h =
     let got = received (room t b) (buses b) new (moves t b run) (s, w) r (h.queues b lt) d in
-    let more : moves t b (run ++ Arrive b w ∷ []) ≡ moves t b run ++ In (s, w) ∷ [] = moves-push t b run (Arrive b w) ∙ ap (λ m. moves t b run ++ m) (move_here t run b w s odd some free) in
+    let more : moves t b (run ++ Arrive w b ∷ []) ≡ moves t b run ++ In (s, w) ∷ [] = moves-push t b run (Arrive w b) ∙ ap (λ m. moves t b run ++ m) (move_here t run b w s odd some free) in
     let same_bus : buses' b ≡ new = ch.here in (
       record {
-        kept = keeps-nothing t run (Arrive b w) h.kept refl (λ r. refl) (λ o. refl);
-        clock = h.clock ∙ sym (calm run (Arrive b w) refl);
+        kept = keeps-nothing t run (Arrive w b) h.kept refl (λ r. refl) (λ o. refl);
+        clock = h.clock ∙ sym (calm run (Arrive w b) refl);
         queues = λ a l. ⊎_elim
-            (λ (same : b ≡ a). (let P : ℕ → Type 0 = λ a. HoldsQueue (room t a) (buses' a) (moves t a (run ++ Arrive b w ∷ [])) in
+            (λ (same : b ≡ a). (let P : ℕ → Type 0 = λ a. HoldsQueue (room t a) (buses' a) (moves t a (run ++ Arrive w b ∷ [])) in
             subst P same (rw (same_bus, more) got.holds)))
             (λ (other : b ≡ a → ⊥). (let kept : buses' a ≡ buses a = ch.elsewhere a other in
-            rw kept (queue-same t a _ run (run ++ Arrive b w ∷ []) (moves-other t a run (Arrive b w) (move_elsewhere t run a b w (ne_eqb b a other))) (h.queues a l)))) (cases_eq b a);
-        words = λ k l. words-same t k run (run ++ Arrive b w ∷ []) _ (latest-arrive t k run b w s odd some free) (h.words k l);
-        turns = λ r l. router-other t r _ run (Arrive b w) refl refl (h.turns r l);
-        sendings = λ o l. output-other t o _ run (Arrive b w) refl refl (h.sendings o l);
+            rw kept (queue-same t a _ run (run ++ Arrive w b ∷ []) (moves-other t a run (Arrive w b) (move_elsewhere t run a b w (ne_eqb b a other))) (h.queues a l)))) (cases_eq b a);
+        words = λ k l. words-same t k run (run ++ Arrive w b ∷ []) _ (latest-arrive t k run b w s odd some free) (h.words k l);
+        turns = λ r l. router-other t r _ run (Arrive w b) refl refl (h.turns r l);
+        sendings = λ o l. output-other t o _ run (Arrive w b) refl refl (h.sendings o l);
       },
       rw (odd, some, free, more) got.answer,
     )

@@ -33,7 +33,7 @@ pub record Receives (old : BusData) (w : ℕ) (r : Reply) (new : BusData) : Type
 -- the reply to a visit of the bus that takes this word, or none
 abbrev pub visit_reply_of : ℕ → Option ℕ → Reply
 visit_reply_of b None = Empty b
-visit_reply_of b (Some w) = Took b w
+visit_reply_of b (Some w) = Took w b
 
 -- a router after a step
 abbrev pub router_stepped : TableRows → RouterState → RouterState

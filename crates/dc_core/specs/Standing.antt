@@ -16,6 +16,7 @@ use Rattle.dc_core.specs.declared.fault.StepFault.{StepFault}
 use Rattle.dc_core.specs.declared.fault.StepFault.TheVariants.{Spent, TooSoon, Owed, TickLimit, Unknown}
 use Rattle.dc_core.specs.declared.parts.RouterState.{RouterState}
 use Rattle.dc_core.specs.declared.parts.OutputState.{OutputState}
+use Rattle.dc_core.specs.declared.limits.TheConstants.{LAST_TICK}
 use Rattle.dc_bound.specs.Window.{IsLast}
 use Rattle.dc_core.specs.Windows.{HoldsSteps}
 use Rattle.dc_core.specs.Parts.{BusData, no_router, no_output}
@@ -70,13 +71,13 @@ paces_after t paces now b s = cond (is_policed t b) (slice_set paces s (max now 
 -- the event's number is in the tables, the tick stays within its limit, and the run with the event keeps the budgets
 pub record MayFollow (t : TableRows) (run : List Event) (e : Event) : Type 0 where
   pub numbered : IsNumbered t e
-  pub early : tick_after (run ++ e ∷ []) ≤ 2 ^ 40
+  pub early : tick_after (run ++ e ∷ []) ≤ LAST_TICK
   pub keeps : KeepsBudgets t (run ++ e ∷ [])
 
 -- what each fault says of the run and the event
 abbrev pub IsFault : TableRows → List Event → Event → StepFault → Type 0
 IsFault t run e Unknown = ¬ IsNumbered t e
-IsFault t run e TickLimit = (e ≡ Tick) × (2 ^ 40 < tick_after (run ++ e ∷ []))
-IsFault t run e (Owed a) = (e ≡ Tick) × (tick_after (run ++ e ∷ []) ≤ 2 ^ 40) × IsFirstLacking t run a
+IsFault t run e TickLimit = (e ≡ Tick) × (LAST_TICK < tick_after (run ++ e ∷ []))
+IsFault t run e (Owed a) = (e ≡ Tick) × (tick_after (run ++ e ∷ []) ≤ LAST_TICK) × IsFirstLacking t run a
 IsFault t run e Spent = (r : ℕ) × (e ≡ Route r) × (r < length t.routers) × (¬ HoldAtMost (router_row t r).most 1 (route_ticks r (run ++ e ∷ [])))
 IsFault t run e TooSoon = (o : ℕ) × (e ≡ Send o) × (o < length t.outputs) × (¬ HoldAtMost 1 (output_row t o).gap (send_ticks o (run ++ e ∷ [])))

@@ -7,6 +7,7 @@ use Rattle.dc_event.specs.declared.event.Event.{Event}
 use Rattle.dc_event.specs.declared.event.Reply.{Reply}
 use Rattle.dc_core.specs.declared.fault.StepFault.{StepFault}
 use Rattle.dc_core.specs.declared.machine.State.{State}
+use Rattle.dc_core.specs.declared.limits.TheConstants.{LAST_TICK}
 use Rattle.dc_core.specs.declared.parts.RouterState.{RouterState}
 use Rattle.dc_core.specs.Parts.{bus_at, no_router}
 use Rattle.dc_core.specs.Standing.{Standing, HoldsPaces, MayFollow, IsFault}
@@ -24,7 +25,7 @@ pub record IsSized (t : TableRows) (s : State) : Type 0 where
   pub routers : length s.routers.items ≡ length t.routers
   pub numbers : AreNumbered t s.routers.items
   pub outputs : length s.outputs.items ≡ length t.outputs
-  pub early : s.tick ≤ 2 ^ 40
+  pub early : s.tick ≤ LAST_TICK
 
 -- the state stands for a run
 abbrev pub StandsFor : TableRows → State → List Event → Type 0

@@ -3,8 +3,10 @@ ghost use Rattle.dc_core.specs.Standing.{refuses_now, paces_after};
 ghost use Rattle.dc_event.specs.Replies.{reply};
 ghost use Rattle.dc_core.specs.Lacking.{too_soon};
 ghost use Rattle.dc_core.specs.Parts.{no_router, no_output, router_turned, output_turned};
+ghost use Rattle.dc_core.specs.declared.limits.TheConstants.{LAST_TICK};
 
 use crate::fault::StepFault;
+use crate::limits::LAST_TICK;
 use crate::parts::{OutputState, RouterState, receive, visit_reply};
 use crate::start::{fresh_outputs, fresh_queues, fresh_routers, no_latches, no_paces};
 use dc_event::{Actor, Event, Reply};
@@ -14,9 +16,6 @@ use dc_tables::Tables;
 use dc_transmit::Schedule;
 use dc_word::Word;
 use std::alloc::{AllocError, Global};
-
-/// The last tick of a run.
-const LAST_TICK: u64 = 1 << 40;
 
 /// The state of the concentrator, without its tables, which each call is lent.
 #[derive(Drop)]
@@ -60,7 +59,7 @@ impl State {
         requires sized { IsSized tables.now self.old }
         ensures sized { IsSized tables.now self.new }
         ensures err { OnErr result (self.new ≡ self.old) }
-        ensures step { (run : List Event) → StandsFor tables.now self.old run → StepsTo tables.now self.new run (Event.Arrive bus word) result }
+        ensures step { (run : List Event) → StandsFor tables.now self.old run → StepsTo tables.now self.new run (Event.Arrive word bus) result }
     {
         if bus >= self.queues.len() {
             return Err(StepFault::Unknown);
@@ -170,8 +169,8 @@ impl State {
     /// Applies one event.
     ///
     /// # Errors
-    /// Exactly where the event's number is not in the tables, the tick would pass 2^40, or the run with the event would break
-    /// a budget. The state is unchanged then.
+    /// Exactly where the event's number is not in the tables, the tick would pass [`LAST_TICK`], or the run with the event
+    /// would break a budget. The state is unchanged then.
     pub fn apply(&mut self, tables: &Tables, event: Event) -> Result<Reply, StepFault>
         requires sized { IsSized tables.now self.old }
         ensures sized { IsSized tables.now self.new }
@@ -179,7 +178,7 @@ impl State {
         ensures step { (run : List Event) → StandsFor tables.now self.old run → StepsTo tables.now self.new run event result }
     {
         match event {
-            Event::Arrive(bus, word) => self.arrive(tables, bus, word),
+            Event::Arrive(word, bus) => self.arrive(tables, bus, word),
             Event::Route(router) => self.route(tables, router),
             Event::Send(output) => self.send(tables, output),
             Event::Tick => self.end_tick(tables),
@@ -192,7 +191,7 @@ fn refuses(tables: &Tables, paces: &mut Vec<u64>, tick: u64, bus: usize, stream:
     requires bus { bus < length tables.now.buses }
     requires stream { stream < length tables.now.streams }
     requires sized { length paces.old.items ≡ length tables.now.streams }
-    requires early { tick ≤ 2 ^ 40 }
+    requires early { tick ≤ LAST_TICK }
     ensures test { result ≡ refuses_now tables.now paces.old.items tick bus stream }
     ensures refused { result ≡ true → paces.new.items ≡ paces.old.items }
     ensures let_in { result ≡ false → paces.new.items ≡ paces_after tables.now paces.old.items tick bus stream }

@@ -31,7 +31,7 @@ pub fn visit_reply(bus: usize, taken: Option<Word>) -> Reply
     ensures { result ≡ visit_reply_of bus taken }
 {
     match taken {
-        Some(word) => Reply::Took(bus, word),
+        Some(word) => Reply::Took(word, bus),
         None => Reply::Empty(bus),
     }
 }
@@ -135,7 +135,7 @@ mod tests {
 
     #[test]
     fn visits_are_reported_with_their_bus(rt: HostRuntime) {
-        assert_eq!(rt; visit_reply(3, Some(Word(7))), Reply::Took(3, Word(7)));
+        assert_eq!(rt; visit_reply(3, Some(Word(7))), Reply::Took(Word(7), 3));
         assert_eq!(rt; visit_reply(3, None), Reply::Empty(3));
     }
 

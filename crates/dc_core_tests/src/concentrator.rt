@@ -18,7 +18,7 @@ fn numbers_that_are_not_in_the_tables_are_unknown(rt: HostRuntime) -> Result<(),
         &[
             (Event::Route(1), Err(StepFault::Unknown)),
             (Event::Send(1), Err(StepFault::Unknown)),
-            (Event::Arrive(1, Word(0x6000_00C1)), Err(StepFault::Unknown)),
+            (Event::Arrive(Word(0x6000_00C1), 1), Err(StepFault::Unknown)),
         ],
     )
 }
@@ -90,11 +90,11 @@ fn a_full_queue_loses_a_word_and_latches(rt: HostRuntime) -> Result<(), Fail> {
         small,
         &[0],
         &[
-            (Event::Arrive(0, first), Ok(Reply::Queued(1))),
-            (Event::Arrive(0, Word(0xE000_0021)), Ok(Reply::Overrun)),
-            (Event::Arrive(0, first), Ok(Reply::Latched)),
-            (Event::Route(0), Ok(Reply::Took(0, first))),
-            (Event::Arrive(0, first), Ok(Reply::Latched)),
+            (Event::Arrive(first, 0), Ok(Reply::Queued(1))),
+            (Event::Arrive(Word(0xE000_0021), 0), Ok(Reply::Overrun)),
+            (Event::Arrive(first, 0), Ok(Reply::Latched)),
+            (Event::Route(0), Ok(Reply::Took(first, 0))),
+            (Event::Arrive(first, 0), Ok(Reply::Latched)),
             (Event::Route(0), Ok(Reply::Empty(0))),
             (Event::Send(0), Ok(Reply::Sent(label, Word(0xA000_00C1)))),
         ],
@@ -109,9 +109,9 @@ fn even_parity_is_reported_before_the_label(rt: HostRuntime) -> Result<(), Fail>
         SMALL,
         &[0],
         &[
-            (Event::Arrive(0, Word(0x2000_00C1)), Ok(Reply::BadParity)),
-            (Event::Arrive(0, Word(0x6000_0081)), Ok(Reply::BadParity)),
-            (Event::Arrive(0, Word(0xE000_0081)), Ok(Reply::Undeclared)),
+            (Event::Arrive(Word(0x2000_00C1), 0), Ok(Reply::BadParity)),
+            (Event::Arrive(Word(0x6000_0081), 0), Ok(Reply::BadParity)),
+            (Event::Arrive(Word(0xE000_0081), 0), Ok(Reply::Undeclared)),
             (Event::Route(0), Ok(Reply::Empty(0))),
         ],
     )

@@ -26,13 +26,13 @@ fn words_are_routed_in_the_order_of_their_arrival(rt: HostRuntime) -> Result<(),
         &[0],
         &[
             (Event::Route(0), Ok(Reply::Empty(0))),
-            (Event::Arrive(0, NORMAL), Ok(Reply::Queued(1))),
-            (Event::Arrive(0, second), Ok(Reply::Queued(2))),
+            (Event::Arrive(NORMAL, 0), Ok(Reply::Queued(1))),
+            (Event::Arrive(second, 0), Ok(Reply::Queued(2))),
             (Event::Send(0), Ok(Reply::Sent(label, FALLBACK))),
             (Event::Tick, Ok(Reply::Now(1))),
-            (Event::Route(0), Ok(Reply::Took(0, NORMAL))),
+            (Event::Route(0), Ok(Reply::Took(NORMAL, 0))),
             (Event::Tick, Ok(Reply::Now(2))),
-            (Event::Route(0), Ok(Reply::Took(0, second))),
+            (Event::Route(0), Ok(Reply::Took(second, 0))),
         ],
     )
 }
@@ -52,8 +52,8 @@ fn a_word_is_sent_once_it_is_routed(rt: HostRuntime) -> Result<(), Fail> {
             SMALL,
             &[0],
             &[
-                (Event::Arrive(0, arrived), Ok(Reply::Queued(1))),
-                (Event::Route(0), Ok(Reply::Took(0, arrived))),
+                (Event::Arrive(arrived, 0), Ok(Reply::Queued(1))),
+                (Event::Route(0), Ok(Reply::Took(arrived, 0))),
                 (Event::Send(0), Ok(Reply::Sent(label, sent))),
             ],
         )?;
@@ -70,9 +70,9 @@ fn a_word_that_still_waits_is_not_sent(rt: HostRuntime) -> Result<(), Fail> {
         SMALL,
         &[0],
         &[
-            (Event::Arrive(0, NORMAL), Ok(Reply::Queued(1))),
+            (Event::Arrive(NORMAL, 0), Ok(Reply::Queued(1))),
             (Event::Send(0), Ok(Reply::Sent(label, FALLBACK))),
-            (Event::Route(0), Ok(Reply::Took(0, NORMAL))),
+            (Event::Route(0), Ok(Reply::Took(NORMAL, 0))),
         ],
     )
 }
@@ -86,9 +86,9 @@ fn ticks_of(rt: &impl Abort, core: &mut Core, label: Label, arrival: u64, last: 
             compare(
                 rt,
                 core,
-                &[(Event::Arrive(0, NORMAL), Ok(Reply::Queued(1)))],
+                &[(Event::Arrive(NORMAL, 0), Ok(Reply::Queued(1)))],
             );
-            routed = Reply::Took(0, NORMAL);
+            routed = Reply::Took(NORMAL, 0);
         }
         let sent = match tick {
             0 => Reply::Sent(label, FALLBACK),
@@ -132,8 +132,8 @@ fn late_sends_catch_up_in_the_order_of_offsets(rt: HostRuntime) -> Result<(), Fa
             (Event::Route(0), Ok(Reply::Empty(0))),
             (Event::Send(0), Ok(Reply::Sent(label, FALLBACK))),
             (Event::Tick, Ok(Reply::Now(2))),
-            (Event::Arrive(0, NORMAL), Ok(Reply::Queued(1))),
-            (Event::Route(0), Ok(Reply::Took(0, NORMAL))),
+            (Event::Arrive(NORMAL, 0), Ok(Reply::Queued(1))),
+            (Event::Route(0), Ok(Reply::Took(NORMAL, 0))),
             (Event::Send(0), Ok(Reply::Sent(label, NORMAL))),
         ],
     )
@@ -150,10 +150,10 @@ fn a_usable_second_source_goes_before_an_unusable_first(rt: HostRuntime) -> Resu
         TWO_BUSES,
         &[0],
         &[
-            (Event::Arrive(0, unusable), Ok(Reply::Queued(1))),
-            (Event::Arrive(1, usable), Ok(Reply::Queued(1))),
-            (Event::Route(0), Ok(Reply::Took(0, unusable))),
-            (Event::Route(0), Ok(Reply::Took(1, usable))),
+            (Event::Arrive(unusable, 0), Ok(Reply::Queued(1))),
+            (Event::Arrive(usable, 1), Ok(Reply::Queued(1))),
+            (Event::Route(0), Ok(Reply::Took(unusable, 0))),
+            (Event::Route(0), Ok(Reply::Took(usable, 1))),
             (Event::Send(0), Ok(Reply::Sent(label, usable))),
         ],
     )

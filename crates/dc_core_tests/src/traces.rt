@@ -16,7 +16,7 @@ const TRACE: &[u8] = b"A A 600000C1\nR R1\nS O\nT\n";
 /// The events of these lines.
 fn events() -> [Event; 4] {
     [
-        Event::Arrive(0, Word(0x6000_00C1)),
+        Event::Arrive(Word(0x6000_00C1), 0),
         Event::Route(0),
         Event::Send(0),
         Event::Tick,
@@ -44,7 +44,7 @@ fn next_line_of(
             return Some(reported);
         }
         assert!(rt; source.failures() < 1000);
-        lines.pull(source, &nothing, &Nowhere);
+        lines.pull(source, &nothing, &mut Nowhere);
     }
     None
 }

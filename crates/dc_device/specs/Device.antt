@@ -1,5 +1,5 @@
 -- What a device's calls say.
-use Rattle.std.specs.Prelude.{◌≡◌, ℕ, ◌+◌, ◌-◌, ◌^◌, ◌<◌, ◌≤◌, ◌==◌, if◌then◌else◌, min, Bool, true, false, List, length, take, MatchResult, Option, Result, Ok, Err}
+use Rattle.std.specs.Prelude.{◌≡◌, ℕ, ◌+◌, ◌-◌, ◌^◌, ◌<◌, ◌≤◌, ◌==◌, if◌then◌else◌, min, Bool, true, false, List, length, take, MatchResult, Option, None, Some, Result, Ok, Err}
 use Rattle.std.specs.Io.KnownBytes.{Appends, Keeps}
 
 -- how many failures a result counts
@@ -31,12 +31,17 @@ abbrev pub Settles : {T E : Type 0} → Result T E → Bool → Bool → Type 0
 Settles (Ok x) last_failed hidden = hidden ≡ false
 Settles (Err e) last_failed hidden = last_failed ≡ true
 
+-- what was seen, where that is known, is all of these bytes
+abbrev pub IsSnapshot : Option (List ℕ) → Option (List ℕ) → Type 0
+IsSnapshot contents None = Unit {0}
+IsSnapshot contents (Some seen) = contents ≡ Some seen
+
 -- how many pulls give no byte in a call that says whether there are more
 abbrev pub stops_in : {E : Type 0} → Result Bool E → ℕ
 stops_in (Ok true) = 0
 stops_in (Ok false) = 1
 stops_in (Err e) = 1
 
--- A source that may give so many bytes was pulled at most once more than that, and not again after a pull that gave none.
+-- A source that may give so many bytes was pulled at most once more than that, and at most one pull gave none.
 abbrev pub AsksUpTo : ℕ → ℕ → ℕ → ℕ → ℕ → Type 0
 AsksUpTo limit asked asked' dry dry' = (asked' ≤ asked + limit + 1) × (dry' ≤ dry + 1)

@@ -1,7 +1,7 @@
 //! The two kinds of device.
 ghost use Rattle.std.specs.Prelude.{◌≡◌, ℕ, List, Option, Bool, false, ◌+◌, ◌^◌, ◌<◌, ◌≤◌, length, IfOk};
 ghost use Rattle.std.specs.Io.KnownBytes.{Keeps, ReadConsumes};
-ghost use Rattle.dc_device.specs.Device.{PushAppends, count_on, dry_after, failures_of, is_failure};
+ghost use Rattle.dc_device.specs.Device.{IsSnapshot, PushAppends, count_on, dry_after, failures_of, is_failure};
 
 /// A device's call failed.
 #[derive(Clone, Copy, Debug, PartialEq, Eq)]
@@ -58,12 +58,16 @@ pub trait Sink {
     // Whether it took bytes that not everyone sees.
     ghost hidden: { Self → Bool };
 
+    // What everyone saw of it when a source was last asked for more, where that is known.
+    ghost answered: { Self → Option (List ℕ) };
+
     /// Takes the front of the bytes, and says how many: one or more where there is one. `Broken` takes none.
     fn push(&mut self, bytes: &[u8]) -> Result<usize, Broken>
         requires { failed self.old + 1 < 2 ^ 64 }
         ensures bytes { PushAppends (contents self.old) (contents self.new) result bytes.now }
         ensures count { failed self.new ≡ failed self.old + failures_of result }
-        ensures last { last_failed self.new ≡ is_failure result };
+        ensures last { last_failed self.new ≡ is_failure result }
+        ensures answered { answered self.new ≡ answered self.old };
 
     /// Lets everyone see what it has taken.
     fn flush(&mut self) -> Result<(), Broken>
@@ -71,7 +75,17 @@ pub trait Sink {
         ensures bytes { Keeps (contents self.old) (contents self.new) }
         ensures count { failed self.new ≡ failed self.old + failures_of result }
         ensures last { last_failed self.new ≡ is_failure result }
-        ensures seen { IfOk result (λ _. hidden self.new ≡ false) };
+        ensures seen { IfOk result (λ _. hidden self.new ≡ false) }
+        ensures answered { answered self.new ≡ answered self.old };
+
+    /// A source is asked for more, when everyone sees all that was taken.
+    fn note_ask(&mut self)
+        requires { hidden self.old ≡ false }
+        ensures answered { IsSnapshot (contents self.old) (answered self.new) }
+        ensures bytes { contents self.new ≡ contents self.old }
+        ensures count { failed self.new ≡ failed self.old }
+        ensures last { last_failed self.new ≡ last_failed self.old }
+        ensures seen { hidden self.new ≡ false };
 
     /// How many calls have failed.
     fn failures(&self) -> u64

@@ -98,6 +98,7 @@ impl<'a> Source for MemSource<'a> {
 pub struct MemSink {
     bytes: Vec<u8>,
     shown: usize,
+    answered: usize,
     room: usize,
     fails_in: u64,
     flush_fails_in: u64,
@@ -105,17 +106,19 @@ pub struct MemSink {
     has_failed: bool,
     ghost within: { length bytes.items ≤ room },
     ghost inside: { shown ≤ length bytes.items },
+    ghost earlier: { answered ≤ length bytes.items },
 }
 
 impl MemSink {
     /// Room for so many bytes. The push of number `fails_at`, from 1 on, fails; for 0 none does.
     pub fn new(alloc: Global, room: usize, fails_at: u64) -> Result<Self, AllocError>
         ensures { IfOk result (λ s. (s.bytes.items ≡ []) × (s.failures ≡ 0) × (s.room ≡ room)
-            × (s.fails_in ≡ fails_at) × (s.shown ≡ 0) × (s.flush_fails_in ≡ 0)) }
+            × (s.fails_in ≡ fails_at) × (s.shown ≡ 0) × (s.answered ≡ 0) × (s.flush_fails_in ≡ 0)) }
     {
         Ok(MemSink {
             bytes: Vec::with_capacity(alloc, room)?,
             shown: 0,
+            answered: 0,
             room,
             fails_in: fails_at,
             flush_fails_in: 0,
@@ -129,6 +132,7 @@ impl MemSink {
         ensures flush { self.new.flush_fails_in ≡ number }
         ensures bytes { self.new.bytes.items ≡ self.old.bytes.items }
         ensures shown { self.new.shown ≡ self.old.shown }
+        ensures answered { self.new.answered ≡ self.old.answered }
         ensures failures { self.new.failures ≡ self.old.failures }
         ensures room { self.new.room ≡ self.old.room }
         ensures fails { self.new.fails_in ≡ self.old.fails_in }
@@ -149,6 +153,13 @@ impl MemSink {
     {
         &self.bytes.as_slice()[..self.shown]
     }
+
+    /// What everyone saw of it when a source was last asked for more.
+    pub fn answered(&self) -> &[u8]
+        ensures { result.now ≡ take self.now.answered self.now.bytes.items }
+    {
+        &self.bytes.as_slice()[..self.answered]
+    }
 }
 
 impl Sink for MemSink {
@@ -160,6 +171,8 @@ impl Sink for MemSink {
 
     ghost hidden = { λ s. nat_lt s.shown (length s.bytes.items) };
 
+    ghost answered = { λ s. Some (take s.answered s.bytes.items) };
+
     fn push(&mut self, bytes: &[u8]) -> Result<usize, Broken>
         requires { self.old.failures + 1 < 2 ^ 64 }
         ensures bytes { PushAppends (Some self.old.bytes.items) (Some self.new.bytes.items) result bytes.now }
@@ -168,6 +181,7 @@ impl Sink for MemSink {
         ensures fails { IfOk result (λ n. self.old.fails_in ≢ 1) }
         ensures next { self.new.fails_in ≡ self.old.fails_in - 1 }
         ensures shown { self.new.shown ≡ self.old.shown }
+        ensures answered { take self.new.answered self.new.bytes.items ≡ take self.old.answered self.old.bytes.items }
         ensures room { self.new.room ≡ self.old.room }
         ensures flush { self.new.flush_fails_in ≡ self.old.flush_fails_in }
     {
@@ -206,6 +220,7 @@ impl Sink for MemSink {
         ensures shown { MatchResult result (λ _. self.new.shown ≡ length self.old.bytes.items) (λ _. self.new.shown ≡ self.old.shown) }
         ensures room { self.new.room ≡ self.old.room }
         ensures push { self.new.fails_in ≡ self.old.fails_in }
+        ensures answered { self.new.answered ≡ self.old.answered }
     {
         if self.flush_fails_in == 1 {
             self.flush_fails_in = 0;
@@ -217,6 +232,19 @@ impl Sink for MemSink {
         self.shown = self.bytes.len();
         self.has_failed = false;
         Ok(())
+    }
+
+    fn note_ask(&mut self)
+        ensures answered { self.new.answered ≡ length self.old.bytes.items }
+        ensures bytes { self.new.bytes.items ≡ self.old.bytes.items }
+        ensures shown { self.new.shown ≡ self.old.shown }
+        ensures count { self.new.failures ≡ self.old.failures }
+        ensures last { self.new.has_failed ≡ self.old.has_failed }
+        ensures room { self.new.room ≡ self.old.room }
+        ensures push { self.new.fails_in ≡ self.old.fails_in }
+        ensures flush { self.new.flush_fails_in ≡ self.old.flush_fails_in }
+    {
+        self.answered = self.bytes.len();
     }
 
     fn failures(&self) -> u64 {

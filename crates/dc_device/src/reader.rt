@@ -1,6 +1,6 @@
 //! The lines of a source, through one fixed buffer.
 ghost use Rattle.std.specs.Prelude.{◌≡◌, ◌∷◌, [], ◌+◌, ◌^◌, ◌<◌, ◌≤◌, MatchOption, drop, false, length, take};
-ghost use Rattle.dc_device.specs.Device.{count_on, failures_of, stops_in};
+ghost use Rattle.dc_device.specs.Device.{IsSnapshot, count_on, failures_of, stops_in};
 ghost use Rattle.dc_device.specs.Lines.{Fills, HasNoLine, HoldsLine, NoFeed, ReadsOn};
 
 use crate::device::{Broken, Sink, Source};
@@ -143,18 +143,24 @@ impl LineReader {
         &mut self,
         source: &mut S,
         written: &LineWriter,
-        sink: &K,
+        sink: &mut K,
     ) -> Result<bool, Broken>
         requires empty { self.old.bytes ≡ [] }
         requires seen { written.now ≡ [] }
-        requires shown { K.hidden sink.now ≡ false }
+        requires shown { K.hidden sink.old ≡ false }
         requires countable { S.failed source.old + 1 < 2 ^ 64 }
         ensures bytes { Fills (S.remaining source.old) (S.remaining source.new) self.new.bytes result }
         ensures room { self.new.room ≡ self.old.room }
         ensures count { S.failed source.new ≡ S.failed source.old + failures_of result }
         ensures pulls { S.asked source.new ≡ count_on (S.asked source.old) }
         ensures dry_pulls { S.dry source.new ≤ S.dry source.old + stops_in result }
+        ensures answered { IsSnapshot (K.contents sink.old) (K.answered sink.new) }
+        ensures kept { K.contents sink.new ≡ K.contents sink.old }
+        ensures sink { K.failed sink.new ≡ K.failed sink.old }
+        ensures last { K.last_failed sink.new ≡ K.last_failed sink.old }
+        ensures seen { K.hidden sink.new ≡ false }
     {
+        sink.note_ask();
         self.at = 0;
         self.end = 0;
         let n = source.pull(&mut self.block)?;

@@ -1,5 +1,5 @@
 //! What no clause says: the devices over memory, each public call once, and calls that fail in mid-stream.
-ghost use Rattle.std.specs.Prelude.{Some, length, nat_lt};
+ghost use Rattle.std.specs.Prelude.{Some, length, nat_lt, take};
 
 use super::*;
 use std::alloc::{AllocError, Global};
@@ -116,7 +116,7 @@ fn a_line_is_read_where_it_stands(rt: HostRuntime) {
     for (limit, first, second) in [(4, Some(2), Some(0)), (3, Some(2), None), (2, None, None)] {
         let mut source = MemSource::new(b"ab\n\nc", 9, 0);
         let mut reader = LineReader::new(limit);
-        assert_eq!(rt; reader.fill(&mut source, &nothing, &Nowhere), Ok(true));
+        assert_eq!(rt; reader.fill(&mut source, &nothing, &mut Nowhere), Ok(true));
         assert_eq!(rt; held_length(&mut reader), first, "up to {limit}");
         assert_eq!(rt; held_length(&mut reader), second, "up to {limit}");
         assert_eq!(rt; held_length(&mut reader), None, "up to {limit}");
@@ -163,6 +163,8 @@ impl Sink for DripSink {
 
     ghost hidden = { λ s. nat_lt s.0.shown (length s.0.bytes.items) };
 
+    ghost answered = { λ s. Some (take s.0.answered s.0.bytes.items) };
+
     fn push(&mut self, bytes: &[u8]) -> Result<usize, Broken> {
         let DripSink(sink) = self;
         sink.push(&bytes[..bytes.len().min(1)])
@@ -171,6 +173,11 @@ impl Sink for DripSink {
     fn flush(&mut self) -> Result<(), Broken> {
         let DripSink(sink) = self;
         sink.flush()
+    }
+
+    fn note_ask(&mut self) {
+        let DripSink(sink) = self;
+        sink.note_ask();
     }
 
     fn failures(&self) -> u64 {
@@ -240,7 +247,7 @@ fn a_source_may_fail_at_any_pull_and_is_read_on(rt: HostRuntime) -> Result<(), F
             assert!(rt; pulls < 20);
             assert!(rt; source.failures() < 20);
             pulls += 1;
-            match reader.fill(&mut source, &nothing, &Nowhere) {
+            match reader.fill(&mut source, &nothing, &mut Nowhere) {
                 Ok(true) => {}
                 Ok(false) => break,
                 Err(Broken) => assert_eq!(rt; pulls, fails_at, "the pull that failed"),
@@ -250,6 +257,20 @@ fn a_source_may_fail_at_any_pull_and_is_read_on(rt: HostRuntime) -> Result<(), F
         assert_eq!(rt; source.failures(), 1);
         assert_eq!(rt; pulls, 7);
     }
+    Ok(())
+}
+
+#[test]
+fn a_sink_keeps_what_was_seen_at_the_last_ask(rt: HostRuntime) -> Result<(), Fail> {
+    let mut sink = MemSink::new(rt.alloc(), 100, 0)?;
+    assert_eq!(rt; sink.answered(), b"".as_slice());
+    assert_eq!(rt; sink.push(b"ab"), Ok(2));
+    sink.flush()?;
+    sink.note_ask();
+    assert_eq!(rt; sink.push(b"c"), Ok(1));
+    sink.flush()?;
+    assert_eq!(rt; sink.answered(), b"ab".as_slice());
+    assert_eq!(rt; sink.shown(), b"abc".as_slice());
     Ok(())
 }
 

@@ -19,7 +19,7 @@ pub enum Unread {
 }
 
 /// All the bytes that the source still gives, where these are at most so many. It pulls at most once more than that,
-/// and not again after a pull that gave no byte.
+/// and at most one pull gives no byte.
 pub fn read_at_most<S: Source>(
     alloc: Global,
     source: &mut S,

@@ -104,6 +104,8 @@ impl<W: Write + Drop> Sink for WriteSink<W> {
 
     ghost hidden = { λ s. s.hides };
 
+    ghost answered = { λ s. None };
+
     fn push(&mut self, bytes: &[u8]) -> Result<usize, Broken> {
         self.has_failed = true;
         self.hides = true;
@@ -138,6 +140,8 @@ impl<W: Write + Drop> Sink for WriteSink<W> {
         }
     }
 
+    fn note_ask(&mut self) {}
+
     fn failures(&self) -> u64 {
         self.failures
     }
@@ -160,6 +164,8 @@ impl Sink for Nowhere {
 
     ghost hidden = { λ s. false };
 
+    ghost answered = { λ s. None };
+
     fn push(&mut self, bytes: &[u8]) -> Result<usize, Broken> {
         Ok(bytes.len())
     }
@@ -167,6 +173,8 @@ impl Sink for Nowhere {
     fn flush(&mut self) -> Result<(), Broken> {
         Ok(())
     }
+
+    fn note_ask(&mut self) {}
 
     fn failures(&self) -> u64 {
         0

@@ -29,6 +29,7 @@ fn push_all<K: Sink>(sink: &mut K, bytes: &[u8]) -> Result<(), Broken>
     ensures bytes { Writes (K.contents sink.old) (K.contents sink.new) bytes.now result }
     ensures count { K.failed sink.new ≡ K.failed sink.old + failures_of result }
     ensures last { IfErr result (λ _. K.last_failed sink.new ≡ true) }
+    ensures answered { K.answered sink.new ≡ K.answered sink.old }
 {
     let mut rest = bytes;
     while !rest.is_empty() {
@@ -58,6 +59,7 @@ impl LineWriter {
         ensures empty { self.new ≡ [] }
         ensures count { K.failed sink.new ≡ K.failed sink.old + failures_of result }
         ensures settled { Settles result (K.last_failed sink.new) (K.hidden sink.new) }
+        ensures answered { K.answered sink.new ≡ K.answered sink.old }
     {
         if self.waiting.is_empty() && !sink.hides() {
             return Ok(());
@@ -83,6 +85,7 @@ impl LineWriter {
             bytes.now result }
         ensures count { K.failed sink.new ≡ K.failed sink.old + failures_of result }
         ensures last { IfErr result (λ _. K.last_failed sink.new ≡ true) }
+        ensures answered { K.answered sink.new ≡ K.answered sink.old }
     {
         if self.hold(bytes) {
             return Ok(());
@@ -101,6 +104,7 @@ impl LineWriter {
             (line.now ++ 10 ∷ []) result }
         ensures count { K.failed sink.new ≡ K.failed sink.old + failures_of result }
         ensures last { IfErr result (λ _. K.last_failed sink.new ≡ true) }
+        ensures answered { K.answered sink.new ≡ K.answered sink.old }
     {
         self.put(sink, line)?;
         self.put(sink, b"\n")

@@ -179,7 +179,7 @@ send_takes_nothing : (b l w : ℕ) (p : Bool) → taken_word b (if p then Sent l
 send_takes_nothing b l w true = refl
 send_takes_nothing b l w false = refl
 
-other_takes_nothing : (b a w : ℕ) (p : Bool) → eqb a b ≡ false → taken_word b (if p then Took a w else Empty a) ≡ []
+other_takes_nothing : (b a w : ℕ) (p : Bool) → eqb a b ≡ false → taken_word b (if p then Took w a else Empty a) ≡ []
 other_takes_nothing b a w true e = rw e refl
 other_takes_nothing b a w false e = refl
 
@@ -197,16 +197,16 @@ module _ (t : TableRows) (b : ℕ) (run : List Event) where
   unfolding reply
   step-tick = quiet Tick (front-tick (room t b) (moves t b run)) refl
 
-  step-arrive : (a w : ℕ) → Steps (Arrive a w)
+  step-arrive : (a w : ℕ) → Steps (Arrive w a)
   unfolding reply
   step-arrive a w =
       let R : ℕ = room t b in
-      let same : front (room t b) (moves t b run ++ move_of t b run (Arrive a w)) ≡ front (room t b) (moves t b run) =
+      let same : front (room t b) (moves t b run ++ move_of t b run (Arrive w a)) ≡ front (room t b) (moves t b run) =
       elim ((a == b) && is_odd w) as (λ v. front (room t b) (moves t b run ++ cond v (in_of (let_in t b run (stream_of t b w)) w) []) ≡ front (room t b) (moves t b run)) [
         | true ↦ front-arrival (room t b) (moves t b run) (let_in t b run (stream_of t b w)) w
         | false ↦ ap (front (room t b)) (append-nil (moves t b run))
       ] in
-      quiet (Arrive a w) same (arrival_takes_nothing b (backlog t a (run ++ Arrive a w ∷ [])) (not (is_odd w)) (not (is_some (stream_of t a w))) (refuses t a run (stream_of t a w)) (is_latched t a run) (is_latched t a (run ++ Arrive a w ∷ [])))
+      quiet (Arrive w a) same (arrival_takes_nothing b (backlog t a (run ++ Arrive w a ∷ [])) (not (is_odd w)) (not (is_some (stream_of t a w))) (refuses t a run (stream_of t a w)) (is_latched t a run) (is_latched t a (run ++ Arrive w a ∷ [])))
 
   step-send : (o : ℕ) → Steps (Send o)
   unfolding reply
@@ -229,7 +229,7 @@ module _ (t : TableRows) (b : ℕ) (run : List Event) where
       let next : moves t b (run ++ Route r ∷ []) ≡ moves t b run ++ Visit ∷ [] = moves-push t b run (Route r) ∙ ap (λ v. moves t b run ++ cond v (Visit ∷ []) []) yes' in
       let q = queue-visit (room t b) (moves t b run) in
       let taken_now : bus_taken t b (run ++ Route r ∷ []) ≡ taken (room t b) (moves t b run ++ Visit ∷ []) = ap (taken (room t b)) next in
-      let P : ℕ → Type 0 = λ a. front (room t b) (moves t b (run ++ Route r ∷ [])) ≡ front (room t b) (moves t b run) ++ taken_word b (if ltb (bus_taken t a run) (bus_taken t a (run ++ Route r ∷ [])) then Took a (bus_item t a run (bus_taken t a run)).1 else Empty a) in
+      let P : ℕ → Type 0 = λ a. front (room t b) (moves t b (run ++ Route r ∷ [])) ≡ front (room t b) (moves t b run) ++ taken_word b (if ltb (bus_taken t a run) (bus_taken t a (run ++ Route r ∷ [])) then Took (bus_item t a run (bus_taken t a run)).1 a else Empty a) in
       subst P (sym at) (elim (cases_lt (taken (room t b) (moves t b run)) (length (entered (room t b) (moves t b run)))) [
         | inl l ↦
             let more : ltb (bus_taken t b run) (bus_taken t b (run ++ Route r ∷ [])) ≡ true = lt-ltb _ _ (omega (arith, q.2, taken_now)) in
@@ -244,7 +244,7 @@ module _ (t : TableRows) (b : ℕ) (run : List Event) where
 
   step-each : (e : Event) → Steps e
   step-each Tick = step-tick
-  step-each (Arrive a w) = step-arrive a w
+  step-each (Arrive w a) = step-arrive a w
   step-each (Route r) = step-route r
   step-each (Send o) = step-send o
 

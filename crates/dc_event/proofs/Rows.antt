@@ -62,45 +62,45 @@ two_buses = record {
 
 -- ---- replies
 
-words_wait_and_are_taken : outputs_of (small 2) (Route 0 ∷ Arrive 0 0x600000C1 ∷ Arrive 0 0xE0000021 ∷ Send 0 ∷ Tick ∷ Route 0 ∷ Tick ∷ Route 0 ∷ [])
-    ≡ Empty 0 ∷ Queued 1 ∷ Queued 2 ∷ Sent 131 0xA00000C1 ∷ Now 1 ∷ Took 0 0x600000C1 ∷ Now 2 ∷ Took 0 0xE0000021 ∷ []
+words_wait_and_are_taken : outputs_of (small 2) (Route 0 ∷ Arrive 0x600000C1 0 ∷ Arrive 0xE0000021 0 ∷ Send 0 ∷ Tick ∷ Route 0 ∷ Tick ∷ Route 0 ∷ [])
+    ≡ Empty 0 ∷ Queued 1 ∷ Queued 2 ∷ Sent 131 0xA00000C1 ∷ Now 1 ∷ Took 0x600000C1 0 ∷ Now 2 ∷ Took 0xE0000021 0 ∷ []
 unfolding served_in first_place each_place reversed ones_in is_odd body_of composed_word copied_word fallback_word ticks picks stamped stream_of ins passed is_overfull latch entered taken routed_tick arrived_tick latest_number latest_by moves latest due_by sent fresh chosen_source reply outputs_of
 words_wait_and_are_taken = refl
 
-routed_word_is_copied : outputs_of (small 2) (Arrive 0 0x600000C1 ∷ Route 0 ∷ Send 0 ∷ [])
-    ≡ Queued 1 ∷ Took 0 0x600000C1 ∷ Sent 131 0x600000C1 ∷ []
+routed_word_is_copied : outputs_of (small 2) (Arrive 0x600000C1 0 ∷ Route 0 ∷ Send 0 ∷ [])
+    ≡ Queued 1 ∷ Took 0x600000C1 0 ∷ Sent 131 0x600000C1 ∷ []
 unfolding served_in first_place each_place reversed ones_in is_odd body_of composed_word copied_word fallback_word ticks picks stamped stream_of ins passed is_overfull latch entered taken routed_tick arrived_tick latest_number latest_by moves latest due_by sent fresh chosen_source reply outputs_of
 routed_word_is_copied = refl
 
-waiting_word_is_not_copied : outputs_of (small 2) (Arrive 0 0x600000C1 ∷ Send 0 ∷ Route 0 ∷ [])
-    ≡ Queued 1 ∷ Sent 131 0xA00000C1 ∷ Took 0 0x600000C1 ∷ []
+waiting_word_is_not_copied : outputs_of (small 2) (Arrive 0x600000C1 0 ∷ Send 0 ∷ Route 0 ∷ [])
+    ≡ Queued 1 ∷ Sent 131 0xA00000C1 ∷ Took 0x600000C1 0 ∷ []
 unfolding served_in first_place each_place reversed ones_in is_odd body_of composed_word copied_word fallback_word ticks picks stamped stream_of ins passed is_overfull latch entered taken routed_tick arrived_tick latest_number latest_by moves latest due_by sent fresh chosen_source reply outputs_of
 waiting_word_is_not_copied = refl
 
-latch_after_overrun : outputs_of (small 1) (Arrive 0 0x600000C1 ∷ Arrive 0 0xE0000021 ∷ Arrive 0 0x600000C1 ∷ Route 0 ∷ Arrive 0 0x600000C1 ∷ Send 0 ∷ [])
-    ≡ Queued 1 ∷ Overrun ∷ Latched ∷ Took 0 0x600000C1 ∷ Latched ∷ Sent 131 0xA00000C1 ∷ []
+latch_after_overrun : outputs_of (small 1) (Arrive 0x600000C1 0 ∷ Arrive 0xE0000021 0 ∷ Arrive 0x600000C1 0 ∷ Route 0 ∷ Arrive 0x600000C1 0 ∷ Send 0 ∷ [])
+    ≡ Queued 1 ∷ Overrun ∷ Latched ∷ Took 0x600000C1 0 ∷ Latched ∷ Sent 131 0xA00000C1 ∷ []
 unfolding served_in first_place each_place reversed ones_in is_odd body_of composed_word copied_word fallback_word ticks picks stamped stream_of ins passed is_overfull latch entered taken routed_tick arrived_tick latest_number latest_by moves latest due_by sent fresh chosen_source reply outputs_of
 latch_after_overrun = refl
 
-parity_before_declaration : outputs_of (small 2) (Arrive 0 0x200000C1 ∷ Arrive 0 0xE0000081 ∷ [])
+parity_before_declaration : outputs_of (small 2) (Arrive 0x200000C1 0 ∷ Arrive 0xE0000081 0 ∷ [])
     ≡ BadParity ∷ Undeclared ∷ []
 unfolding served_in first_place each_place reversed ones_in is_odd body_of composed_word copied_word fallback_word ticks picks stamped stream_of ins passed is_overfull latch entered taken routed_tick arrived_tick latest_number latest_by moves latest due_by sent fresh chosen_source reply outputs_of
 parity_before_declaration = refl
 
-copied_word_has_output_sdi : outputs_of (small 2) (Arrive 0 0xE00001C1 ∷ Route 0 ∷ Send 0 ∷ Send 0 ∷ [])
-    ≡ Queued 1 ∷ Took 0 0xE00001C1 ∷ Sent 131 0x600000C1 ∷ Idle ∷ []
+copied_word_has_output_sdi : outputs_of (small 2) (Arrive 0xE00001C1 0 ∷ Route 0 ∷ Send 0 ∷ Send 0 ∷ [])
+    ≡ Queued 1 ∷ Took 0xE00001C1 0 ∷ Sent 131 0x600000C1 ∷ Idle ∷ []
 unfolding served_in first_place each_place reversed ones_in is_odd body_of composed_word copied_word fallback_word ticks picks stamped stream_of ins passed is_overfull latch entered taken routed_tick arrived_tick latest_number latest_by moves latest due_by sent fresh chosen_source reply outputs_of
 copied_word_has_output_sdi = refl
 
 -- both entries leave late, and what they carry is chosen when they are sent
-late_entries_chosen_when_sent : outputs_of twice (Route 0 ∷ Tick ∷ Route 0 ∷ Send 0 ∷ Tick ∷ Arrive 0 0x600000C1 ∷ Route 0 ∷ Send 0 ∷ [])
-    ≡ Empty 0 ∷ Now 1 ∷ Empty 0 ∷ Sent 131 0xA00000C1 ∷ Now 2 ∷ Queued 1 ∷ Took 0 0x600000C1 ∷ Sent 131 0x600000C1 ∷ []
+late_entries_chosen_when_sent : outputs_of twice (Route 0 ∷ Tick ∷ Route 0 ∷ Send 0 ∷ Tick ∷ Arrive 0x600000C1 0 ∷ Route 0 ∷ Send 0 ∷ [])
+    ≡ Empty 0 ∷ Now 1 ∷ Empty 0 ∷ Sent 131 0xA00000C1 ∷ Now 2 ∷ Queued 1 ∷ Took 0x600000C1 0 ∷ Sent 131 0x600000C1 ∷ []
 unfolding served_in first_place each_place reversed ones_in is_odd body_of composed_word copied_word fallback_word ticks picks stamped stream_of ins passed is_overfull latch entered taken routed_tick arrived_tick latest_number latest_by moves latest due_by sent fresh chosen_source reply outputs_of
 late_entries_chosen_when_sent = refl
 
 -- the first source is fresh but not usable, so the second is copied
-usable_source_before_fresh : outputs_of two_buses (Arrive 0 0xA00000C1 ∷ Arrive 1 0xFFFFFCC1 ∷ Route 0 ∷ Route 0 ∷ Send 0 ∷ [])
-    ≡ Queued 1 ∷ Queued 1 ∷ Took 0 0xA00000C1 ∷ Took 1 0xFFFFFCC1 ∷ Sent 131 0xFFFFFCC1 ∷ []
+usable_source_before_fresh : outputs_of two_buses (Arrive 0xA00000C1 0 ∷ Arrive 0xFFFFFCC1 1 ∷ Route 0 ∷ Route 0 ∷ Send 0 ∷ [])
+    ≡ Queued 1 ∷ Queued 1 ∷ Took 0xA00000C1 0 ∷ Took 0xFFFFFCC1 1 ∷ Sent 131 0xFFFFFCC1 ∷ []
 unfolding served_in first_place each_place reversed ones_in is_odd body_of composed_word copied_word fallback_word ticks picks stamped stream_of ins passed is_overfull latch entered taken routed_tick arrived_tick latest_number latest_by moves latest due_by sent fresh chosen_source reply outputs_of
 usable_source_before_fresh = refl
 
@@ -114,13 +114,13 @@ policed queue jitter = record (small queue) {
 }
 
 -- a second word at once is early, one of another stream is not, and it is judged before the latch and the full queue
-second_word_is_early : outputs_of (policed 1 0) (Arrive 0 0x600000C1 ∷ Arrive 0 0x600000C1 ∷ Arrive 0 0xE0000021 ∷ Arrive 0 0x600000C1 ∷ Arrive 0 0x200000C1 ∷ Arrive 0 0xE0000081 ∷ [])
+second_word_is_early : outputs_of (policed 1 0) (Arrive 0x600000C1 0 ∷ Arrive 0x600000C1 0 ∷ Arrive 0xE0000021 0 ∷ Arrive 0x600000C1 0 ∷ Arrive 0x200000C1 0 ∷ Arrive 0xE0000081 0 ∷ [])
     ≡ Queued 1 ∷ TooEarly ∷ Overrun ∷ TooEarly ∷ BadParity ∷ Undeclared ∷ []
 unfolding would_pass admitted is_early count_in served_in first_place each_place reversed ones_in is_odd body_of composed_word copied_word fallback_word ticks picks stamped stream_of ins passed is_overfull latch entered taken routed_tick arrived_tick latest_number latest_by moves latest due_by sent fresh chosen_source reply outputs_of
 second_word_is_early = refl
 
 -- with a jitter of ten ticks the second is not early, and the third is
-third_word_is_early : outputs_of (policed 4 10) (Arrive 0 0x600000C1 ∷ Arrive 0 0x600000C1 ∷ Arrive 0 0x600000C1 ∷ [])
+third_word_is_early : outputs_of (policed 4 10) (Arrive 0x600000C1 0 ∷ Arrive 0x600000C1 0 ∷ Arrive 0x600000C1 0 ∷ [])
     ≡ Queued 1 ∷ Queued 2 ∷ TooEarly ∷ []
 unfolding would_pass admitted is_early count_in served_in first_place each_place reversed ones_in is_odd body_of composed_word copied_word fallback_word ticks picks stamped stream_of ins passed is_overfull latch entered taken routed_tick arrived_tick latest_number latest_by moves latest due_by sent fresh chosen_source reply outputs_of
 third_word_is_early = refl
@@ -137,7 +137,7 @@ steady_replies = refl
 
 -- ---- arrivals and emissions
 
-latest_word_came_in_tick_1 : latest_arrived (small 2) 1 (Route 0 ∷ Arrive 0 0x600000C1 ∷ Tick ∷ Arrive 0 0xE0000021 ∷ Tick ∷ Route 0 ∷ Tick ∷ Route 0 ∷ []) ≡ Some 1
+latest_word_came_in_tick_1 : latest_arrived (small 2) 1 (Route 0 ∷ Arrive 0x600000C1 0 ∷ Tick ∷ Arrive 0xE0000021 0 ∷ Tick ∷ Route 0 ∷ Tick ∷ Route 0 ∷ []) ≡ Some 1
 unfolding served_in first_place each_place reversed ones_in is_odd ticks picks stamped stream_of ins passed is_overfull latch entered taken routed_tick arrived_tick latest_number latest_by moves latest_arrived
 latest_word_came_in_tick_1 = refl
 
@@ -160,18 +160,18 @@ beats (suc n) = beats n ++ beat
 
 -- the word comes in tick 8 and is routed there: 22 ticks later it is still fresh
 abbrev word_in_tick_8 : List Event
-word_in_tick_8 = beats 8 ++ (Arrive 0 0x600000C1 ∷ beats 22 ++ (Route 0 ∷ []))
+word_in_tick_8 = beats 8 ++ (Arrive 0x600000C1 0 ∷ beats 22 ++ (Route 0 ∷ []))
 
 fresh_after_22_ticks : chosen_source (small 2) 0 word_in_tick_8 ≡ Some (0, 0x600000C1)
 unfolding served_in first_place each_place reversed ones_in is_odd ticks picks stamped stream_of ins passed is_overfull latch entered taken routed_tick arrived_tick latest_number latest_by moves latest fresh chosen_source
 fresh_after_22_ticks = refl
 
-fresh_after_7_ticks : chosen_source (small 2) 0 (beats 8 ++ (Arrive 0 0x600000C1 ∷ beats 7 ++ (Route 0 ∷ []))) ≡ Some (0, 0x600000C1)
+fresh_after_7_ticks : chosen_source (small 2) 0 (beats 8 ++ (Arrive 0x600000C1 0 ∷ beats 7 ++ (Route 0 ∷ []))) ≡ Some (0, 0x600000C1)
 unfolding served_in first_place each_place reversed ones_in is_odd ticks picks stamped stream_of ins passed is_overfull latch entered taken routed_tick arrived_tick latest_number latest_by moves latest fresh chosen_source
 fresh_after_7_ticks = refl
 
 -- where it comes in tick 7, it is stale after 23 ticks
-stale_after_23_ticks : chosen_source (small 2) 0 (beats 7 ++ (Arrive 0 0x600000C1 ∷ beats 23 ++ (Route 0 ∷ []))) ≡ None
+stale_after_23_ticks : chosen_source (small 2) 0 (beats 7 ++ (Arrive 0x600000C1 0 ∷ beats 23 ++ (Route 0 ∷ []))) ≡ None
 unfolding served_in first_place each_place reversed ones_in is_odd ticks picks stamped stream_of ins passed is_overfull latch entered taken routed_tick arrived_tick latest_number latest_by moves latest fresh chosen_source
 stale_after_23_ticks = refl
 

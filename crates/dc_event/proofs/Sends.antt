@@ -40,7 +40,7 @@ advances-send t o q run =
 advances : (t : TableRows) (o : ℕ) (run : List Event) (e : Event) → Advances t o run e
 unfolding Advances
 advances t o run Tick = inl (sent-other t o run Tick refl)
-advances t o run (Arrive b w) = inl (sent-other t o run (Arrive b w) refl)
+advances t o run (Arrive w b) = inl (sent-other t o run (Arrive w b) refl)
 advances t o run (Route r) = inl (sent-other t o run (Route r) refl)
 advances t o run (Send q) = advances-send t o q run
 

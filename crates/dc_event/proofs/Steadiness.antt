@@ -328,7 +328,7 @@ module _ (t : TableRows) (valid : AreValid t) (n : ℕ) where
 -- an event of these tables that is no arrival
 IsStep : TableRows → Event → Type 0
 IsStep t Tick = Unit {0}
-IsStep t (Arrive b w) = ⊥
+IsStep t (Arrive w b) = ⊥
 IsStep t (Route r) = r < length t.routers
 IsStep t (Send o) = o < length t.outputs
 
@@ -373,7 +373,7 @@ steady-steps t n = steps-below t (steady_tick t) n (λ tick l.
 step-numbered : (t : TableRows) (e : Event) → IsStep t e → IsNumbered t e
 unfolding IsStep
 step-numbered t Tick h = tt
-step-numbered t (Arrive b w) h = absurd h
+step-numbered t (Arrive w b) h = absurd h
 step-numbered t (Route r) h = h
 step-numbered t (Send o) h = h
 
@@ -389,7 +389,7 @@ steps-run t (e ∷ es) h = steps-run-cons t e es h.0 (steps-run t es h.1)
 step-ins : (t : TableRows) (b : ℕ) (past : List Event) (e : Event) → IsStep t e → ins (move_of t b past e) ≡ []
 unfolding IsStep ins
 step-ins t b past Tick h = refl
-step-ins t b past (Arrive a w) h = absurd h
+step-ins t b past (Arrive w a) h = absurd h
 step-ins t b past (Route r) h = elim (visited_bus t r past == b) as (λ v. ins (cond v (Visit ∷ []) []) ≡ []) [ true ↦ refl | false ↦ refl ]
 step-ins t b past (Send o) h = refl
 

@@ -38,11 +38,11 @@ named queue = record (small queue) {
 -- ---- trace texts
 
 a_trace_is_its_lines : trace_of (named 2) 1000 (spelled (codes "A A 600000C1" ∷ codes "R R1" ∷ codes "S O" ∷ codes "T" ∷ []))
-    ≡ record { events = Arrive 0 0x600000C1 ∷ Route 0 ∷ Send 0 ∷ Tick ∷ []; fault = None }
+    ≡ record { events = Arrive 0x600000C1 0 ∷ Route 0 ∷ Send 0 ∷ Tick ∷ []; fault = None }
 unfolding word_of line_event trace_of
 a_trace_is_its_lines = refl
 
-small_digits_are_read : trace_of (named 2) 1000 (spelled (codes "A A 600000c1" ∷ [])) ≡ record { events = Arrive 0 0x600000C1 ∷ []; fault = None }
+small_digits_are_read : trace_of (named 2) 1000 (spelled (codes "A A 600000c1" ∷ [])) ≡ record { events = Arrive 0x600000C1 0 ∷ []; fault = None }
 unfolding word_of line_event trace_of
 small_digits_are_read = refl
 
@@ -68,22 +68,22 @@ unfolding word_of line_event trace_of
 seven_digits_are_no_word = refl
 
 end_inside_a_line : trace_of (named 2) 1000 (spelled (codes "A A 600000C1" ∷ codes "R R1" ∷ codes "S O" ∷ []) ++ codes "S")
-    ≡ record { events = Arrive 0 0x600000C1 ∷ Route 0 ∷ Send 0 ∷ []; fault = Some (record { rule = LineNotEnded; line = 4 }) }
+    ≡ record { events = Arrive 0x600000C1 0 ∷ Route 0 ∷ Send 0 ∷ []; fault = Some (record { rule = LineNotEnded; line = 4 }) }
 unfolding word_of line_event trace_of
 end_inside_a_line = refl
 
 -- ---- printed lines
 
-all_lines : run_lines (named 2) true (Route 0 ∷ Arrive 0 0x600000C1 ∷ Arrive 0 0xE0000021 ∷ Send 0 ∷ Tick ∷ Route 0 ∷ Tick ∷ Route 0 ∷ [])
+all_lines : run_lines (named 2) true (Route 0 ∷ Arrive 0x600000C1 0 ∷ Arrive 0xE0000021 0 ∷ Send 0 ∷ Tick ∷ Route 0 ∷ Tick ∷ Route 0 ∷ [])
     ≡ codes "0 R1 empty A" ∷ codes "0 A queued 1" ∷ codes "0 A queued 2" ∷ codes "0 O A00000C1" ∷ codes "1 tick" ∷ codes "1 R1 took A 600000C1" ∷ codes "2 tick" ∷ codes "2 R1 took A E0000021" ∷ []
 unfolding digits run_lines reply_line served_in first_place each_place reversed ones_in is_odd body_of composed_word copied_word fallback_word ticks picks stamped stream_of ins passed is_overfull latch entered taken routed_tick arrived_tick latest_number latest_by moves latest due_by sent fresh chosen_source reply
 all_lines = refl
 
-lines_without_all : run_lines (named 2) false (Arrive 0 0x600000C1 ∷ Route 0 ∷ Send 0 ∷ Send 0 ∷ []) ≡ codes "0 O 600000C1" ∷ []
+lines_without_all : run_lines (named 2) false (Arrive 0x600000C1 0 ∷ Route 0 ∷ Send 0 ∷ Send 0 ∷ []) ≡ codes "0 O 600000C1" ∷ []
 unfolding digits run_lines reply_line served_in first_place each_place reversed ones_in is_odd body_of composed_word copied_word fallback_word ticks picks stamped stream_of ins passed is_overfull latch entered taken routed_tick arrived_tick latest_number latest_by moves latest due_by sent fresh chosen_source reply
 lines_without_all = refl
 
-lines_of_lost_words : run_lines (named 1) false (Arrive 0 0x600000C1 ∷ Arrive 0 0xE0000021 ∷ Arrive 0 0x600000C1 ∷ Arrive 0 0x200000C1 ∷ Arrive 0 0xE0000081 ∷ [])
+lines_of_lost_words : run_lines (named 1) false (Arrive 0x600000C1 0 ∷ Arrive 0xE0000021 0 ∷ Arrive 0x600000C1 0 ∷ Arrive 0x200000C1 0 ∷ Arrive 0xE0000081 0 ∷ [])
     ≡ codes "0 A overrun E0000021" ∷ codes "0 A latched 600000C1" ∷ codes "0 A parity 200000C1" ∷ codes "0 A undeclared E0000081" ∷ []
 unfolding digits run_lines reply_line served_in first_place each_place reversed ones_in is_odd body_of composed_word copied_word fallback_word ticks picks stamped stream_of ins passed is_overfull latch entered taken routed_tick arrived_tick latest_number latest_by moves latest due_by sent fresh chosen_source reply
 lines_of_lost_words = refl

@@ -8,12 +8,12 @@ use Rattle.dc_device.specs.lemmas.LineLemmas.{NoFeed-append}
 use Rattle.dc_tables.specs.TableRows.{TableRows}
 use Rattle.dc_event.specs.TraceText.{Trace, ended_by, in_front, line_event}
 use Rattle.dc_event.specs.ReadingFits.{Fits}
-use Rattle.dc_event.specs.Reading.{IsOver, Reading, ReadsNext, Stays, Tells, TellsEvent, ahead, no_more, stop_behind, reported_from, trace_from}
+use Rattle.dc_event.specs.Reading.{IsOver, Reading, ReadsNext, Stays, StopsBehind, Tells, TellsEvent, ahead, no_more, stop_behind, reported_from, trace_from}
 use Rattle.dc_event.specs.declared.event.Event.{Event}
 use Rattle.dc_event.specs.declared.trace.LineRule.{LineRule}
 use Rattle.dc_event.specs.declared.trace.LineRule.TheVariants.{LineTooLong}
 use Rattle.dc_event.specs.declared.trace.TraceStop.{TraceStop}
-use Rattle.dc_event.specs.declared.trace.TraceStop.TheVariants.{Fault}
+use Rattle.dc_event.specs.declared.trace.TraceStop.TheVariants.{End, Fault, Broken}
 use Rattle.dc_event.proofs.TraceAnswers.{trace_cut, trace_long, trace_whole}
 
 split_rest : (line front back xs : List ℕ) (b : ℕ) → (line ++ (front ++ b ∷ back)) ++ xs ≡ (line ++ front) ++ b ∷ (back ++ xs)
@@ -160,3 +160,12 @@ end_kept now t line old new number stopped stop from to view runs is fits short 
     let none' : old.bytes ≡ [] = ap (λ (r : Reading). r.held) view ∙ none in
     let (plain, small) = rw runs' at fits in
     rw (← view) (end_keeps t line old.bytes new.bytes number old.room new.room stopped (Some stop) from to runs' (ap Some is) plain short none' kept end)
+
+stops_behind : (number : ℕ) (line : List ℕ) (stop : TraceStop) → stop ≡ stop_behind number line → StopsBehind number line (Some stop)
+stops_behind number line End is = is
+stops_behind number line (Fault f) is = is
+stops_behind number line Broken is = tt
+
+pub end_stops : (now : Reading) (t : TableRows) (line : List ℕ) (old : Held) (number : ℕ) (stopped : Option TraceStop) (stop : TraceStop)
+    → parts t line old number stopped ≡ now → stop ≡ stop_behind number line → StopsBehind now.number now.line (Some stop)
+end_stops now t line old number stopped stop view is = subst (λ (r : Reading). StopsBehind r.number r.line (Some stop)) view (stops_behind number line stop is)

@@ -13,7 +13,7 @@ use Rattle.dc_event.specs.declared.event.Event.TheVariants.{Tick, Arrive, Route,
 -- the number of an event is in the tables
 abbrev pub IsNumbered : TableRows → Event → Type 0
 IsNumbered t Tick = Unit {0}
-IsNumbered t (Arrive b w) = b < length t.buses
+IsNumbered t (Arrive w b) = b < length t.buses
 IsNumbered t (Route r) = r < length t.routers
 IsNumbered t (Send o) = o < length t.outputs
 

@@ -26,7 +26,7 @@ in_of (Some s) w = In (s, w) ∷ []
 -- a word of odd parity (ARINC Specification 429 Part 1, 2.3.4) whose label and SDI a stream of the bus declares, and that the bus does not refuse as early
 abbrev pub move_of : TableRows → ℕ → List Event → Event → List Move
 move_of t b past Tick = TickMove ∷ []
-move_of t b past (Arrive a w) = cond ((a == b) && is_odd w) (in_of (let_in t b past (stream_of t b w)) w) []
+move_of t b past (Arrive w a) = cond ((a == b) && is_odd w) (in_of (let_in t b past (stream_of t b w)) w) []
 move_of t b past (Route r) = cond (visited_bus t r past == b) (Visit ∷ []) []
 move_of t b past (Send o) = []
 

@@ -11,7 +11,7 @@ use Rattle.dc_event.specs.declared.event.Event.TheVariants.{Tick, Arrive, Route,
 -- the number of the label that the event emits, after the events of past
 unfoldable pub emission : TableRows → List Event → Event → Option ℕ
 emission t past Tick = None
-emission t past (Arrive b w) = None
+emission t past (Arrive w b) = None
 emission t past (Route r) = None
 emission t past (Send o) = cond (nat_lt (sent t o past) (sent t o (past ++ Send o ∷ []))) (Some (entry_label t o (sent t o past))) None
 

@@ -32,7 +32,7 @@ words_of items = map (λ x. x.1) items
 
 -- the word that a reply tells to be taken from the bus
 abbrev pub taken_word : ℕ → Reply → List ℕ
-taken_word b (Took a w) = cond (a == b) (w ∷ []) []
+taken_word b (Took w a) = cond (a == b) (w ∷ []) []
 taken_word b (Queued n) = []
 taken_word b BadParity = []
 taken_word b Undeclared = []

@@ -13,7 +13,7 @@ use Rattle.dc_event.specs.declared.event.Event.TheVariants.{Tick, Arrive, Route,
 -- the stream of which the event offers a word to the bus: a word of odd parity (ARINC Specification 429 Part 1, 2.3.4) whose label and SDI a stream of the bus declares
 abbrev pub offer_of : TableRows → ℕ → Event → Option ℕ
 offer_of t b Tick = None
-offer_of t b (Arrive a w) = cond ((a == b) && is_odd w) (stream_of t b w) None
+offer_of t b (Arrive w a) = cond ((a == b) && is_odd w) (stream_of t b w) None
 offer_of t b (Route r) = None
 offer_of t b (Send o) = None
 

@@ -42,7 +42,7 @@ entries_due t o tick = flat_map (entry_in (tick % (output_row t o).frame)) (outp
 -- what an event is to the output, after the events of past
 abbrev pub output_move_of : TableRows → ℕ → List Event → Event → List Move
 output_move_of t o past Tick = TickMove ∷ entries_due t o (tick_after past + 1)
-output_move_of t o past (Arrive b w) = []
+output_move_of t o past (Arrive w b) = []
 output_move_of t o past (Route r) = []
 output_move_of t o past (Send q) = cond (q == o) (Visit ∷ []) []
 

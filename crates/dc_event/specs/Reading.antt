@@ -100,6 +100,13 @@ abbrev pub stop_behind : ℕ → List ℕ → TraceStop
 stop_behind number [] = End
 stop_behind number (c ∷ cs) = Fault (record { rule = LineNotEnded; line = number })
 
+-- why a reader stops that asked for more behind these bytes of a line, if it does: the text ended there, or the source failed
+abbrev pub StopsBehind : ℕ → List ℕ → Option TraceStop → Type 0
+StopsBehind number line None = Unit {0}
+StopsBehind number line (Some End) = End ≡ stop_behind number line
+StopsBehind number line (Some (Fault f)) = Fault f ≡ stop_behind number line
+StopsBehind number line (Some Broken) = Unit {0}
+
 -- how many failures of the source a reader counts that stopped so
 abbrev pub failures_at : Option TraceStop → ℕ
 failures_at None = 0
@@ -139,7 +146,7 @@ abbrev pub dry_left : Option TraceStop → ℕ
 dry_left None = 1
 dry_left (Some stop) = 0
 
--- A source was pulled no more often than the reader has less to pull, and after a pull that gave no byte not again.
+-- A source was pulled no more often than the reader has less to pull, and where a pull gave no byte the reader has stopped.
 abbrev pub AsksFor : Reading → Reading → ℕ → ℕ → ℕ → ℕ → Type 0
 AsksFor old new asked asked' dry dry' =
     (asked' + pulls_left new.stopped new.room new.held ≤ asked + pulls_left old.stopped old.room old.held)

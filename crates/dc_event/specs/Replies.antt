@@ -17,7 +17,7 @@ use Rattle.dc_event.specs.declared.event.Reply.TheVariants.{Queued, BadParity, U
 -- the first that applies: even parity, an undeclared word, a word that the bus refuses as early, a latched bus, a full queue; else the word is queued
 abbrev pub arrive_reply : TableRows → List Event → ℕ → ℕ → Reply
 arrive_reply t past b w =
-    let now = past ++ Arrive b w ∷ [] in
+    let now = past ++ Arrive w b ∷ [] in
     if not (is_odd w) then BadParity
     else if not (is_some (stream_of t b w)) then Undeclared
     else if refuses t b past (stream_of t b w) then TooEarly
@@ -27,10 +27,10 @@ arrive_reply t past b w =
 
 -- the reply to an event after the events of past
 unfoldable pub reply : TableRows → List Event → Event → Reply
-reply t past (Arrive b w) = arrive_reply t past b w
+reply t past (Arrive w b) = arrive_reply t past b w
 reply t past (Route r) =
     let b = visited_bus t r past in
-    if nat_lt (bus_taken t b past) (bus_taken t b (past ++ Route r ∷ [])) then Took b (bus_item t b past (bus_taken t b past)).1 else Empty b
+    if nat_lt (bus_taken t b past) (bus_taken t b (past ++ Route r ∷ [])) then Took (bus_item t b past (bus_taken t b past)).1 b else Empty b
 reply t past (Send o) =
     let x = entry_label t o (sent t o past) in
     if nat_lt (sent t o past) (sent t o (past ++ Send o ∷ [])) then Sent (label_row t x).label (chosen t x (past ++ Send o ∷ [])) else Idle

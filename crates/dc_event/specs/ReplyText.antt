@@ -24,7 +24,7 @@ is_reported Undeclared = true
 is_reported TooEarly = true
 is_reported Overrun = true
 is_reported Latched = true
-is_reported (Took b w) = false
+is_reported (Took w b) = false
 is_reported (Empty b) = false
 is_reported (Sent l w) = true
 is_reported Idle = false
@@ -42,7 +42,7 @@ arrival_text w _ = []
 
 -- of a routing step's reply after the router
 abbrev pub routing_text : TableRows → Reply → List ℕ
-routing_text t (Took b w) = codes " took " ++ name_at t.keys.buses b ++ codes " " ++ eight_hex w
+routing_text t (Took w b) = codes " took " ++ name_at t.keys.buses b ++ codes " " ++ eight_hex w
 routing_text t (Empty b) = codes " empty " ++ name_at t.keys.buses b
 routing_text t _ = []
 
@@ -55,7 +55,7 @@ sending_text _ = []
 -- the line of an event and its reply, with the tick of the event, for a Tick the new one
 unfoldable pub reply_line : TableRows → ℕ → Event → Reply → List ℕ
 reply_line t tick Tick r = decimal tick ++ codes " tick"
-reply_line t tick (Arrive b w) r = decimal tick ++ codes " " ++ name_at t.keys.buses b ++ arrival_text w r
+reply_line t tick (Arrive w b) r = decimal tick ++ codes " " ++ name_at t.keys.buses b ++ arrival_text w r
 reply_line t tick (Route q) r = decimal tick ++ codes " " ++ name_at t.keys.routers q ++ routing_text t r
 reply_line t tick (Send o) r = decimal tick ++ codes " " ++ name_at t.keys.outputs o ++ sending_text r
 

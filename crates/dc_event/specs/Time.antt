@@ -8,7 +8,7 @@ use Rattle.dc_event.specs.declared.event.Event.TheVariants.{Tick, Arrive, Route,
 -- how many ticks an event ends
 abbrev pub ends : Event → ℕ
 ends Tick = 1
-ends (Arrive b w) = 0
+ends (Arrive w b) = 0
 ends (Route r) = 0
 ends (Send o) = 0
 
@@ -19,14 +19,14 @@ tick_after run = ticks ends run
 -- a step of the router
 abbrev pub route_of : ℕ → Event → Option ℕ
 route_of r Tick = None
-route_of r (Arrive b w) = None
+route_of r (Arrive w b) = None
 route_of r (Route q) = cond (q == r) (Some q) None
 route_of r (Send o) = None
 
 -- a send step of the output
 abbrev pub send_of : ℕ → Event → Option ℕ
 send_of o Tick = None
-send_of o (Arrive b w) = None
+send_of o (Arrive w b) = None
 send_of o (Route r) = None
 send_of o (Send q) = cond (q == o) (Some q) None
 

@@ -37,7 +37,7 @@ or_fault rule (Some x) = Ok x
 abbrev pub arrival : Option ℕ → Option ℕ → Result Event LineRule
 arrival None word = Err NameUnknown
 arrival (Some b) None = Err NotAWord
-arrival (Some b) (Some w) = Ok (Arrive b w)
+arrival (Some b) (Some w) = Ok (Arrive w b)
 
 -- the fields after A: a bus and a word
 abbrev pub arrive_fields : TableRows → List (List ℕ) → Result Event LineRule

@@ -9,7 +9,7 @@ pub enum Event {
     /// The running tick ends, and the next one begins.
     Tick,
     /// A word arrives on a bus.
-    Arrive(usize, Word),
+    Arrive(Word, usize),
     /// A router makes a step.
     Route(usize),
     /// An output makes a send step.
@@ -32,7 +32,7 @@ pub enum Reply {
     /// The bus has latched before: the word is lost.
     Latched,
     /// The router took a word from a bus.
-    Took(usize, Word),
+    Took(Word, usize),
     /// The router visited a bus whose queue was empty.
     Empty(usize),
     /// The output sent a word under a label.

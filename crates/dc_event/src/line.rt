@@ -89,7 +89,7 @@ fn read_arrive(tables: &Tables, fields: &mut Fields) -> Result<Event, LineRule>
     let Some(word) = read_word(word) else {
         return Err(LineRule::NotAWord);
     };
-    Ok(Event::Arrive(bus, word))
+    Ok(Event::Arrive(word, bus))
 }
 
 // After R: a router.

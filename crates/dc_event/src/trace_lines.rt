@@ -1,7 +1,8 @@
 //! The events of a trace, in the bytes that are held of it.
 ghost use Rattle.std.specs.Prelude.{◌≡◌, ◌≢◌, ℕ, List, Option, [], ◌+◌, ◌^◌, ◌<◌, Some, None, IfSome, IfOk, MatchOption, false};
+ghost use Rattle.dc_device.specs.Device.{IsSnapshot};
 ghost use Rattle.dc_event.specs.TraceText.{trace_of};
-ghost use Rattle.dc_event.specs.Reading.{AsksFor, IsOfLine, NeedsMore, ReadsNext, Stays, Tells, ahead, at_start, failures_at, stop_behind, stop_of};
+ghost use Rattle.dc_event.specs.Reading.{AsksFor, IsOfLine, NeedsMore, ReadsNext, Stays, StopsBehind, Tells, ahead, at_start, failures_at, stop_behind, stop_of};
 
 use crate::event::Event;
 use crate::line::read_line;
@@ -125,18 +126,24 @@ impl<'t> TraceLines<'t> {
 
     /// Pulls the next bytes, where none is held. What was written must not wait any more, nor be hidden: who reads the
     /// answers sees each before the source is asked again. Where nothing came, `advance` tells why.
-    pub fn pull<S: Source, K: Sink>(&mut self, source: &mut S, written: &LineWriter, sink: &K)
+    pub fn pull<S: Source, K: Sink>(&mut self, source: &mut S, written: &LineWriter, sink: &mut K)
         requires read { self.old.held ≡ [] }
         requires runs { self.old.stopped ≡ None }
         requires seen { written.now ≡ [] }
-        requires shown { K.hidden sink.now ≡ false }
+        requires shown { K.hidden sink.old ≡ false }
         requires countable { S.failed source.old + 1 < 2 ^ 64 }
         ensures kept { Stays (ahead self.old (S.remaining source.old)) (ahead self.new (S.remaining source.new)) }
         ensures came { self.new.stopped ≡ None → self.new.held ≢ [] }
         ensures room { self.new.room ≡ self.old.room }
         ensures tables { self.new.tables ≡ self.old.tables }
+        ensures end { StopsBehind self.old.number self.old.line self.new.stopped }
         ensures count { S.failed source.new ≡ S.failed source.old + failures_at self.new.stopped }
         ensures asks { AsksFor self.old self.new (S.asked source.old) (S.asked source.new) (S.dry source.old) (S.dry source.new) }
+        ensures answered { IsSnapshot (K.contents sink.old) (K.answered sink.new) }
+        ensures shows { K.contents sink.new ≡ K.contents sink.old }
+        ensures sink { K.failed sink.new ≡ K.failed sink.old }
+        ensures last { K.last_failed sink.new ≡ K.last_failed sink.old }
+        ensures hidden { K.hidden sink.new ≡ false }
     {
         match self.reader.fill(source, written, sink) {
             Ok(true) => {}

@@ -41,7 +41,7 @@ fn pull_unwatched<S: Source>(lines: &mut TraceLines, source: &mut S)
     ensures asks { AsksFor lines.old lines.new (S.asked source.old) (S.asked source.new) (S.dry source.old) (S.dry source.new) }
 {
     let nothing = LineWriter::new();
-    lines.pull(source, &nothing, &Nowhere);
+    lines.pull(source, &nothing, &mut Nowhere);
 }
 
 impl<'t, S: Source + Drop> TraceReader<'t, S> {
@@ -73,7 +73,7 @@ impl<'t, S: Source + Drop> TraceReader<'t, S> {
 
     /// Tells the next event, or why there is none: the text ended, a line is refused, or the source failed. Once it reported
     /// why there is none, it tells that same from then on. It pulls only where the held bytes end before the line does: in
-    /// all its calls at most once more than the trace may have bytes, and not again after a pull that gave none.
+    /// all its calls at most once more than the trace may have bytes, and where a pull gave none it has stopped.
     pub fn next(&mut self) -> Result<Event, TraceStop>
         requires { self.old.failed + 1 < 2 ^ 64 }
         ensures reported { Tells (left self.old) (left self.new) result }

@@ -1,7 +1,7 @@
 -- The least numbers of a queue, as those of the tables.
 use Rattle.std.proofs.Common.{◌≡◌, ℕ, ◌+◌, ◌-◌, ◌≤◌, ◌<◌, length, Some, None, refl, sym, subst, arith}
 use Rattle.dc_busy.specs.BusyWindow.{BacklogBounded, DelayBounded}
-use Rattle.dc_busy.specs.Least.{IsLeast, IsLeastUpTo100000, ClosesWithin}
+use Rattle.dc_busy.specs.Least.{IsLeast, IsLeastUpToLongest, ClosesWithin}
 use Rattle.dc_busy.specs.lemmas.Least.{shorter-backlog, shorter-delay}
 use Rattle.dc_check.specs.Accepts.{WindowCloses, DelayHolds}
 use Rattle.dc_find.specs.Rows.{AreLeastTimes, IsLeastInput, IsLeastOutput}
@@ -12,7 +12,7 @@ use Rattle.dc_find.specs.declared.fault.Queue.TheVariants.{Input, Output}
 use Rattle.dc_tables.specs.TableRows.{TableRows, bus_row, bus_cap, bus_floor, output_cap, output_floor}
 
 -- what the searches find
-pub least-times : (cap floor : ℕ → ℕ) (window delay : ℕ) → IsLeastUpTo100000 (ClosesWithin cap floor) (Some window) → IsLeastUpTo100000 (DelayBounded cap floor window) (Some delay) → AreLeastTimes cap floor window delay
+pub least-times : (cap floor : ℕ → ℕ) (window delay : ℕ) → IsLeastUpToLongest (ClosesWithin cap floor) (Some window) → IsLeastUpToLongest (DelayBounded cap floor window) (Some delay) → AreLeastTimes cap floor window delay
 least-times cap floor window delay w d = record {
   closes = record { some = w.1.0.0; most = w.0; closes = w.1.0.1 };
   holds = record { short = d.0; bounded = d.1.0 };
@@ -20,7 +20,7 @@ least-times cap floor window delay w d = record {
   least_delay = λ v e ok holds. d.1.1 e (shorter-delay cap floor window v e (w.1.1 v (ok.some, ok.closes)) holds.bounded);
 }
 
-pub never-closes : (cap floor : ℕ → ℕ) → IsLeastUpTo100000 (ClosesWithin cap floor) None → NeverCloses cap floor
+pub never-closes : (cap floor : ℕ → ℕ) → IsLeastUpToLongest (ClosesWithin cap floor) None → NeverCloses cap floor
 never-closes cap floor none window ok = none window ok.most (ok.some, ok.closes)
 
 -- two bounds and two floors that agree

@@ -2,12 +2,12 @@
 
 ghost use Rattle.std.specs.Prelude.{◌≤◌, IfSome};
 
-use crate::chance::Chance;
 use crate::texts::small_tables;
 use dc_bound::{ArrivalBound, ServiceBound};
 use dc_busy::{backlog_fails, closes, delay_fails};
 use dc_find::find;
 use dc_tables::Tables;
+use dc_trials::Chance;
 use std::alloc::{AllocError, Global};
 use std::process::Abort;
 use std::rt::HostRuntime;
@@ -142,10 +142,10 @@ fn push_row(row: &mut String, chance: &mut Chance) -> Result<(), AllocError> {
     let send_within = chance.between(1, 12);
     let frame = chance.between(12, 18);
     let stale = chance.between(20, 30);
-    let age = chance.between(22, 40);
+    let limit = chance.between(22, 40);
     write!(
         row,
-        "queue={queue} steps={steps} within={within} send_within={send_within} frame={frame} stale={stale} age={age}"
+        "queue={queue} steps={steps} within={within} send_within={send_within} frame={frame} stale={stale} limit={limit}"
     )?;
     if chance.once_in(2) {
         let police = chance.once_in(2);

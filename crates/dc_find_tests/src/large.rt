@@ -1,9 +1,10 @@
 //! Tables of 64 buses of 16 streams.
 
 use crate::lowered::assert_least;
-use crate::texts::{push_filled, tables_of};
+use crate::texts::tables_of;
 use dc_find::{FindFault, find};
 use dc_tables::Tables;
+use dc_trials::push_filled;
 use std::alloc::{AllocError, Global};
 use std::process::Abort;
 use std::rt::HostRuntime;

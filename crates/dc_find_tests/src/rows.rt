@@ -71,9 +71,9 @@ send_within=16 frame=12|F1 output O
 stale=21|F3 label x C12
 frame=12|F3 label x C08
 frame=18|F3 label x C09
-age=23|F3 label x C11
-stale=21 age=22|F3 label x C11
-frame=12 age=23|F3 label x C08
+limit=23|F3 label x C11
+stale=21 limit=22|F3 label x C11
+frame=12 limit=23|F3 label x C08
 offsets=0,3|F3 label x C08
 version=2 police_key=police jitter_key=jitter_us jitter=10000 queue=4 stale=23|F3 label x C12";
 

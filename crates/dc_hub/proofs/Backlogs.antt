@@ -31,8 +31,8 @@ nothing = omega arith
 backlog_small : (t : TableRows) (run : List Event) (e : Event) → AreValid t → BacklogFits t → MayFollow t run e → backlog_of (reply t run e) ≤ 4096
 unfolding reply
 backlog_small t run Tick valid fits may = nothing
-backlog_small t run (Arrive b w) valid fits may =
-    let now : List Event = run ++ Arrive b w ∷ [] in
+backlog_small t run (Arrive w b) valid fits may =
+    let now : List Event = run ++ Arrive w b ∷ [] in
     let queued : Reply = Queued (backlog t b now) in
     let full : Reply = if is_latched t b now then Overrun else queued in
     let shut : Reply = if is_latched t b run then Latched else full in
@@ -45,7 +45,7 @@ backlog_small t run (Arrive b w) valid fits may =
     (either_small (is_latched t b now) Overrun queued 4096 nothing (le_trans (fits b now) (valid.queues_small b may.numbered))))))
 backlog_small t run (Route r) valid fits may =
     let b : ℕ = visited_bus t r run in
-    either_small (nat_lt (bus_taken t b run) (bus_taken t b (run ++ Route r ∷ []))) (Took b (bus_item t b run (bus_taken t b run)).1) (Empty b) 4096 nothing nothing
+    either_small (nat_lt (bus_taken t b run) (bus_taken t b (run ++ Route r ∷ []))) (Took (bus_item t b run (bus_taken t b run)).1 b) (Empty b) 4096 nothing nothing
 backlog_small t run (Send o) valid fits may =
     let x : ℕ = entry_label t o (sent t o run) in
     either_small (nat_lt (sent t o run) (sent t o (run ++ Send o ∷ []))) (Sent (label_row t x).label (chosen t x (run ++ Send o ∷ []))) Idle 4096 nothing nothing

@@ -13,19 +13,19 @@ use Rattle.dc_tables.specs.TableRows.{TableRows}
 
 -- whether the actor makes the step
 abbrev pub is_by : Actor → Event → Bool
-is_by (Wire b) (Arrive a w) = a == b
+is_by (Wire b) (Arrive w a) = a == b
 is_by (Wire b) (Route r) = false
 is_by (Wire b) (Send o) = false
 is_by (Wire b) Tick = false
-is_by (Router q) (Arrive a w) = false
+is_by (Router q) (Arrive w a) = false
 is_by (Router q) (Route r) = r == q
 is_by (Router q) (Send o) = false
 is_by (Router q) Tick = false
-is_by (Output p) (Arrive a w) = false
+is_by (Output p) (Arrive w a) = false
 is_by (Output p) (Route r) = false
 is_by (Output p) (Send o) = o == p
 is_by (Output p) Tick = false
-is_by Clock (Arrive a w) = false
+is_by Clock (Arrive w a) = false
 is_by Clock (Route r) = false
 is_by Clock (Send o) = false
 is_by Clock Tick = true

@@ -14,7 +14,7 @@ use Rattle.dc_tables.specs.TableRows.{TableRows}
 -- who makes the step
 abbrev pub actor_of : Event → Actor
 actor_of Tick = Clock
-actor_of (Arrive b w) = Wire b
+actor_of (Arrive w b) = Wire b
 actor_of (Route r) = Router r
 actor_of (Send o) = Output o
 
@@ -26,7 +26,7 @@ backlog_of Undeclared = 0
 backlog_of TooEarly = 0
 backlog_of Overrun = 0
 backlog_of Latched = 0
-backlog_of (Took b w) = 0
+backlog_of (Took w b) = 0
 backlog_of (Empty b) = 0
 backlog_of (Sent l w) = 0
 backlog_of Idle = 0
@@ -55,7 +55,7 @@ is_overrun Undeclared = false
 is_overrun TooEarly = false
 is_overrun Overrun = true
 is_overrun Latched = false
-is_overrun (Took b w) = false
+is_overrun (Took w b) = false
 is_overrun (Empty b) = false
 is_overrun (Sent l w) = false
 is_overrun Idle = false

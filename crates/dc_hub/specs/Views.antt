@@ -9,6 +9,8 @@ use Rattle.dc_event.specs.declared.event.Actor.TheVariants.{Wire}
 use Rattle.dc_hub.specs.Entries.{backlog_of}
 use Rattle.dc_hub.specs.declared.entry.Entry.{Entry}
 use Rattle.dc_hub.specs.declared.entry.Receipt.{Receipt}
+use Rattle.dc_board.specs.declared.limits.TheConstants.{MOST_WORDS}
+use Rattle.dc_hub.specs.declared.limits.TheConstants.{GREATEST_BACKLOG}
 
 -- a book: its tables and their certificate, how many entries it may hold, and its entries
 pub record BookView : Type 0 where
@@ -36,9 +38,9 @@ pub record WireView : Type 0 where
 abbrev pub unused : Actor → ℕ → SeatView
 unused actor parts = record { actor = actor; receipts = []; parts = parts }
 
--- the board of a hub: 64 words, each at most the greatest capacity of a queue
+-- the board of a hub: each of its words is at most the greatest capacity of a queue
 abbrev pub board_caps : List ℕ
-board_caps = replicate 64 4096
+board_caps = replicate MOST_WORDS GREATEST_BACKLOG
 
 -- the greatest backlog that was answered, 0 where none
 abbrev pub greatest : List Receipt → ℕ

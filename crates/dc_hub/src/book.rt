@@ -9,6 +9,7 @@ ghost use Rattle.dc_core.specs.declared.fault.StepFault.{StepFault};
 ghost use Rattle.dc_hub.specs.Entries.{actor_of, backlog_of, entry, events, IsLegal};
 ghost use Rattle.dc_hub.specs.Views.{BookView};
 ghost use Rattle.dc_hub.specs.declared.fault.HubFault.TheVariants.{Step, TraceFull};
+ghost use Rattle.dc_hub.specs.declared.limits.TheConstants.{GREATEST_BACKLOG};
 
 use crate::closed::Closed;
 use crate::entry::{Entry, Receipt};
@@ -22,9 +23,6 @@ use std::alloc::{AllocError, Global};
 use std::marker::Model;
 use std::sync::ledger;
 use std::sync::ledger::Ledger;
-
-/// The most entries that a book may hold.
-pub const LONGEST_TRACE: usize = 16_777_216;
 
 /// The entries so far, which are a run of the tables that keeps the budgets, each with the reply that the run calls for;
 /// and the state of the concentrator after that run. Contracts see the certified tables, the trace limit and the entries.
@@ -102,7 +100,7 @@ impl<L: Ledger> Book<L> {
         ensures full { result ≡ Err TraceFull → self.old.limit ≤ length self.old.entries }
         ensures step { (f : StepFault) → result ≡ Err (Step f) → (length self.old.entries < self.old.limit) × (¬ MayFollow (tables_of self.old.certified) (events self.old.entries) event) × IsFault (tables_of self.old.certified) (events self.old.entries) event f }
         ensures legal { IsLegal (tables_of self.new.certified) self.new.entries }
-        ensures backlog { IfOk result (λ r. backlog_of r.reply ≤ 4096) }
+        ensures backlog { IfOk result (λ r. backlog_of r.reply ≤ GREATEST_BACKLOG) }
     {
         if self.entries.len() >= self.limit {
             return Err(HubFault::TraceFull);
@@ -132,7 +130,7 @@ fn step(certified: &Certified, state: &mut State, event: &Event) -> Result<Reply
     ensures sized { IsSized (tables_of certified.now) state.new }
     ensures err { OnErr result (state.new ≡ state.old) }
     ensures step { (run : List Event) → StandsFor (tables_of certified.now) state.old run → StepsTo (tables_of certified.now) state.new run event.now result }
-    ensures backlog { (run : List Event) → StandsFor (tables_of certified.now) state.old run → IfOk result (λ r. backlog_of r ≤ 4096) }
+    ensures backlog { (run : List Event) → StandsFor (tables_of certified.now) state.old run → IfOk result (λ r. backlog_of r ≤ GREATEST_BACKLOG) }
 {
     let tables = certified.tables();
     tables.valid();

@@ -6,8 +6,10 @@ ghost use Rattle.dc_event.specs.declared.event.Actor.TheVariants.{Wire};
 ghost use Rattle.dc_hub.specs.Closing.{is_by, receipts_of};
 ghost use Rattle.dc_hub.specs.Entries.{IsLegal, backlog_of, is_overrun, overruns_in};
 ghost use Rattle.dc_hub.specs.Views.{ClosedView, greatest};
+ghost use Rattle.dc_board.specs.declared.limits.TheConstants.{MOST_WORDS};
 
 use crate::entry::Entry;
+use dc_board::MOST_WORDS;
 use dc_check::Certified;
 use dc_event::{Event, Reply};
 use std::marker::Model;
@@ -62,10 +64,10 @@ impl Closed {
     }
 
     /// For each bus, of numbers up to 63, the greatest backlog that its wire was answered, 0 where none.
-    pub fn marks(&self) -> [u64; 64]
-        ensures { (bus : ℕ) → bus < 64 → slice_index result bus ≡ greatest (receipts_of (Wire bus) self.now.entries) }
+    pub fn marks(&self) -> [u64; MOST_WORDS]
+        ensures { (bus : ℕ) → bus < MOST_WORDS → slice_index result bus ≡ greatest (receipts_of (Wire bus) self.now.entries) }
     {
-        let mut marks = [0; 64];
+        let mut marks = [0; MOST_WORDS];
         for i in 0..self.entries.len() {
             raise(&mut marks, &self.entries[i]);
         }
@@ -85,10 +87,10 @@ fn overruns_of(entry: &Entry) -> u64
 }
 
 /// Raises the mark of the bus to the backlog that its wire was answered.
-fn raise(marks: &mut [u64; 64], entry: &Entry)
-    ensures { (bus : ℕ) → bus < 64 → slice_index marks.new bus ≡ (if is_by (Wire bus) entry.now.event then max (slice_index marks.old bus) (backlog_of entry.now.reply) else slice_index marks.old bus) }
+fn raise(marks: &mut [u64; MOST_WORDS], entry: &Entry)
+    ensures { (bus : ℕ) → bus < MOST_WORDS → slice_index marks.new bus ≡ (if is_by (Wire bus) entry.now.event then max (slice_index marks.old bus) (backlog_of entry.now.reply) else slice_index marks.old bus) }
 {
-    let Event::Arrive(bus, _) = entry.event else {
+    let Event::Arrive(_, bus) = entry.event else {
         return;
     };
     let Reply::Queued(backlog) = entry.reply else {

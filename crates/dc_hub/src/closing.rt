@@ -3,6 +3,7 @@
 ghost use Rattle.std.specs.Prelude.{◌≡◌, ◌+◌, ◌<◌, ◌≤◌, true, false, None, Some, MatchOption, IfOk, IfErr, length, slice_get};
 ghost use Rattle.dc_check.specs.Lent.{tables_of};
 ghost use Rattle.dc_hub.specs.Closing.{is_by, receipts_of, DifferAt, all_seats, actor_at, actor_count, AreOneEach, AllAgree, FirstDiffers, IsCloseFault};
+ghost use Rattle.dc_hub.specs.declared.limits.TheConstants.{MOST_ACTORS};
 
 use crate::book::Book;
 use crate::closed::Closed;
@@ -20,7 +21,7 @@ pub fn makes(actor: &Actor, event: &Event) -> bool
     ensures { result ≡ is_by actor.now event.now }
 {
     match *actor {
-        Actor::Wire(bus) => matches!(*event, Event::Arrive(on, _) if on == bus),
+        Actor::Wire(bus) => matches!(*event, Event::Arrive(_, on) if on == bus),
         Actor::Router(router) => matches!(*event, Event::Route(by) if by == router),
         Actor::Output(output) => matches!(*event, Event::Send(by) if by == output),
         Actor::Clock => matches!(*event, Event::Tick),
@@ -77,7 +78,7 @@ fn expected_actor(tables: &Tables, place: usize) -> Actor
 /// How many actors there are.
 fn actors(tables: &Tables) -> usize
     ensures count { result ≡ actor_count tables.now }
-    ensures few { result ≤ 161 }
+    ensures few { result ≤ MOST_ACTORS }
 {
     tables.valid();
     tables.bus_count() + tables.router_count() + tables.output_count() + 1

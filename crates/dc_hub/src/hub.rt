@@ -10,11 +10,14 @@ ghost use Rattle.dc_hub.specs.Closing.{all_seats, AreOneEach, AllAgree, IsCloseF
 ghost use Rattle.dc_hub.specs.Entries.{actor_of, backlog_of, IsLegal};
 ghost use Rattle.dc_hub.specs.Views.{BookView, unused, board_caps, HasNoted, AreNewWires, AreNewSeats};
 ghost use Rattle.dc_hub.specs.declared.fault.OpenFault.TheVariants.{TraceLimit};
+ghost use Rattle.dc_board.specs.declared.limits.TheConstants.{MOST_WORDS};
+ghost use Rattle.dc_hub.specs.declared.limits.TheConstants.{GREATEST_BACKLOG, LONGEST_TRACE, MOST_ACTORS};
 
-use crate::book::{Book, LONGEST_TRACE};
+use crate::book::Book;
 use crate::closed::Closed;
 use crate::entry::Receipt;
 use crate::fault::{CloseFault, HubFault, OpenFault};
+use crate::limits::LONGEST_TRACE;
 use crate::opening::{board_of_marks, output_seats, router_seats, wire_seats};
 use crate::seat::{ClockSeat, OutputSeat, RouterSeat, Seat, Watch, WireSeat};
 use crate::seats::Seats;
@@ -26,9 +29,6 @@ use std::alloc::{AllocError, Global};
 use std::marker::Model;
 use std::sync::ledger::{Blank, Ledger};
 use std::sync::{Mutex, Wait};
-
-/// The most actors that tables have: 64 wires, 64 routers, 32 outputs and a clock.
-pub const MOST_ACTORS: u64 = 161;
 
 /// The book under its lock, and the board of marks beside it. Contracts see the board.
 #[derive(Drop)]
@@ -59,9 +59,9 @@ impl<L: Ledger> Hub<L> {
     ) -> Result<(Hub<L>, Seats<L>), OpenFault>
         requires name { blank.name ≡ L.name }
         requires parts { blank.parts ≡ L.parts }
-        requires enough { 161 ≤ blank.parts }
-        ensures limit { OnOk result ((1 ≤ trace_limit) × (trace_limit ≤ 16777216)) }
-        ensures refused { result ≡ Err TraceLimit → (1 ≤ trace_limit) × (trace_limit ≤ 16777216) → ⊥ }
+        requires enough { MOST_ACTORS ≤ blank.parts }
+        ensures limit { OnOk result ((1 ≤ trace_limit) × (trace_limit ≤ LONGEST_TRACE)) }
+        ensures refused { result ≡ Err TraceLimit → (1 ≤ trace_limit) × (trace_limit ≤ LONGEST_TRACE) → ⊥ }
         ensures wires { IfOk result (λ r. AreNewWires r.0 r.1.wires.items (length (tables_of certified).buses)) }
         ensures routers { IfOk result (λ r. AreNewSeats Router r.1.routers.items (length (tables_of certified).routers)) }
         ensures outputs { IfOk result (λ r. AreNewSeats Output r.1.outputs.items (length (tables_of certified).outputs)) }
@@ -86,7 +86,7 @@ impl<L: Ledger> Hub<L> {
     ) -> Result<(Hub<L>, Seats<L>), AllocError>
         requires name { blank.name ≡ L.name }
         requires parts { blank.parts ≡ L.parts }
-        requires enough { 161 ≤ blank.parts }
+        requires enough { MOST_ACTORS ≤ blank.parts }
         ensures wires { IfOk result (λ r. AreNewWires r.0 r.1.wires.items (length (tables_of certified).buses)) }
         ensures routers { IfOk result (λ r. AreNewSeats Router r.1.routers.items (length (tables_of certified).routers)) }
         ensures outputs { IfOk result (λ r. AreNewSeats Output r.1.outputs.items (length (tables_of certified).outputs)) }
@@ -121,7 +121,7 @@ impl<L: Ledger> Hub<L> {
     /// One step under the lock, which is released when the call returns.
     fn act<R: Wait>(&self, rt: &R, seat: &mut Seat<L>, event: Event) -> Result<Receipt, HubFault>
         requires { actor_of event ≡ seat.old.actor }
-        ensures receipt { IfOk result (λ r. (seat.new.receipts ≡ seat.old.receipts ++ r ∷ []) × (r.event ≡ event) × (backlog_of r.reply ≤ 4096)) }
+        ensures receipt { IfOk result (λ r. (seat.new.receipts ≡ seat.old.receipts ++ r ∷ []) × (r.event ≡ event) × (backlog_of r.reply ≤ GREATEST_BACKLOG)) }
         ensures same { OnErr result (seat.new ≡ seat.old) }
         ensures kept { (seat.new.actor ≡ seat.old.actor) × (seat.new.parts ≡ seat.old.parts) }
     {
@@ -139,13 +139,13 @@ impl<L: Ledger> Hub<L> {
         word: Word,
     ) -> Result<Receipt, HubFault>
         requires { IsSeatOf self.now seat.old.marks }
-        ensures receipt { IfOk result (λ r. (seat.new.seat.receipts ≡ seat.old.seat.receipts ++ r ∷ []) × ((bus : ℕ) → seat.old.seat.actor ≡ Wire bus → r.event ≡ Arrive bus word)) }
+        ensures receipt { IfOk result (λ r. (seat.new.seat.receipts ≡ seat.old.seat.receipts ++ r ∷ []) × ((bus : ℕ) → seat.old.seat.actor ≡ Wire bus → r.event ≡ Arrive word bus)) }
         ensures same { OnErr result (seat.new ≡ seat.old) }
         ensures kept { (seat.new.seat.actor ≡ seat.old.seat.actor) × (seat.new.seat.parts ≡ seat.old.seat.parts) }
         ensures board { IsSeatOf self.now seat.new.marks }
         ensures noted { HasNoted seat.new }
     {
-        let event = Event::Arrive(seat.bus, word);
+        let event = Event::Arrive(word, seat.bus);
         let receipt = self.act(rt, &mut seat.seat, event)?;
         note(&self.board, &mut seat.marks, seat.bus, &receipt.reply);
         Ok(receipt)
@@ -192,11 +192,11 @@ impl<L: Ledger> Hub<L> {
     /// The mark of a bus, the greatest backlog that was noted so far, in one step: without the lock, without memory.
     pub fn read(&self, watch: &mut Watch, bus: usize) -> u64
         requires watch { IsSeatOf self.now watch.old }
-        requires bus { bus < 64 }
+        requires bus { bus < MOST_WORDS }
         ensures watch { IsSeatOf self.now watch.new }
         ensures rises { slice_index watch.old.1.seen bus ≤ result }
         ensures shown { slice_index watch.new.1.seen bus ≡ result }
-        ensures most { result ≤ 4096 }
+        ensures most { result ≤ GREATEST_BACKLOG }
     {
         self.board.read(&mut watch.marks, bus)
     }
@@ -233,8 +233,8 @@ impl<L: Ledger> Hub<L> {
 /// Notes the backlog that a reply tells.
 fn note(board: &Board, seat: &mut BoardSeat, bus: usize, reply: &Reply)
     requires seat { IsSeatOf board.now seat.old }
-    requires bus { bus < 64 }
-    requires backlog { backlog_of reply.now ≤ 4096 }
+    requires bus { bus < MOST_WORDS }
+    requires backlog { backlog_of reply.now ≤ GREATEST_BACKLOG }
     requires caps { board.now.1 ≡ board_caps }
     ensures seat { IsSeatOf board.now seat.new }
     ensures noted { seat.new.1.noted ≡ raised seat.old.1.noted bus (backlog_of reply.now) }

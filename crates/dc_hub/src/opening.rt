@@ -4,18 +4,20 @@ ghost use Rattle.std.specs.Prelude.{◌≡◌, ◌+◌, ◌<◌, ◌≤◌, IfOk
 ghost use Rattle.dc_board.specs.Marks.{IsSeatOf, fresh};
 ghost use Rattle.dc_event.specs.declared.event.Actor.TheVariants.{Wire, Router, Output};
 ghost use Rattle.dc_hub.specs.Views.{board_caps, AreNewWires, AreNewSeats};
+ghost use Rattle.dc_board.specs.declared.limits.TheConstants.{MOST_WORDS};
 
+use crate::limits::GREATEST_BACKLOG;
 use crate::seat::{OutputSeat, RouterSeat, Seat, WireSeat};
-use dc_board::{Board, BoardSeat};
+use dc_board::{Board, BoardSeat, MOST_WORDS};
 use dc_event::Actor;
 use std::alloc::{AllocError, Global};
 use std::sync::ledger::{Ledger, Share};
 
-/// The board of a hub: 64 words, each at most the greatest capacity of a queue.
+/// The board of a hub: [`MOST_WORDS`] words, each at most [`GREATEST_BACKLOG`].
 pub fn board_of_marks(alloc: Global) -> Result<(Board, BoardSeat), AllocError>
     ensures { IfOk result (λ r. (r.0.1 ≡ board_caps) × IsSeatOf r.0 r.1 × (r.1.1 ≡ fresh board_caps)) }
 {
-    let caps = [4096u64; 64];
+    let caps = [GREATEST_BACKLOG; MOST_WORDS];
     Board::new(alloc, caps.to_vec(alloc)?)
 }
 
@@ -28,7 +30,7 @@ pub fn wire_seats<L: Ledger>(
     count: usize,
 ) -> Result<Vec<WireSeat<L>>, AllocError>
     requires watch { IsSeatOf board.now watch.old }
-    requires few { count ≤ 64 }
+    requires few { count ≤ MOST_WORDS }
     requires parts { count < rest.old.parts }
     requires amount { rest.old.amount ≡ 0 }
     ensures wires { IfOk result (λ v. AreNewWires board.now v.items count) }

@@ -5,6 +5,7 @@ ghost use Rattle.atomic_table.specs.Seated.{TableId};
 ghost use Rattle.dc_board.specs.declared.view.View.{View};
 ghost use Rattle.dc_event.specs.declared.event.Actor.TheVariants.{Wire, Router, Output, Clock};
 ghost use Rattle.dc_hub.specs.Views.{SeatView, WireView, unused, HasNoted, IsNotedAt, greatest};
+ghost use Rattle.dc_board.specs.declared.limits.TheConstants.{MOST_WORDS};
 
 use crate::entry::Receipt;
 use dc_board::BoardSeat;
@@ -71,7 +72,16 @@ impl<L: Ledger> Model for WireSeat<L> {
 
     ghost view = { λ s. record { seat = s.seat; marks = s.marks } };
 
-    ghost invariant = { λ s. (s.seat.actor ≡ Wire s.bus) × (s.bus < 64) × IsNotedAt s.bus (greatest s.seat.receipts) s.marks.1.noted };
+    ghost invariant = { λ s. (s.seat.actor ≡ Wire s.bus) × (s.bus < MOST_WORDS) × IsNotedAt s.bus (greatest s.seat.receipts) s.marks.1.noted };
+}
+
+impl<L: Ledger> WireSeat<L> {
+    /// What the wire was answered.
+    pub fn seat(&self) -> &Seat<L>
+        ensures { result.now ≡ self.now.seat }
+    {
+        &self.seat
+    }
 }
 
 /// The seat of a router.
@@ -89,6 +99,15 @@ impl<L: Ledger> Model for RouterSeat<L> {
     ghost invariant = { λ s. s.seat.actor ≡ Router s.router };
 }
 
+impl<L: Ledger> RouterSeat<L> {
+    /// What the router was answered.
+    pub fn seat(&self) -> &Seat<L>
+        ensures { result.now ≡ self.now }
+    {
+        &self.seat
+    }
+}
+
 /// The seat of an output.
 #[derive(Drop)]
 pub struct OutputSeat<L: Ledger> {
@@ -104,6 +123,15 @@ impl<L: Ledger> Model for OutputSeat<L> {
     ghost invariant = { λ s. s.seat.actor ≡ Output s.output };
 }
 
+impl<L: Ledger> OutputSeat<L> {
+    /// What the output was answered.
+    pub fn seat(&self) -> &Seat<L>
+        ensures { result.now ≡ self.now }
+    {
+        &self.seat
+    }
+}
+
 /// The seat of the clock.
 #[derive(Drop)]
 pub struct ClockSeat<L: Ledger> {
@@ -116,6 +144,15 @@ impl<L: Ledger> Model for ClockSeat<L> {
     ghost view = { λ s. s.seat };
 
     ghost invariant = { λ s. s.seat.actor ≡ Clock };
+}
+
+impl<L: Ledger> ClockSeat<L> {
+    /// What the clock was answered.
+    pub fn seat(&self) -> &Seat<L>
+        ensures { result.now ≡ self.now }
+    {
+        &self.seat
+    }
 }
 
 /// A seat at the board that only reads.

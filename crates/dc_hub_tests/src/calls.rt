@@ -33,8 +33,8 @@ fn three_calls_have_indexes_1_2_3(rt: HostRuntime) -> Result<(), Fail> {
         Blank::new(MOST_ACTORS),
         16,
         &[
-            (Event::Arrive(0, FIRST), Ok(Reply::Queued(1))),
-            (Event::Route(0), Ok(Reply::Took(0, FIRST))),
+            (Event::Arrive(FIRST, 0), Ok(Reply::Queued(1))),
+            (Event::Route(0), Ok(Reply::Took(FIRST, 0))),
             (Event::Tick, Ok(Reply::Now(1))),
         ],
         End::Whole,
@@ -56,8 +56,8 @@ fn a_forged_receipt_does_not_close(rt: HostRuntime) -> Result<(), Fail> {
         Blank::new(MOST_ACTORS),
         16,
         &[
-            (Event::Arrive(0, FIRST), Ok(Reply::Queued(1))),
-            (Event::Route(0), Ok(Reply::Took(0, FIRST))),
+            (Event::Arrive(FIRST, 0), Ok(Reply::Queued(1))),
+            (Event::Route(0), Ok(Reply::Took(FIRST, 0))),
             (Event::Tick, Ok(Reply::Now(1))),
         ],
         End::Forged,
@@ -75,8 +75,8 @@ fn three_entries_fill_a_book_of_three(rt: HostRuntime) -> Result<(), Fail> {
         Blank::new(MOST_ACTORS),
         3,
         &[
-            (Event::Arrive(0, FIRST), Ok(Reply::Queued(1))),
-            (Event::Route(0), Ok(Reply::Took(0, FIRST))),
+            (Event::Arrive(FIRST, 0), Ok(Reply::Queued(1))),
+            (Event::Route(0), Ok(Reply::Took(FIRST, 0))),
             (Event::Send(0), Ok(Reply::Sent(label, FIRST))),
             (Event::Tick, Err(HubFault::TraceFull)),
         ],

@@ -124,7 +124,7 @@ fn call<L: Ledger, R: Wait>(
     ensures { AreOfBoard hub.now seats.new.wires.items }
 {
     match *event {
-        Event::Arrive(bus, word) => arrive(rt, hub, &mut seats.wires, bus, word),
+        Event::Arrive(word, bus) => arrive(rt, hub, &mut seats.wires, bus, word),
         Event::Route(router) => route(rt, hub, &mut seats.routers, router),
         Event::Send(output) => send(rt, hub, &mut seats.outputs, output),
         Event::Tick => tick(rt, hub, &mut seats.clock),

@@ -233,7 +233,7 @@ fn run_seats<L: Ledger + Send + Sync, R: Threads + Wait + Sync>(
 
 /// Raises the mark of the bus to the backlog that its wire was answered.
 fn raise(marks: &mut [u64; 64], entry: &Entry) {
-    let Event::Arrive(bus, _) = entry.event else {
+    let Event::Arrive(_, bus) = entry.event else {
         return;
     };
     let Reply::Queued(backlog) = entry.reply else {

@@ -10,7 +10,7 @@ use Rattle.dc_margin.specs.Margins.{room, has_room, is_kept, window_margin_of, d
 use Rattle.dc_margin.specs.Peaks.{peak, waiting, least_below, needed}
 use Rattle.dc_margin.specs.lemmas.Heights.{there-is, enough}
 
-same-test : (a b : Bool) → (a ≡ true → b ≡ true) → (b ≡ true → a ≡ true) → a ≡ b
+pub same-test : (a b : Bool) → (a ≡ true → b ≡ true) → (b ≡ true → a ≡ true) → a ≡ b
 same-test true b f g = sym (f refl)
 same-test false true f g = g refl
 same-test false false f g = refl

@@ -3,7 +3,7 @@ use Rattle.std.proofs.Common.{◌≡◌, ℕ, Bool, true, false, ℤ, Option, So
 use Rattle.std.specs.Prelude.{nat_le, if◌then◌else◌}
 use Rattle.std.proofs.Math.Path.{fun_ext}
 use Rattle.dc_cert.specs.Bounds.{InputBound, OutputBound}
-use Rattle.dc_margin.specs.Margins.{room, told, margin_by, backlog_margin_of, delay_margin_of, input_margins_given, output_margins_given}
+use Rattle.dc_margin.specs.Margins.{room, told, margin_by, by_window, backlog_margin_of, delay_margin_of, input_margins_given, output_margins_given}
 use Rattle.dc_margin.specs.Peaks.{IsPeak, waiting, needed}
 use Rattle.dc_margin.specs.lemmas.Heights.{peak-is}
 use Rattle.dc_margin.specs.declared.margin.Margin.{Margin}
@@ -13,10 +13,6 @@ use Rattle.dc_margin.specs.declared.margin.Decider.TheVariants.{Window}
 pub told-there : (b : Bool) (m : Margin) → b ≡ true → Some m ≡ told b m
 told-there true m h = refl
 told-there false m h = absurd cc
-
--- the margin that a window decides
-abbrev by_window : Option ℤ → ℕ → Margin
-by_window slack w = record { slack = slack; decider = Window w }
 
 module _ (cap floor : ℕ → ℕ) (window : ℕ) where
   pub backlog-told : (backlog w h : ℕ) (slack : ℤ) → slack ≡ room backlog h → IsPeak (waiting cap floor) window w h → margin_by slack (Window w) ≡ backlog_margin_of cap floor window backlog

@@ -1,4 +1,5 @@
 pub mod Peaks
 pub mod Margins
+pub mod Lines
 -- lemmas that laws cite
 pub mod lemmas

@@ -1,14 +1,12 @@
 -- The margins of a certificate: how far each of its conditions is from failing, and what decides it. A margin is negative
 -- exactly where its condition fails; one that rests on a window or on a delay out of range is not told.
-use Rattle.std.specs.Prelude.{ℕ, ◌+◌, ◌-◌, Bool, true, false, not, ◌&&◌, if◌then◌else◌, nat_lt, nat_le, ℤ, pos, ◌-ℤ◌, int_lt, Option, Some, None, List, [], ◌∷◌, length, slice_index}
+use Rattle.std.specs.Prelude.{ℕ, ◌+◌, ◌-◌, Bool, true, false, not, ◌&&◌, if◌then◌else◌, nat_lt, nat_le, ℤ, pos, ◌-ℤ◌, int_lt, Option, Some, None, List, slice_index}
 use Rattle.std.specs.Int.{int_min}
 use Rattle.std.specs.List.{fold}
-use Rattle.dc_cert.specs.Bounds.{InputBound, OutputBound, CertificateRows, input_bound, output_bound}
+use Rattle.dc_busy.specs.declared.limits.TheConstants.{LONGEST_WINDOW}
+use Rattle.dc_cert.specs.Bounds.{InputBound, OutputBound, CertificateRows}
 use Rattle.dc_check.specs.Accepts.{label_delay, source_delay}
-use Rattle.dc_check.specs.Verdict.{fault_at, unless, first_of, is_window, is_delay, job_count, first_job_fault}
-use Rattle.dc_check.specs.declared.fault.CheckFault.{CheckFault}
-use Rattle.dc_check.specs.declared.fault.Condition.TheVariants.{WindowOutOfRange, WindowDoesNotClose, BacklogTooSmall, QueueTooShort, DelayTooSmall, DelayOutOfRange, SentTooSoon, SentTooLate, AgeTooSmall, AgeOverLimit, SourceGoesStale}
-use Rattle.dc_check.specs.declared.fault.CertificateList.TheVariants.{Inputs, Outputs, Labels}
+use Rattle.dc_check.specs.Verdict.{is_window, is_delay}
 use Rattle.dc_margin.specs.Peaks.{peak, waiting, needed}
 use Rattle.dc_margin.specs.declared.margin.Margin.{Margin}
 use Rattle.dc_margin.specs.declared.margin.InputMargins.{InputMargins}
@@ -29,15 +27,19 @@ room x y = pos x -ℤ pos y
 abbrev pub margin_by : ℤ → Decider → Margin
 margin_by slack decider = record { slack = Some slack; decider = decider }
 
+-- so much room or none, decided by so many ticks of the window
+abbrev pub by_window : Option ℤ → ℕ → Margin
+by_window slack w = record { slack = slack; decider = Window w }
+
 -- the margin, where what it rests on is in range
 abbrev pub told : Bool → Margin → Option Margin
 told in_range margin = if in_range then Some margin else None
 
 -- ---- the conditions on a queue, by the most that comes (cap) and the fewest that are taken (floor) in so many ticks
 
--- C02: how far the window is from the nearer of its limits, 1 and 100,000
+-- C02: how far the window is from the nearer of its limits, 1 and the longest window
 abbrev pub window_margin_of : ℕ → Margin
-window_margin_of window = margin_by (int_min (room window 1) (room 100000 window)) Numbers
+window_margin_of window = margin_by (int_min (room window 1) (room LONGEST_WINDOW window)) Numbers
 
 -- C03: how many more are taken in the window's ticks but the first than may come in all of them
 abbrev pub closing_margin_of : (cap floor : ℕ → ℕ) → ℕ → Margin
@@ -54,15 +56,15 @@ abbrev pub queue_margin_of : (queue backlog : ℕ) → Margin
 queue_margin_of queue backlog = margin_by (room queue backlog) Numbers
 
 -- C06: the delay less the least that passes, with the first w of the window that needs it; none where no delay up to
--- 100,000 passes, with the first w for which none does
+-- the longest window passes, with the first w for which none does
 unfoldable pub delay_margin_of : (cap floor : ℕ → ℕ) → (window delay : ℕ) → Margin
 delay_margin_of cap floor window delay =
     let w = peak (needed cap floor) window in
-    record { slack = if nat_le (needed cap floor w) 100000 then Some (room delay (needed cap floor w)) else None; decider = Window w }
+    by_window (if nat_le (needed cap floor w) LONGEST_WINDOW then Some (room delay (needed cap floor w)) else None) w
 
--- C07: how far the delay is from its limit, 100,000
+-- C07: how far the delay is from its limit, the longest window
 abbrev pub delay_limit_margin_of : ℕ → Margin
-delay_limit_margin_of delay = margin_by (room 100000 delay) Numbers
+delay_limit_margin_of delay = margin_by (room LONGEST_WINDOW delay) Numbers
 
 -- ---- an input, an output
 
@@ -145,7 +147,7 @@ label_margins_of t x c = record {
   fresh = told (are_in_range t c x) (fresh_margin_of (label_row t x).stale (silence t c (rarest_source t c x)) (rarest_source t c x));
 }
 
--- ---- the first negative one
+-- ---- which are negative
 
 -- whether there is room: at least 0
 abbrev pub has_room : Option ℤ → Bool
@@ -156,48 +158,3 @@ has_room (Some slack) = not (int_lt slack (pos 0))
 unfoldable pub is_kept : Option Margin → Bool
 is_kept None = true
 is_kept (Some margin) = has_room margin.slack
-
--- the first negative margin of an input, an output, a label, in the order of the verdict, as a fault that names no window
-abbrev pub input_fault_of : ℕ → InputMargins → Option CheckFault
-input_fault_of b m =
-    first_of (unless (is_kept m.window) (fault_at Inputs b WindowOutOfRange 0)
-    ∷ unless (is_kept m.delay_limit) (fault_at Inputs b DelayOutOfRange 0)
-    ∷ unless (is_kept m.closes) (fault_at Inputs b WindowDoesNotClose 0)
-    ∷ unless (is_kept m.backlog) (fault_at Inputs b BacklogTooSmall 0)
-    ∷ unless (is_kept m.queue) (fault_at Inputs b QueueTooShort 0)
-    ∷ unless (is_kept m.delay) (fault_at Inputs b DelayTooSmall 0)
-    ∷ [])
-
-abbrev pub output_fault_of : ℕ → OutputMargins → Option CheckFault
-output_fault_of o m =
-    first_of (unless (is_kept m.window) (fault_at Outputs o WindowOutOfRange 0)
-    ∷ unless (is_kept m.delay_limit) (fault_at Outputs o DelayOutOfRange 0)
-    ∷ unless (is_kept m.closes) (fault_at Outputs o WindowDoesNotClose 0)
-    ∷ unless (is_kept m.delay) (fault_at Outputs o DelayTooSmall 0)
-    ∷ [])
-
-abbrev pub label_fault_of : ℕ → LabelMargins → Option CheckFault
-label_fault_of x m =
-    first_of (unless (is_kept m.soon) (fault_at Labels x SentTooSoon 0)
-    ∷ unless (is_kept m.late) (fault_at Labels x SentTooLate 0)
-    ∷ unless (is_kept m.age) (fault_at Labels x AgeTooSmall 0)
-    ∷ unless (is_kept m.age_limit) (fault_at Labels x AgeOverLimit 0)
-    ∷ unless (is_kept m.fresh) (fault_at Labels x SourceGoesStale 0)
-    ∷ [])
-
--- of a job: the inputs, the outputs and the labels in one row, from 0
-unfoldable pub margin_fault : TableRows → CertificateRows → ℕ → Option CheckFault
-margin_fault t c job =
-    let inputs = length t.buses in
-    let outputs = length t.outputs in
-    if nat_lt job inputs then input_fault_of job (input_margins_of t job (input_bound c job))
-    else if nat_lt job (inputs + outputs) then output_fault_of (job - inputs) (output_margins_of t (job - inputs) (output_bound c (job - inputs)))
-    else label_fault_of (job - (inputs + outputs)) (label_margins_of t (job - (inputs + outputs)) c)
-
--- the first negative margin of a certificate
-abbrev pub first_negative : TableRows → CertificateRows → Option CheckFault
-first_negative t c = first_job_fault (margin_fault t c) (job_count t)
-
--- a fault, its window left out
-abbrev pub windowless : CheckFault → CheckFault
-windowless fault = fault_at fault.part fault.index fault.condition 0

@@ -1,5 +1,6 @@
 -- What may wait and what delay is needed, and where in a window it is greatest.
 use Rattle.std.specs.Prelude.{◌≡◌, ℕ, zero, suc, ◌+◌, ◌-◌, ◌≤◌, ◌<◌, Bool, if◌then◌else◌, nat_lt, nat_le}
+use Rattle.dc_busy.specs.declared.limits.TheConstants.{LONGEST_WINDOW}
 
 -- h is the height of f at w, the first number from 1 to the window at which f is greatest
 pub record IsPeak (f : ℕ → ℕ) (window w h : ℕ) : Type 0 where
@@ -23,6 +24,6 @@ unfoldable pub least_below : ℕ → (ℕ → Bool) → ℕ
 least_below zero test = 0
 least_below (suc n) test = if test 0 then 0 else suc (least_below n (λ d. test (suc d)))
 
--- the least delay up to 100,000 in which all that may come in w ticks is taken, 100,001 where there is none
+-- the least delay up to the longest window in which all that may come in w ticks is taken, one more where there is none
 abbrev pub needed : (cap floor : ℕ → ℕ) → ℕ → ℕ
-needed cap floor w = least_below 100001 (λ d. nat_le (cap w) (floor (w - 1 + d)))
+needed cap floor w = least_below (LONGEST_WINDOW + 1) (λ d. nat_le (cap w) (floor (w - 1 + d)))

@@ -3,11 +3,18 @@
 
 mod labels;
 pub mod laws;
+mod lines;
 mod margin;
 mod peaks;
 mod queues;
+mod verdict;
 
 pub use labels::label_margins;
+pub use lines::{
+    MarginLine, MarginLines, Measure, input_lines, label_lines, line_parts, margin_lines,
+    output_lines, part_lines,
+};
 pub use margin::{Decider, InputMargins, LabelMargins, Margin, OutputMargins};
-pub use peaks::{Peak, backlog_peak, delay_peak};
+pub use peaks::{Peak, Peaks, peaks_of};
 pub use queues::{input_margins, output_margins};
+pub use verdict::verdict_fault;

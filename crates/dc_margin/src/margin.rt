@@ -16,7 +16,7 @@ pub enum Decider {
 /// How far a condition is from failing.
 #[derive(Clone, Copy, Debug, PartialEq, Eq)]
 pub struct Margin {
-    /// In words or in ticks; negative where the condition fails. `None` for C06 where no delay up to 100,000 passes: it
+    /// In words or in ticks; negative where the condition fails. `None` for C06 where no delay up to the longest window passes: it
     /// fails then too.
     pub slack: Option<i64>,
     /// What decides it.

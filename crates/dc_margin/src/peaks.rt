@@ -1,10 +1,11 @@
 //! Where in a window most may wait, and where the longest delay is needed.
 
-ghost use Rattle.std.specs.Prelude.{◌≤◌};
+ghost use Rattle.std.specs.Prelude.{◌≡◌, ◌+◌, ◌-◌, ◌<◌, ◌≤◌, if◌then◌else◌, nat_lt};
+ghost use Rattle.dc_busy.specs.declared.limits.TheConstants.{LONGEST_WINDOW};
 ghost use Rattle.dc_margin.specs.Peaks.{IsPeak, waiting, needed};
 
 use dc_bound::{ArrivalBound, ServiceBound};
-use dc_busy::{LONGEST_WINDOW, backlog_fails, delay_fails, least_delay, most_backlog};
+use dc_busy::LONGEST_WINDOW;
 
 /// A greatest height, and the first number of ticks that has it.
 #[derive(Clone, Copy, Debug, PartialEq, Eq)]
@@ -13,35 +14,88 @@ pub struct Peak {
     pub height: u64,
 }
 
-/// The most that may wait in a window of 1 to 100,000 ticks, and the first number of its ticks with so many.
-pub fn backlog_peak<A: ArrivalBound, S: ServiceBound>(
-    arrivals: &A,
-    service: &S,
-    window: u32,
-) -> Peak
+/// What decides a window.
+#[derive(Clone, Copy, Debug, PartialEq, Eq)]
+pub struct Peaks {
+    /// The most that may wait, in words.
+    pub backlog: Peak,
+    /// The least delay that is needed, in ticks; [`LONGEST_WINDOW`] + 1 where no delay up to it is enough.
+    pub delay: Peak,
+}
+
+/// The most that may wait in a window of 1 to [`LONGEST_WINDOW`] ticks, and the least delay that it needs, each with the
+/// first number of its ticks that has it, by one walk.
+pub fn peaks_of<A: ArrivalBound, S: ServiceBound>(arrivals: &A, service: &S, window: u32) -> Peaks
     requires least { 1 ≤ window }
-    requires most { window ≤ 100000 }
-    ensures { IsPeak (waiting (A.cap arrivals.now) (S.floor service.now)) window result.ticks result.height }
+    requires most { window ≤ LONGEST_WINDOW }
+    ensures backlog { IsPeak (waiting (A.cap arrivals.now) (S.floor service.now)) window result.backlog.ticks result.backlog.height }
+    ensures delay { IsPeak (needed (A.cap arrivals.now) (S.floor service.now)) window result.delay.ticks result.delay.height }
 {
-    let height = most_backlog(arrivals, service, window);
-    let first = backlog_fails(arrivals, service, window, height.saturating_sub(1));
-    Peak {
-        ticks: first.unwrap_or(1),
-        height,
+    let mut backlog = Peak {
+        ticks: 1,
+        height: 0,
+    };
+    let mut delay = backlog;
+    let mut ticks = 1;
+    while ticks <= window {
+        let (most, jump) = arrivals.at_most_and_jump(ticks);
+        let waiting = most.saturating_sub(service.at_least(ticks.saturating_sub(2)));
+        backlog = higher(backlog, ticks, waiting);
+        delay = later(service, delay, ticks, most);
+        ticks = jump.unwrap_or(window + 1);
+    }
+    Peaks { backlog, delay }
+}
+
+// The peak with this height at so many ticks, where it is above that so far.
+fn higher(peak: Peak, ticks: u32, height: u64) -> Peak
+    ensures { result ≡ (if nat_lt peak.height height then record { ticks = ticks; height = height } else peak) }
+{
+    if peak.height < height {
+        Peak { ticks, height }
+    } else {
+        peak
     }
 }
 
-/// The least delay that a window of 1 to 100,000 ticks needs, and the first number of its ticks that needs it. Where no
-/// delay up to 100,000 is enough it is 100,001.
-pub fn delay_peak<A: ArrivalBound, S: ServiceBound>(arrivals: &A, service: &S, window: u32) -> Peak
-    requires least { 1 ≤ window }
-    requires most { window ≤ 100000 }
-    ensures { IsPeak (needed (A.cap arrivals.now) (S.floor service.now)) window result.ticks result.height }
+// The peak with the delay that so many words need in so many ticks, where it is above that so far.
+fn later<S: ServiceBound>(service: &S, peak: Peak, ticks: u32, most: u64) -> Peak
+    requires some { 1 ≤ ticks }
+    requires short { ticks ≤ LONGEST_WINDOW }
+    requires low { peak.height ≤ LONGEST_WINDOW + 1 }
+    ensures { result ≡ (if nat_lt peak.height (needed (λ _. most) (S.floor service.now) ticks) then record { ticks = ticks; height = needed (λ _. most) (S.floor service.now) ticks } else peak) }
 {
-    let delay = least_delay(arrivals, service, window).unwrap_or(LONGEST_WINDOW + 1);
-    let first = delay_fails(arrivals, service, window, delay.saturating_sub(1));
-    Peak {
-        ticks: first.unwrap_or(1),
-        height: u64::from(delay),
+    if peak.height > u64::from(LONGEST_WINDOW) {
+        return peak;
     }
+    let delay = peak.height as u32;
+    if service.at_least(ticks - 1 + delay) >= most {
+        return peak;
+    }
+    Peak {
+        ticks,
+        height: u64::from(longer(service, ticks, delay, most)),
+    }
+}
+
+// The least delay that so many words need in so many ticks, found by halves above one that is too short; one above
+// `LONGEST_WINDOW` where there is none up to it.
+fn longer<S: ServiceBound>(service: &S, ticks: u32, delay: u32, most: u64) -> u32
+    requires some { 1 ≤ ticks }
+    requires short { ticks ≤ LONGEST_WINDOW }
+    requires low { delay ≤ LONGEST_WINDOW }
+    requires fails { S.floor service.now (ticks - 1 + delay) < most }
+    ensures { result ≡ needed (λ _. most) (S.floor service.now) ticks }
+{
+    let mut low = delay + 1;
+    let mut high = LONGEST_WINDOW + 1;
+    while low < high {
+        let middle = low + (high - low) / 2;
+        if service.at_least(ticks - 1 + middle) < most {
+            low = middle + 1;
+        } else {
+            high = middle;
+        }
+    }
+    high
 }

@@ -1,14 +1,16 @@
 //! The margins of an input and of an output, by the bounds of their queues.
 
 ghost use Rattle.std.specs.Prelude.{◌≡◌, ℕ, ◌^◌, ◌<◌, ◌≤◌, ◌&&◌, Some, None, nat_le, if◌then◌else◌, length};
+ghost use Rattle.dc_bound.specs.declared.limits.TheConstants.{GREATEST_CAP};
+ghost use Rattle.dc_busy.specs.declared.limits.TheConstants.{LONGEST_WINDOW};
 ghost use Rattle.dc_cert.specs.Bounds.{certificate_rows, input_bound, output_bound};
 ghost use Rattle.dc_check.specs.Verdict.{IsSized, is_window, is_delay};
-ghost use Rattle.dc_margin.specs.Margins.{room, told, window_margin_of, closing_margin_of, backlog_margin_of, queue_margin_of, delay_margin_of, delay_limit_margin_of, input_margins_of, output_margins_of};
+ghost use Rattle.dc_margin.specs.Margins.{room, told, margin_by, by_window, window_margin_of, closing_margin_of, backlog_margin_of, queue_margin_of, delay_margin_of, delay_limit_margin_of, input_margins_of, output_margins_of};
 ghost use Rattle.dc_margin.specs.Margins.{input_margins_given, output_margins_given};
-ghost use Rattle.dc_margin.specs.declared.margin.Decider.TheVariants.{Numbers};
+ghost use Rattle.dc_margin.specs.declared.margin.Decider.TheVariants.{Numbers, Window};
 
 use crate::margin::{Decider, InputMargins, Margin, OutputMargins};
-use crate::peaks::{backlog_peak, delay_peak};
+use crate::peaks::{Peak, peaks_of};
 use dc_bound::{ArrivalBound, ServiceBound};
 use dc_busy::LONGEST_WINDOW;
 use dc_cert::Certificate;
@@ -67,19 +69,12 @@ pub(crate) fn is_short(delay: u32) -> bool
     delay <= LONGEST_WINDOW
 }
 
-/// Whether both are in range.
-fn are_in_range(window: u32, delay: u32) -> bool
-    ensures { result ≡ (is_window window && is_delay delay) }
-{
-    in_range(window) && is_short(delay)
-}
-
 fn closing_margin<A: ArrivalBound, S: ServiceBound>(
     arrivals: &A,
     service: &S,
     window: u32,
 ) -> Option<Margin>
-    requires few { (d : ℕ) → d ≤ 100000 → S.floor service.now d ≤ 2 ^ 40 }
+    requires few { (d : ℕ) → d ≤ LONGEST_WINDOW → S.floor service.now d ≤ GREATEST_CAP }
     ensures { result ≡ told (is_window window) (closing_margin_of (A.cap arrivals.now) (S.floor service.now) window) }
 {
     if !in_range(window) {
@@ -90,45 +85,50 @@ fn closing_margin<A: ArrivalBound, S: ServiceBound>(
     Some(of_numbers(difference(taken, come)))
 }
 
-fn backlog_margin<A: ArrivalBound, S: ServiceBound>(
-    arrivals: &A,
-    service: &S,
-    window: u32,
-    backlog: u32,
-) -> Option<Margin>
-    ensures { result ≡ told (is_window window) (backlog_margin_of (A.cap arrivals.now) (S.floor service.now) window backlog) }
+fn backlog_margin(backlog: u32, peak: Peak) -> Margin
+    requires { peak.height ≤ 2 ^ 62 }
+    ensures { result ≡ margin_by (room backlog peak.height) (Window peak.ticks) }
 {
-    if !in_range(window) {
-        return None;
-    }
-    let peak = backlog_peak(arrivals, service, window);
-    Some(Margin {
+    Margin {
         slack: Some(difference(u64::from(backlog), peak.height)),
         decider: Decider::Window(peak.ticks),
-    })
+    }
 }
 
-fn delay_margin<A: ArrivalBound, S: ServiceBound>(
-    arrivals: &A,
-    service: &S,
-    window: u32,
-    delay: u32,
-) -> Option<Margin>
-    ensures { result ≡ told (is_window window && is_delay delay) (delay_margin_of (A.cap arrivals.now) (S.floor service.now) window delay) }
+fn delay_margin(delay: u32, peak: Peak) -> Option<Margin>
+    ensures { result ≡ told (is_delay delay) (by_window (if nat_le peak.height LONGEST_WINDOW then Some (room delay peak.height) else None) peak.ticks) }
 {
-    if !are_in_range(window, delay) {
+    if !is_short(delay) {
         return None;
     }
-    let peak = delay_peak(arrivals, service, window);
     Some(Margin {
         slack: delay_slack(delay, peak.height),
         decider: Decider::Window(peak.ticks),
     })
 }
 
-/// The delay less the one that is needed; none where that is over 100,000.
+/// The margins of C04 and of C06, by one walk through the window.
+fn peak_margins<A: ArrivalBound, S: ServiceBound>(
+    arrivals: &A,
+    service: &S,
+    window: u32,
+    backlog: u32,
+    delay: u32,
+) -> (Option<Margin>, Option<Margin>)
+    ensures backlog { result.0 ≡ told (is_window window) (backlog_margin_of (A.cap arrivals.now) (S.floor service.now) window backlog) }
+    ensures delay { result.1 ≡ told (is_window window && is_delay delay) (delay_margin_of (A.cap arrivals.now) (S.floor service.now) window delay) }
+{
+    if !in_range(window) {
+        return (None, None);
+    }
+    let peaks = peaks_of(arrivals, service, window);
+    let backlog = backlog_margin(backlog, peaks.backlog);
+    (Some(backlog), delay_margin(delay, peaks.delay))
+}
+
+/// The delay less the one that is needed; none where that is over [`LONGEST_WINDOW`].
 fn delay_slack(delay: u32, needed: u64) -> Option<i64>
-    ensures { result ≡ (if nat_le needed 100000 then Some (room delay needed) else None) }
+    ensures { result ≡ (if nat_le needed LONGEST_WINDOW then Some (room delay needed) else None) }
 {
     if needed > u64::from(LONGEST_WINDOW) {
         return None;
@@ -145,16 +145,17 @@ fn input_margins_by<A: ArrivalBound, S: ServiceBound>(
     backlog: u32,
     delay: u32,
 ) -> InputMargins
-    requires few { (d : ℕ) → d ≤ 100000 → S.floor service.now d ≤ 2 ^ 40 }
+    requires few { (d : ℕ) → d ≤ LONGEST_WINDOW → S.floor service.now d ≤ GREATEST_CAP }
     ensures { result ≡ input_margins_given (A.cap arrivals.now) (S.floor service.now) queue (record { window = window; backlog = backlog; delay = delay }) }
 {
+    let (waiting, late) = peak_margins(arrivals, service, window, backlog, delay);
     InputMargins {
         window: Some(window_margin(window)),
         delay_limit: Some(delay_limit_margin(delay)),
         closes: closing_margin(arrivals, service, window),
-        backlog: backlog_margin(arrivals, service, window, backlog),
+        backlog: waiting,
         queue: Some(queue_margin(queue, backlog)),
-        delay: delay_margin(arrivals, service, window, delay),
+        delay: late,
     }
 }
 
@@ -165,14 +166,15 @@ fn output_margins_by<A: ArrivalBound, S: ServiceBound>(
     window: u32,
     delay: u32,
 ) -> OutputMargins
-    requires few { (d : ℕ) → d ≤ 100000 → S.floor service.now d ≤ 2 ^ 40 }
+    requires few { (d : ℕ) → d ≤ LONGEST_WINDOW → S.floor service.now d ≤ GREATEST_CAP }
     ensures { result ≡ output_margins_given (A.cap arrivals.now) (S.floor service.now) (record { window = window; delay = delay }) }
 {
+    let (_, late) = peak_margins(arrivals, service, window, 0, delay);
     OutputMargins {
         window: Some(window_margin(window)),
         delay_limit: Some(delay_limit_margin(delay)),
         closes: closing_margin(arrivals, service, window),
-        delay: delay_margin(arrivals, service, window, delay),
+        delay: late,
     }
 }
 

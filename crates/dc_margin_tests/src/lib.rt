@@ -2,4 +2,10 @@
 #![tactic(auto)]
 
 #[cfg(test)]
+mod codes;
+#[cfg(test)]
+mod large;
+#[cfg(test)]
 mod small;
+#[cfg(test)]
+mod texts;

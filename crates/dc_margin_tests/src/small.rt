@@ -1,103 +1,17 @@
 //! The margins of the small tables with their certificate, and of certificates with one number less.
 
-use dc_cert::{Certificate, read_cert};
-use dc_check::misnamed;
+use crate::texts::{small_certificate, small_tables};
+use dc_cert::Certificate;
+use dc_check::{misnamed, verdict};
 use dc_margin::{
     Decider, InputMargins, LabelMargins, Margin, OutputMargins, input_margins, label_margins,
-    output_margins,
+    margin_lines, output_margins, verdict_fault,
 };
 use dc_tables::Tables;
-use dc_toml::read_tables;
 use std::alloc::Global;
 use std::process::Abort;
 use std::rt::HostRuntime;
 use std::test::Fail;
-
-/// One bus with two streams of one word each ten ticks, visited once a tick; an output that sends once in two ticks.
-const SMALL: &str = "version = 1
-tick_us = 1000
-[[parameter]]
-label = \"203\"
-equipment = \"001\"
-format = \"bnr\"
-min_us = 10000
-max_us = 20000
-[[parameter]]
-label = \"204\"
-equipment = \"001\"
-format = \"bnr\"
-min_us = 10000
-max_us = 20000
-[[bus]]
-name = \"A\"
-speed = \"high\"
-queue = 2
-[[bus.stream]]
-name = \"A-203\"
-label = \"203\"
-equipment = \"001\"
-sdi = \"any\"
-[[bus.stream]]
-name = \"A-204\"
-label = \"204\"
-equipment = \"001\"
-sdi = \"any\"
-[[router]]
-name = \"R1\"
-steps = 1
-within = 1
-most = 2
-visits = [\"A\"]
-[[output]]
-name = \"O\"
-speed = \"high\"
-steps = 1
-within = 2
-frame = 15
-[[output.label]]
-name = \"x\"
-label = \"203\"
-equipment = \"001\"
-sdi = 0
-sources = [\"A-203\"]
-stale = 22
-age = 30
-offsets = [0]
-";
-
-/// The numbers of a certificate of the small tables.
-#[derive(Clone, Copy)]
-struct Claims {
-    window: u32,
-    backlog: u32,
-    delay: u32,
-    output_window: u32,
-    output_delay: u32,
-    age: u32,
-}
-
-/// The least ones that are accepted.
-const LEAST: Claims = Claims {
-    window: 3,
-    backlog: 2,
-    delay: 2,
-    output_window: 3,
-    output_delay: 2,
-    age: 24,
-};
-
-fn certificate_of(alloc: Global, claims: Claims) -> Result<Certificate, Fail> {
-    let text = format!(in alloc;
-        "{{\"inputs\":[{{\"backlog\":{},\"bus\":\"A\",\"delay\":{},\"window\":{}}}],\"labels\":[{{\"age\":{},\"label\":\"x\"}}],\"outputs\":[{{\"delay\":{},\"output\":\"O\",\"window\":{}}}],\"version\":1}}",
-        claims.backlog,
-        claims.delay,
-        claims.window,
-        claims.age,
-        claims.output_delay,
-        claims.output_window
-    )?;
-    Ok(read_cert(alloc, text.as_bytes())?)
-}
 
 fn by(slack: i64, decider: Decider) -> Option<Margin> {
     Some(Margin {
@@ -157,14 +71,30 @@ fn assert_margins(
 fn assert_small(
     rt: &impl Abort,
     alloc: Global,
-    claims: Claims,
+    claims: &str,
     input: InputMargins,
     output: OutputMargins,
     label: LabelMargins,
 ) -> Result<(), Fail> {
-    let certificate = certificate_of(alloc, claims)?;
-    let tables = read_tables(alloc, SMALL.as_bytes())?;
+    let certificate = small_certificate(alloc, claims)?;
+    let tables = small_tables(alloc, "")?;
     assert_margins(rt, &tables, &certificate, input, output, label);
+    assert_verdict(rt, alloc, &tables, &certificate)
+}
+
+/// The verdict by the lines of the margins is the verdict.
+fn assert_verdict(
+    rt: &impl Abort,
+    alloc: Global,
+    tables: &Tables,
+    certificate: &Certificate,
+) -> Result<(), Fail> {
+    if misnamed(tables, certificate).is_none() {
+        let lines = margin_lines(alloc, tables, certificate)?;
+        assert_eq!(rt; lines.len(), 15);
+        let fault = verdict_fault(tables, certificate, lines.as_slice());
+        assert_eq!(rt; fault, verdict(tables, certificate).err());
+    }
     Ok(())
 }
 
@@ -173,7 +103,7 @@ fn the_least_certificate_leaves_no_room(rt: HostRuntime) -> Result<(), Fail> {
     assert_small(
         &rt,
         rt.alloc(),
-        LEAST,
+        "",
         of_input(2, 99_998, 0, 0, 0, 0),
         of_output(2, 99_998, 0, 0),
         of_label(2, 2, 0, 6, 0),
@@ -185,7 +115,7 @@ fn a_shorter_window_of_an_input_does_not_close(rt: HostRuntime) -> Result<(), Fa
     assert_small(
         &rt,
         rt.alloc(),
-        Claims { window: 2, ..LEAST },
+        "window=2",
         of_input(1, 99_998, -1, 0, 0, 0),
         of_output(2, 99_998, 0, 0),
         of_label(2, 2, 0, 6, 0),
@@ -197,10 +127,7 @@ fn a_lesser_backlog_is_too_small_by_one(rt: HostRuntime) -> Result<(), Fail> {
     assert_small(
         &rt,
         rt.alloc(),
-        Claims {
-            backlog: 1,
-            ..LEAST
-        },
+        "backlog=1",
         of_input(2, 99_998, 0, -1, 1, 0),
         of_output(2, 99_998, 0, 0),
         of_label(2, 2, 0, 6, 0),
@@ -212,7 +139,7 @@ fn a_lesser_delay_of_an_input_is_too_small_by_one(rt: HostRuntime) -> Result<(),
     assert_small(
         &rt,
         rt.alloc(),
-        Claims { delay: 1, ..LEAST },
+        "delay=1",
         of_input(2, 99_999, 0, 0, 0, -1),
         of_output(2, 99_998, 0, 0),
         of_label(2, 2, 1, 6, 1),
@@ -224,10 +151,7 @@ fn a_shorter_window_of_an_output_does_not_close(rt: HostRuntime) -> Result<(), F
     assert_small(
         &rt,
         rt.alloc(),
-        Claims {
-            output_window: 2,
-            ..LEAST
-        },
+        "output_window=2",
         of_input(2, 99_998, 0, 0, 0, 0),
         of_output(1, 99_998, -1, 0),
         of_label(2, 2, 0, 6, 0),
@@ -239,10 +163,7 @@ fn a_lesser_delay_of_an_output_is_too_small_by_one(rt: HostRuntime) -> Result<()
     assert_small(
         &rt,
         rt.alloc(),
-        Claims {
-            output_delay: 1,
-            ..LEAST
-        },
+        "output_delay=1",
         of_input(2, 99_998, 0, 0, 0, 0),
         of_output(2, 99_999, 0, -1),
         of_label(3, 3, 0, 6, 0),
@@ -254,7 +175,7 @@ fn a_lesser_age_is_too_small_by_one(rt: HostRuntime) -> Result<(), Fail> {
     assert_small(
         &rt,
         rt.alloc(),
-        Claims { age: 23, ..LEAST },
+        "age=23",
         of_input(2, 99_998, 0, 0, 0, 0),
         of_output(2, 99_998, 0, 0),
         of_label(2, 2, -1, 7, 0),

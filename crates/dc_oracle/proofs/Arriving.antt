@@ -47,7 +47,7 @@ use Rattle.dc_oracle.proofs.Taking.{latest_came, came-same, came-next, entry-tic
 
 abbrev pub word_of : Event → ℕ
 word_of Tick = 0
-word_of (Arrive b w) = w
+word_of (Arrive w b) = w
 word_of (Route r) = 0
 word_of (Send o) = 0
 
@@ -63,7 +63,7 @@ word-came k w (Some s) = refl
 move-came : (t : TableRows) (b k : ℕ) (past : List Event) (e : Event) → stamped move_ends came k (move_of t b past e) ≡ stamp k (item_of (word_of e) (arrival_of t b past e)) []
 unfolding stamped
 move-came t b k past Tick = refl
-move-came t b k past (Arrive a w) =
+move-came t b k past (Arrive w a) =
     elim ((a == b) && is_odd w) as (λ v. stamped move_ends came k (cond v (in_of (let_in t b past (stream_of t b w)) w) []) ≡ stamp k (item_of w (let_in t b past (cond v (stream_of t b w) None))) []) [
       | true ↦ word-came k w (let_in t b past (stream_of t b w))
       | false ↦ refl
@@ -103,7 +103,7 @@ taken-in room ms (Some s) w = elim (cases_Bool (is_some (latch room ms))) [
   ]
 ]
 
-move-arrive : (t : TableRows) (b : ℕ) (past : List Event) (a w : ℕ) → move_of t b past (Arrive a w) ≡ in_of (arrival_of t b past (Arrive a w)) w
+move-arrive : (t : TableRows) (b : ℕ) (past : List Event) (a w : ℕ) → move_of t b past (Arrive w a) ≡ in_of (arrival_of t b past (Arrive w a)) w
 move-arrive t b past a w =
     elim ((a == b) && is_odd w) as (λ v. cond v (in_of (let_in t b past (stream_of t b w)) w) [] ≡ in_of (let_in t b past (cond v (stream_of t b w) None)) w) [ true ↦ refl | false ↦ refl ]
 
@@ -123,8 +123,8 @@ still-tick t run b = still-move t run Tick b (TickMove ∷ []) refl ((queue-tick
 pub still-send : (t : TableRows) (run : List Event) (o b : ℕ) → IsStill t run (Send o) b
 still-send t run o b = still-none t run (Send o) b refl
 
-pub still-arrive : (t : TableRows) (run : List Event) (a w b : ℕ) → IsStill t run (Arrive a w) b
-still-arrive t run a w b = still-move t run (Arrive a w) b (in_of (arrival_of t b run (Arrive a w)) w) (move-arrive t b run a w) (taken-in (room t b) (moves t b run) (arrival_of t b run (Arrive a w)) w)
+pub still-arrive : (t : TableRows) (run : List Event) (a w b : ℕ) → IsStill t run (Arrive w a) b
+still-arrive t run a w b = still-move t run (Arrive w a) b (in_of (arrival_of t b run (Arrive w a)) w) (move-arrive t b run a w) (taken-in (room t b) (moves t b run) (arrival_of t b run (Arrive w a)) w)
 
 -- ---- when the latest words came
 
@@ -204,48 +204,48 @@ only_other s k other = ap (λ b. cond b (Some s) None) (ne_eqb s k other)
 pub follows-arrive : (t : TableRows) (v : AreValid t) (grow : QueuesGrow t) (old new : ArrivalWatch) (run : List Event) (b w s tick : ℕ) → ArrivesOf t run b w s → tick ≡ tick_after run
     → length old.lives.items ≡ length t.streams → length old.came.items ≡ length t.buses → b < length t.buses
     → new.lives.items ≡ set old.lives.items s (lived (stream_row t s).maximum tick w (get_or old.lives.items s no_life)) → new.came.items ≡ set old.came.items b (get_or old.came.items b [] ++ tick ∷ []) → new.latest.items ≡ old.latest.items
-    → Follows t old run → Follows t new (run ++ Arrive b w ∷ [])
+    → Follows t old run → Follows t new (run ++ Arrive w b ∷ [])
 follows-arrive t v grow old new run b w s tick a clock lives_sized came_sized bus_there lives cames latests h =
-    let e = Arrive b w in
-    let still : tick_after (run ++ Arrive b w ∷ []) ≡ tick_after run = calm run (Arrive b w) refl in
+    let e = Arrive w b in
+    let still : tick_after (run ++ Arrive w b ∷ []) ≡ tick_after run = calm run (Arrive w b) refl in
     let some : 1 ≤ (stream_row t s).maximum = omega (arith, v.minimums s a.there, v.maximums s a.there) in
-    let own : arrival_of t (stream_row t s).bus run (Arrive b w) ≡ Some s = ap (λ c. arrival_of t c run (Arrive b w)) a.bus ∙ a.here in
+    let own : arrival_of t (stream_row t s).bus run (Arrive w b) ≡ Some s = ap (λ c. arrival_of t c run (Arrive w b)) a.bus ∙ a.here in
     record {
       lives = λ k l. elim (cases_eq s k) [
         | inl mine ↦
-            let P : ℕ → Type 0 = λ k. IsLife (stream_row t k).maximum k (tick_after (run ++ Arrive b w ∷ [])) (ticks_of (arrivals t k (run ++ Arrive b w ∷ []))) (came_words t (stream_row t k).bus (run ++ Arrive b w ∷ [])) (get_or new.lives.items k no_life) in
-            let Q : Life → Type 0 = λ x. IsLife (stream_row t s).maximum s (tick_after (run ++ Arrive b w ∷ [])) (ticks_of (arrivals t s (run ++ Arrive b w ∷ []))) (came_words t (stream_row t s).bus (run ++ Arrive b w ∷ [])) x in
+            let P : ℕ → Type 0 = λ k. IsLife (stream_row t k).maximum k (tick_after (run ++ Arrive w b ∷ [])) (ticks_of (arrivals t k (run ++ Arrive w b ∷ []))) (came_words t (stream_row t k).bus (run ++ Arrive w b ∷ [])) (get_or new.lives.items k no_life) in
+            let Q : Life → Type 0 = λ x. IsLife (stream_row t s).maximum s (tick_after (run ++ Arrive w b ∷ [])) (ticks_of (arrivals t s (run ++ Arrive w b ∷ []))) (came_words t (stream_row t s).bus (run ++ Arrive w b ∷ [])) x in
             let is : get_or new.lives.items s no_life ≡ lived (stream_row t s).maximum (tick_after run) w (get_or old.lives.items s no_life) =
             ap (λ xs. get_or xs s no_life) lives ∙ get_or-set_same old.lives.items s _ no_life (omega (arith, a.there)) ∙ ap (λ n. lived (stream_row t s).maximum n w (get_or old.lives.items s no_life)) clock in
             subst P mine (subst Q (sym is)
-            (life-same (stream_row t s).maximum s (tick_after run) (tick_after (run ++ Arrive b w ∷ [])) _ _ _ _ _ (omega (arith, still))
-            (arrivals-push t s s run (Arrive b w) (ap (only s) own ∙ only_own s)) (came-some t (stream_row t s).bus s run (Arrive b w) own)
+            (life-same (stream_row t s).maximum s (tick_after run) (tick_after (run ++ Arrive w b ∷ [])) _ _ _ _ _ (omega (arith, still))
+            (arrivals-push t s s run (Arrive w b) (ap (only s) own ∙ only_own s)) (came-some t (stream_row t s).bus s run (Arrive w b) own)
             (life-push (stream_row t s).maximum s (tick_after run) w _ _ (get_or old.lives.items s no_life) some (arrivals-none_later t s run) (came-by t (stream_row t s).bus run) (h.lives s a.there))))
         | inr other ↦
             let ne : k ≡ s → ⊥ = λ e. other (sym e) in
-            let Q : Life → Type 0 = λ x. IsLife (stream_row t k).maximum k (tick_after (run ++ Arrive b w ∷ [])) (ticks_of (arrivals t k (run ++ Arrive b w ∷ []))) (came_words t (stream_row t k).bus (run ++ Arrive b w ∷ [])) x in
+            let Q : Life → Type 0 = λ x. IsLife (stream_row t k).maximum k (tick_after (run ++ Arrive w b ∷ [])) (ticks_of (arrivals t k (run ++ Arrive w b ∷ []))) (came_words t (stream_row t k).bus (run ++ Arrive w b ∷ [])) x in
             let is : get_or new.lives.items k no_life ≡ get_or old.lives.items k no_life = ap (λ xs. get_or xs k no_life) lives ∙ get_or-set_other old.lives.items s k _ no_life ne in
             subst Q (sym is) (elim (cases_eq b (stream_row t k).bus) [
               | inl same ↦
-                  let here : arrival_of t (stream_row t k).bus run (Arrive b w) ≡ Some s = ap (λ c. arrival_of t c run (Arrive b w)) (sym same) ∙ a.here in
-                  life-same (stream_row t k).maximum k (tick_after run) (tick_after (run ++ Arrive b w ∷ [])) _ _ _ _ _ (omega (arith, still))
-                  (arrivals-other t k run (Arrive b w) (ap (only k) here ∙ only_other s k other)) (came-some t (stream_row t k).bus s run (Arrive b w) here)
+                  let here : arrival_of t (stream_row t k).bus run (Arrive w b) ≡ Some s = ap (λ c. arrival_of t c run (Arrive w b)) (sym same) ∙ a.here in
+                  life-same (stream_row t k).maximum k (tick_after run) (tick_after (run ++ Arrive w b ∷ [])) _ _ _ _ _ (omega (arith, still))
+                  (arrivals-other t k run (Arrive w b) (ap (only k) here ∙ only_other s k other)) (came-some t (stream_row t k).bus s run (Arrive w b) here)
                   (life-other (stream_row t k).maximum k (tick_after run) s w _ _ (get_or old.lives.items k no_life) other (h.lives k l))
               | inr far ↦
-                  let none : arrival_of t (stream_row t k).bus run (Arrive b w) ≡ None = a.elsewhere (stream_row t k).bus far in
-                  life-same (stream_row t k).maximum k (tick_after run) (tick_after (run ++ Arrive b w ∷ [])) _ _ _ _ _ (omega (arith, still))
-                  (arrivals-other t k run (Arrive b w) (ap (only k) none)) (came-none t (stream_row t k).bus run (Arrive b w) none) (h.lives k l)
+                  let none : arrival_of t (stream_row t k).bus run (Arrive w b) ≡ None = a.elsewhere (stream_row t k).bus far in
+                  life-same (stream_row t k).maximum k (tick_after run) (tick_after (run ++ Arrive w b ∷ [])) _ _ _ _ _ (omega (arith, still))
+                  (arrivals-other t k run (Arrive w b) (ap (only k) none)) (came-none t (stream_row t k).bus run (Arrive w b) none) (h.lives k l)
             ])
       ];
       came = λ c l. ap (λ xs. get_or xs c []) cames ∙ elim (cases_eq b c) [
         | inl same ↦
-            let P : ℕ → Type 0 = λ c. get_or (set old.came.items b (get_or old.came.items b [] ++ tick ∷ [])) c [] ≡ ticks_of (bus_arrivals t c (run ++ Arrive b w ∷ [])) in
-            subst P same (get_or-set_same old.came.items b _ [] (omega arith) ∙ ap (λ z. z ++ tick ∷ []) (h.came b bus_there) ∙ ap (λ n. ticks_of (bus_arrivals t b run) ++ n ∷ []) clock ∙ sym (bus_arrivals-push t b s run (Arrive b w) a.here))
+            let P : ℕ → Type 0 = λ c. get_or (set old.came.items b (get_or old.came.items b [] ++ tick ∷ [])) c [] ≡ ticks_of (bus_arrivals t c (run ++ Arrive w b ∷ [])) in
+            subst P same (get_or-set_same old.came.items b _ [] (omega arith) ∙ ap (λ z. z ++ tick ∷ []) (h.came b bus_there) ∙ ap (λ n. ticks_of (bus_arrivals t b run) ++ n ∷ []) clock ∙ sym (bus_arrivals-push t b s run (Arrive w b) a.here))
         | inr other ↦
             let ne : c ≡ b → ⊥ = λ e. other (sym e) in
-            get_or-set_other old.came.items b c _ [] ne ∙ h.came c l ∙ sym (bus_arrivals-other t c run (Arrive b w) (a.elsewhere c other))
+            get_or-set_other old.came.items b c _ [] ne ∙ h.came c l ∙ sym (bus_arrivals-other t c run (Arrive w b) (a.elsewhere c other))
       ];
-      latest = λ k l. ap (λ xs. get_or xs k None) latests ∙ h.latest k l ∙ sym (arrived-same t grow run (Arrive b w) k (still-arrive t run b w (stream_row t k).bus));
+      latest = λ k l. ap (λ xs. get_or xs k None) latests ∙ h.latest k l ∙ sym (arrived-same t grow run (Arrive w b) k (still-arrive t run b w (stream_row t k).bus));
     }
 
 -- ---- the reply to a word tells whether it was an arrival
@@ -254,17 +254,17 @@ cond_none : (b : Bool) → cond {A = Option ℕ} b None None ≡ None
 cond_none true = refl
 cond_none false = refl
 
-elsewhere : (t : TableRows) (run : List Event) (b w a : ℕ) → (b ≡ a → ⊥) → arrival_of t a run (Arrive b w) ≡ None
+elsewhere : (t : TableRows) (run : List Event) (b w a : ℕ) → (b ≡ a → ⊥) → arrival_of t a run (Arrive w b) ≡ None
 elsewhere t run b w a other = ap (λ v. let_in t a run (cond (v && is_odd w) (stream_of t a w) None)) (ne_eqb b a other)
 
 -- what it is at its own bus, it is
-at_own : (t : TableRows) (run : List Event) (b w : ℕ) → arrival_of t b run (Arrive b w) ≡ None → (a : ℕ) → arrival_of t a run (Arrive b w) ≡ None
+at_own : (t : TableRows) (run : List Event) (b w : ℕ) → arrival_of t b run (Arrive w b) ≡ None → (a : ℕ) → arrival_of t a run (Arrive w b) ≡ None
 at_own t run b w none a = elim (cases_eq b a) [
-  | inl same ↦ (let P : ℕ → Type 0 = λ a. arrival_of t a run (Arrive b w) ≡ None in subst P same none)
+  | inl same ↦ (let P : ℕ → Type 0 = λ a. arrival_of t a run (Arrive w b) ≡ None in subst P same none)
   | inr other ↦ elsewhere t run b w a other
 ]
 
-here : (t : TableRows) (run : List Event) (b w : ℕ) (odd : Bool) (o : Option ℕ) → is_odd w ≡ odd → stream_of t b w ≡ o → arrival_of t b run (Arrive b w) ≡ let_in t b run (cond odd o None)
+here : (t : TableRows) (run : List Event) (b w : ℕ) (odd : Bool) (o : Option ℕ) → is_odd w ≡ odd → stream_of t b w ≡ o → arrival_of t b run (Arrive w b) ≡ let_in t b run (cond odd o None)
 here t run b w odd o odd_is o_is =
     let one : (b == b) ≡ true = eq-eqb b b refl in
     ap (λ v. let_in t b run (cond (v && is_odd w) (stream_of t b w) None)) one
@@ -278,32 +278,32 @@ reported_in false true n = refl
 reported_in false false n = refl
 
 arrives-word : (t : TableRows) (run : List Event) (b w : ℕ) (odd refused : Bool) (o : Option ℕ) → is_odd w ≡ odd → stream_of t b w ≡ o → refuses t b run o ≡ refused
-    → (is_arrival (reply t run (Arrive b w)) ≡ true → Arrives t run b w o) × (is_arrival (reply t run (Arrive b w)) ≡ false → Arrives t run b w None)
+    → (is_arrival (reply t run (Arrive w b)) ≡ true → Arrives t run b w o) × (is_arrival (reply t run (Arrive w b)) ≡ false → Arrives t run b w None)
 unfolding reply
 arrives-word t run b w false refused o odd_is o_is refused_is = (
-  λ h. absurd (let no' : is_arrival (reply t run (Arrive b w)) ≡ false = rw odd_is refl in let both : true ≡ false = sym h ∙ no' in cc),
+  λ h. absurd (let no' : is_arrival (reply t run (Arrive w b)) ≡ false = rw odd_is refl in let both : true ≡ false = sym h ∙ no' in cc),
   λ h. at_own t run b w (here t run b w false o odd_is o_is),
 )
 arrives-word t run b w true refused None odd_is o_is refused_is = (
-  λ h. absurd (let no' : is_arrival (reply t run (Arrive b w)) ≡ false = rw (odd_is, o_is) refl in let both : true ≡ false = sym h ∙ no' in cc),
+  λ h. absurd (let no' : is_arrival (reply t run (Arrive w b)) ≡ false = rw (odd_is, o_is) refl in let both : true ≡ false = sym h ∙ no' in cc),
   λ h. at_own t run b w (here t run b w true None odd_is o_is),
 )
 arrives-word t run b w true true (Some s) odd_is o_is refused_is = (
-  λ h. absurd (let no' : is_arrival (reply t run (Arrive b w)) ≡ false = rw (odd_is, o_is, refused_is) refl in let both : true ≡ false = sym h ∙ no' in cc),
+  λ h. absurd (let no' : is_arrival (reply t run (Arrive w b)) ≡ false = rw (odd_is, o_is, refused_is) refl in let both : true ≡ false = sym h ∙ no' in cc),
   λ h. at_own t run b w (here t run b w true (Some s) odd_is o_is ∙ ap (λ v. cond v None (Some s)) refused_is),
 )
 arrives-word t run b w true false (Some s) odd_is o_is refused_is =
     let own = stream_of-there t b w s o_is in (
       λ h. record { there = own.0; bus = own.1; here = here t run b w true (Some s) odd_is o_is ∙ ap (λ v. cond v None (Some s)) refused_is; elsewhere = λ a other. elsewhere t run b w a other },
       λ h. absurd (
-          let yes' : is_arrival (reply t run (Arrive b w)) ≡ true = rw (odd_is, o_is, refused_is) (reported_in (is_latched t b run) (is_latched t b (run ++ Arrive b w ∷ [])) (backlog t b (run ++ Arrive b w ∷ []))) in
+          let yes' : is_arrival (reply t run (Arrive w b)) ≡ true = rw (odd_is, o_is, refused_is) (reported_in (is_latched t b run) (is_latched t b (run ++ Arrive w b ∷ [])) (backlog t b (run ++ Arrive w b ∷ []))) in
           let both : true ≡ false = sym yes' ∙ h in cc),
     )
 
-pub arrives-yes : (t : TableRows) (run : List Event) (b w : ℕ) (r : Reply) → r ≡ reply t run (Arrive b w) → is_arrival r ≡ true → Arrives t run b w (stream_of t b w)
+pub arrives-yes : (t : TableRows) (run : List Event) (b w : ℕ) (r : Reply) → r ≡ reply t run (Arrive w b) → is_arrival r ≡ true → Arrives t run b w (stream_of t b w)
 arrives-yes t run b w r is h = (arrives-word t run b w (is_odd w) (refuses t b run (stream_of t b w)) (stream_of t b w) refl refl refl).0 (sym (ap is_arrival is) ∙ h)
 
-pub arrives-no : (t : TableRows) (run : List Event) (b w : ℕ) (r : Reply) → r ≡ reply t run (Arrive b w) → is_arrival r ≡ false → Arrives t run b w None
+pub arrives-no : (t : TableRows) (run : List Event) (b w : ℕ) (r : Reply) → r ≡ reply t run (Arrive w b) → is_arrival r ≡ false → Arrives t run b w None
 arrives-no t run b w r is h = (arrives-word t run b w (is_odd w) (refuses t b run (stream_of t b w)) (stream_of t b w) refl refl refl).1 (sym (ap is_arrival is) ∙ h)
 
 -- ---- a router visits

@@ -31,7 +31,7 @@ module _ (P : List Event → Type 0) (beginning : (past rest : List Event) → P
 -- a run has no more ticks than events
 ends-le : (e : Event) → ends e ≤ 1
 ends-le Tick = omega arith
-ends-le (Arrive b w) = omega arith
+ends-le (Arrive w b) = omega arith
 ends-le (Route r) = omega arith
 ends-le (Send o) = omega arith
 

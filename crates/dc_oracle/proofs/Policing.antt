@@ -60,18 +60,18 @@ judges-tick t old new run ticked same h = record {
 -- ---- words
 
 module _ (t : TableRows) (old new : Police) (run : List Event) (b w : ℕ) (same_tick : new.tick ≡ old.tick) (h : Polices t old run) where
-  ticked : new.tick ≡ tick_after (run ++ Arrive b w ∷ [])
-  ticked = same_tick ∙ h.clock ∙ sym (calm run (Arrive b w) refl)
+  ticked : new.tick ≡ tick_after (run ++ Arrive w b ∷ [])
+  ticked = same_tick ∙ h.clock ∙ sym (calm run (Arrive w b) refl)
 
-  pub judges-even : is_odd w ≡ false → new.paces.items ≡ old.paces.items → Judges t new run (Arrive b w) false
-  judges-even even same = record { holds = polices-other t old new run (Arrive b w) ticked (λ s. ap (λ xs. get_or xs s no_pace) same) (λ s policed. ap (only s) (even-none t run b w even (stream_row t s).bus)) h; answer = rw even refl }
+  pub judges-even : is_odd w ≡ false → new.paces.items ≡ old.paces.items → Judges t new run (Arrive w b) false
+  judges-even even same = record { holds = polices-other t old new run (Arrive w b) ticked (λ s. ap (λ xs. get_or xs s no_pace) same) (λ s policed. ap (only s) (even-none t run b w even (stream_row t s).bus)) h; answer = rw even refl }
 
-  pub judges-undeclared : is_odd w ≡ true → stream_of t b w ≡ None → new.paces.items ≡ old.paces.items → Judges t new run (Arrive b w) false
-  judges-undeclared odd none same = record { holds = polices-other t old new run (Arrive b w) ticked (λ s. ap (λ xs. get_or xs s no_pace) same) (λ s policed. ap (only s) (undeclared-none t run b w none (stream_row t s).bus)) h; answer = rw (odd, none) refl }
+  pub judges-undeclared : is_odd w ≡ true → stream_of t b w ≡ None → new.paces.items ≡ old.paces.items → Judges t new run (Arrive w b) false
+  judges-undeclared odd none same = record { holds = polices-other t old new run (Arrive w b) ticked (λ s. ap (λ xs. get_or xs s no_pace) same) (λ s policed. ap (only s) (undeclared-none t run b w none (stream_row t s).bus)) h; answer = rw (odd, none) refl }
 
-  pub judges-free : is_odd w ≡ true → (k : ℕ) → stream_of t b w ≡ Some k → is_policed t b ≡ false → new.paces.items ≡ old.paces.items → Judges t new run (Arrive b w) false
+  pub judges-free : is_odd w ≡ true → (k : ℕ) → stream_of t b w ≡ Some k → is_policed t b ≡ false → new.paces.items ≡ old.paces.items → Judges t new run (Arrive w b) false
   judges-free odd k some free same = record {
-    holds = polices-other t old new run (Arrive b w) ticked (λ s. ap (λ xs. get_or xs s no_pace) same) (λ s policed. elim (cases_eq b (stream_row t s).bus) [
+    holds = polices-other t old new run (Arrive w b) ticked (λ s. ap (λ xs. get_or xs s no_pace) same) (λ s policed. elim (cases_eq b (stream_row t s).bus) [
       | inl here ↦ absurd (let both : true ≡ false = sym policed ∙ ap (is_policed t) (sym here) ∙ free in cc)
       | inr other ↦ ap (only s) (elsewhere-none t run b w (stream_row t s).bus other)
     ]) h;
@@ -94,10 +94,10 @@ module _ (t : TableRows) (old new : Police) (run : List Event) (b w : ℕ) (same
     refuses-is : refuses t b run (Some k) ≡ is_early t k run
     refuses-is = ap (λ x. x && is_early t k run) policed
 
-    still : tick_after run ≤ tick_after (run ++ Arrive b w ∷ [])
-    still = omega (arith, calm run (Arrive b w) refl)
+    still : tick_after run ≤ tick_after (run ++ Arrive w b ∷ [])
+    still = omega (arith, calm run (Arrive w b) refl)
 
-    pub judges-refused : (refused : Bool) → refused ≡ is_early_at (stream_row t k).jitter old.tick (get_or old.paces.items k no_pace) → refused ≡ true → (p : Pace) → new.paces.items ≡ set old.paces.items k p → p ≡ get_or old.paces.items k no_pace → length old.paces.items ≡ length t.streams → Judges t new run (Arrive b w) refused
+    pub judges-refused : (refused : Bool) → refused ≡ is_early_at (stream_row t k).jitter old.tick (get_or old.paces.items k no_pace) → refused ≡ true → (p : Pace) → new.paces.items ≡ set old.paces.items k p → p ≡ get_or old.paces.items k no_pace → length old.paces.items ≡ length t.streams → Judges t new run (Arrive w b) refused
     judges-refused refused is yes' p same p_is sized =
         let early : is_early t k run ≡ true = sym test ∙ sym is ∙ yes' in
         let r : refuses t b run (Some k) ≡ true = refuses-is ∙ early in
@@ -105,10 +105,10 @@ module _ (t : TableRows) (old new : Police) (run : List Event) (b w : ℕ) (same
           | inl mine ↦ (let R : ℕ → Type 0 = λ s. get_or (set old.paces.items k p) s no_pace ≡ get_or old.paces.items s no_pace in subst R mine (get_or-set_same old.paces.items k p no_pace (omega (arith, own.0)) ∙ p_is))
           | inr other ↦ (let ne : s ≡ k → ⊥ = λ e. other (sym e) in get_or-set_other old.paces.items k s p no_pace ne)
         ] in
-        record { holds = polices-other t old new run (Arrive b w) ticked kept (λ s q. ap (only s) (refused-none t run b w k odd some r (stream_row t s).bus)) h; answer = yes' ∙ rw (odd, some, r) refl }
+        record { holds = polices-other t old new run (Arrive w b) ticked kept (λ s q. ap (only s) (refused-none t run b w k odd some r (stream_row t s).bus)) h; answer = yes' ∙ rw (odd, some, r) refl }
 
     pub judges-let_in : (refused : Bool) (p : Pace) → refused ≡ is_early_at (stream_row t k).jitter old.tick (get_or old.paces.items k no_pace) → refused ≡ false → length old.paces.items ≡ length t.streams
-        → new.paces.items ≡ set old.paces.items k p → p ≡ moved (stream_row t k).minimum old.tick (get_or old.paces.items k no_pace) → Judges t new run (Arrive b w) refused
+        → new.paces.items ≡ set old.paces.items k p → p ≡ moved (stream_row t k).minimum old.tick (get_or old.paces.items k no_pace) → Judges t new run (Arrive w b) refused
     judges-let_in refused p is no' sized same p_is =
         let free : is_early t k run ≡ false = sym test ∙ sym is ∙ no' in
         let r : refuses t b run (Some k) ≡ false = refuses-is ∙ free in
@@ -119,16 +119,16 @@ module _ (t : TableRows) (old new : Police) (run : List Event) (b w : ℕ) (same
             clock = ticked;
             paces = λ s l q. elim (cases_eq k s) [
               | inl mine ↦
-                  let R : ℕ → Type 0 = λ s. IsPaceOf (stream_row t s).minimum (tick_after (run ++ Arrive b w ∷ [])) (ticks_of (arrivals t s (run ++ Arrive b w ∷ []))) (get_or new.paces.items s no_pace) in
-                  let S : Pace → Type 0 = λ x. IsPaceOf (stream_row t k).minimum (tick_after (run ++ Arrive b w ∷ [])) (ticks_of (arrivals t k (run ++ Arrive b w ∷ []))) x in
+                  let R : ℕ → Type 0 = λ s. IsPaceOf (stream_row t s).minimum (tick_after (run ++ Arrive w b ∷ [])) (ticks_of (arrivals t s (run ++ Arrive w b ∷ []))) (get_or new.paces.items s no_pace) in
+                  let S : Pace → Type 0 = λ x. IsPaceOf (stream_row t k).minimum (tick_after (run ++ Arrive w b ∷ [])) (ticks_of (arrivals t k (run ++ Arrive w b ∷ []))) x in
                   subst R mine (subst S (sym (ap (λ xs. get_or xs k no_pace) same ∙ get_or-set_same old.paces.items k p no_pace (omega (arith, own.0)) ∙ p'))
-                  (pace-same (stream_row t k).minimum (tick_after run) _ _ _ _ still (arrivals-push t k k run (Arrive b w) (arrival-own t run b w k odd some r))
+                  (pace-same (stream_row t k).minimum (tick_after run) _ _ _ _ still (arrivals-push t k k run (Arrive w b) (arrival-own t run b w k odd some r))
                   (pace-push (stream_row t k).minimum (tick_after run) (ticks_of (arrivals t k run)) (get_or old.paces.items k no_pace) (h.paces k own.0 own_policed))))
               | inr other ↦
                   let ne : s ≡ k → ⊥ = λ e. other (sym e) in
-                  let S : Pace → Type 0 = λ x. IsPaceOf (stream_row t s).minimum (tick_after (run ++ Arrive b w ∷ [])) (ticks_of (arrivals t s (run ++ Arrive b w ∷ []))) x in
+                  let S : Pace → Type 0 = λ x. IsPaceOf (stream_row t s).minimum (tick_after (run ++ Arrive w b ∷ [])) (ticks_of (arrivals t s (run ++ Arrive w b ∷ []))) x in
                   subst S (sym (ap (λ xs. get_or xs s no_pace) same ∙ get_or-set_other old.paces.items k s p no_pace ne))
-                  (pace-same (stream_row t s).minimum (tick_after run) _ _ _ _ still (arrivals-other t s run (Arrive b w) (arrival-others t run b w k odd some r s other)) (h.paces s l q))
+                  (pace-same (stream_row t s).minimum (tick_after run) _ _ _ _ still (arrivals-other t s run (Arrive w b) (arrival-others t run b w k odd some r s other)) (h.paces s l q))
             ];
           };
           answer = no' ∙ rw (odd, some, r) refl;

@@ -116,10 +116,10 @@ cond_same : (b : Bool) → cond {A = List Move} b [] [] ≡ []
 cond_same true = refl
 cond_same false = refl
 
-move_elsewhere : (t : TableRows) (run : List Event) (a b w : ℕ) → (b ≡ a → ⊥) → move_of t a run (Arrive b w) ≡ []
+move_elsewhere : (t : TableRows) (run : List Event) (a b w : ℕ) → (b ≡ a → ⊥) → move_of t a run (Arrive w b) ≡ []
 move_elsewhere t run a b w other = ap (λ x. cond (x && is_odd w) (in_of (let_in t a run (stream_of t a w)) w) []) (ne_eqb b a other)
 
-arrive_even : (t : TableRows) (run : List Event) (b w : ℕ) → is_odd w ≡ false → IsNothing t run (Arrive b w)
+arrive_even : (t : TableRows) (run : List Event) (b w : ℕ) → is_odd w ≡ false → IsNothing t run (Arrive w b)
 arrive_even t run b w h = record {
   no_tick = refl;
   no_move = λ a. ap (λ x. cond x (in_of (let_in t a run (stream_of t a w)) w) []) (false_and (b == a) (is_odd w) h);
@@ -127,12 +127,12 @@ arrive_even t run b w h = record {
   no_send = λ o. refl;
 }
 
-arrive_undeclared : (t : TableRows) (run : List Event) (b w : ℕ) → stream_of t b w ≡ None → IsNothing t run (Arrive b w)
+arrive_undeclared : (t : TableRows) (run : List Event) (b w : ℕ) → stream_of t b w ≡ None → IsNothing t run (Arrive w b)
 arrive_undeclared t run b w h = record {
   no_tick = refl;
   no_move = λ a. elim (cases_eq b a) [
     | inl same ↦
-        let P : ℕ → Type 0 = λ a. move_of t a run (Arrive b w) ≡ [] in
+        let P : ℕ → Type 0 = λ a. move_of t a run (Arrive w b) ≡ [] in
         subst P same (ap (λ o. cond ((b == b) && is_odd w) (in_of (let_in t b run o) w) []) h ∙ cond_same ((b == b) && is_odd w))
     | inr other ↦ move_elsewhere t run a b w other
   ];
@@ -141,7 +141,7 @@ arrive_undeclared t run b w h = record {
 }
 
 -- a word that the bus refuses
-refused_parts : (t : TableRows) (run : List Event) (b w : ℕ) → is_refused t run (Arrive b w) ≡ true → (is_odd w ≡ true) × ((k : ℕ) × (stream_of t b w ≡ Some k) × (refuses t b run (Some k) ≡ true))
+refused_parts : (t : TableRows) (run : List Event) (b w : ℕ) → is_refused t run (Arrive w b) ≡ true → (is_odd w ≡ true) × ((k : ℕ) × (stream_of t b w ≡ Some k) × (refuses t b run (Some k) ≡ true))
 refused_parts t run b w h =
     let p = and_parts (is_odd w) (refuses t b run (stream_of t b w)) h in (
       p.0,
@@ -151,12 +151,12 @@ refused_parts t run b w h =
       ] refl p.1,
     )
 
-arrive_refused : (t : TableRows) (run : List Event) (b w s : ℕ) → stream_of t b w ≡ Some s → refuses t b run (Some s) ≡ true → IsNothing t run (Arrive b w)
+arrive_refused : (t : TableRows) (run : List Event) (b w s : ℕ) → stream_of t b w ≡ Some s → refuses t b run (Some s) ≡ true → IsNothing t run (Arrive w b)
 arrive_refused t run b w s some early = record {
   no_tick = refl;
   no_move = λ a. elim (cases_eq b a) [
     | inl same ↦
-        let P : ℕ → Type 0 = λ a. move_of t a run (Arrive b w) ≡ [] in
+        let P : ℕ → Type 0 = λ a. move_of t a run (Arrive w b) ≡ [] in
         subst P same (ap (λ o. cond ((b == b) && is_odd w) (in_of (let_in t b run o) w) []) some ∙ ap (λ v. cond ((b == b) && is_odd w) (in_of (cond v None (Some s)) w) []) early ∙ cond_same ((b == b) && is_odd w))
     | inr other ↦ move_elsewhere t run a b w other
   ];
@@ -164,30 +164,30 @@ arrive_refused t run b w s some early = record {
   no_send = λ o. refl;
 }
 
-replies-refused_word : (t : TableRows) (w : ReplyWatch) (run : List Event) (b word : ℕ) → is_refused t run (Arrive b word) ≡ true → Holds t w run → Replies t w run (Arrive b word) TooEarly
+replies-refused_word : (t : TableRows) (w : ReplyWatch) (run : List Event) (b word : ℕ) → is_refused t run (Arrive word b) ≡ true → Holds t w run → Replies t w run (Arrive word b) TooEarly
 unfolding reply
 replies-refused_word t w run b word h holds =
     let p = refused_parts t run b word h in
     let odd : is_odd word ≡ true = p.0 in
     let some : stream_of t b word ≡ Some p.1.0 = p.1.1 in
     let early : refuses t b run (Some p.1.0) ≡ true = p.1.2 in
-    record { holds = holds-nothing t w run (Arrive b word) (arrive_refused t run b word p.1.0 some early) holds; answer = rw (odd, some, early) refl }
+    record { holds = holds-nothing t w run (Arrive word b) (arrive_refused t run b word p.1.0 some early) holds; answer = rw (odd, some, early) refl }
 
 pub replies-refused : (t : TableRows) (w : ReplyWatch) (run : List Event) (e : Event) → is_refused t run e ≡ true → Holds t w run → Replies t w run e TooEarly
 replies-refused t w run Tick h holds = absurd cc
-replies-refused t w run (Arrive b word) h holds = replies-refused_word t w run b word h holds
+replies-refused t w run (Arrive word b) h holds = replies-refused_word t w run b word h holds
 replies-refused t w run (Route r) h holds = absurd cc
 replies-refused t w run (Send o) h holds = absurd cc
 
-pub replies-even : (t : TableRows) (w : ReplyWatch) (run : List Event) (b word : ℕ) → is_odd word ≡ false → Holds t w run → Replies t w run (Arrive b word) BadParity
+pub replies-even : (t : TableRows) (w : ReplyWatch) (run : List Event) (b word : ℕ) → is_odd word ≡ false → Holds t w run → Replies t w run (Arrive word b) BadParity
 unfolding reply
-replies-even t w run b word even h = record { holds = holds-nothing t w run (Arrive b word) (arrive_even t run b word even) h; answer = rw even refl }
+replies-even t w run b word even h = record { holds = holds-nothing t w run (Arrive word b) (arrive_even t run b word even) h; answer = rw even refl }
 
-pub replies-undeclared : (t : TableRows) (w : ReplyWatch) (run : List Event) (b word : ℕ) → is_odd word ≡ true → stream_of t b word ≡ None → Holds t w run → Replies t w run (Arrive b word) Undeclared
+pub replies-undeclared : (t : TableRows) (w : ReplyWatch) (run : List Event) (b word : ℕ) → is_odd word ≡ true → stream_of t b word ≡ None → Holds t w run → Replies t w run (Arrive word b) Undeclared
 unfolding reply
-replies-undeclared t w run b word odd none h = record { holds = holds-nothing t w run (Arrive b word) (arrive_undeclared t run b word none) h; answer = rw (odd, none) refl }
+replies-undeclared t w run b word odd none h = record { holds = holds-nothing t w run (Arrive word b) (arrive_undeclared t run b word none) h; answer = rw (odd, none) refl }
 
-move_here : (t : TableRows) (run : List Event) (b w s : ℕ) → is_odd w ≡ true → stream_of t b w ≡ Some s → refuses t b run (Some s) ≡ false → move_of t b run (Arrive b w) ≡ In (s, w) ∷ []
+move_here : (t : TableRows) (run : List Event) (b w s : ℕ) → is_odd w ≡ true → stream_of t b w ≡ Some s → refuses t b run (Some s) ≡ false → move_of t b run (Arrive w b) ≡ In (s, w) ∷ []
 move_here t run b w s odd some free = let e : (b == b) ≡ true = eq-eqb b b refl in rw (e, odd, some, free) refl
 
 -- a word that comes leaves every latest word
@@ -200,34 +200,34 @@ latest_by-in room p ms x = elim (cases_Bool (is_some (latch room ms))) [
   ]
 ]
 
-latest-arrive : (t : TableRows) (s : ℕ) (run : List Event) (b w k : ℕ) → is_odd w ≡ true → stream_of t b w ≡ Some k → refuses t b run (Some k) ≡ false → latest t s (run ++ Arrive b w ∷ []) ≡ latest t s run
+latest-arrive : (t : TableRows) (s : ℕ) (run : List Event) (b w k : ℕ) → is_odd w ≡ true → stream_of t b w ≡ Some k → refuses t b run (Some k) ≡ false → latest t s (run ++ Arrive w b ∷ []) ≡ latest t s run
 unfolding latest
 latest-arrive t s run b w k odd some free =
     let a = (stream_row t s).bus in
     elim (cases_eq b (stream_row t s).bus) [
       | inl same ↦
-          let P : ℕ → Type 0 = λ a. move_of t a run (Arrive b w) ≡ In (k, w) ∷ [] in
-          let here : move_of t a run (Arrive b w) ≡ In (k, w) ∷ [] = subst P same (move_here t run b w k odd some free) in
-          ap (λ ms. latest_by (room t a) (is_of s) ms) (moves-push t a run (Arrive b w) ∙ ap (λ m. moves t a run ++ m) here) ∙ latest_by-in (room t a) (is_of s) (moves t a run) (k, w)
-      | inr other ↦ latest-other t s run (Arrive b w) (move_elsewhere t run a b w other)
+          let P : ℕ → Type 0 = λ a. move_of t a run (Arrive w b) ≡ In (k, w) ∷ [] in
+          let here : move_of t a run (Arrive w b) ≡ In (k, w) ∷ [] = subst P same (move_here t run b w k odd some free) in
+          ap (λ ms. latest_by (room t a) (is_of s) ms) (moves-push t a run (Arrive w b) ∙ ap (λ m. moves t a run ++ m) here) ∙ latest_by-in (room t a) (is_of s) (moves t a run) (k, w)
+      | inr other ↦ latest-other t s run (Arrive w b) (move_elsewhere t run a b w other)
     ]
 
 pub replies-arrive : (t : TableRows) (old new : ReplyWatch) (run : List Event) (b w s : ℕ) (d : BusData) (r : Reply) → b < length old.buses.items → is_odd w ≡ true → stream_of t b w ≡ Some s → refuses t b run (Some s) ≡ false
     → Received (room t b) d (moves t b run) (s, w) r → new.tick ≡ old.tick → new.buses.items ≡ set old.buses.items b d → new.latest.items ≡ old.latest.items → new.cursors.items ≡ old.cursors.items → new.sent.items ≡ old.sent.items
-    → Holds t old run → Replies t new run (Arrive b w) r
+    → Holds t old run → Replies t new run (Arrive w b) r
 unfolding reply
 replies-arrive t old new run b w s d r there odd some free got same_tick buses latests cursors sents h =
-    let more : moves t b (run ++ Arrive b w ∷ []) ≡ moves t b run ++ In (s, w) ∷ [] = moves-push t b run (Arrive b w) ∙ ap (λ m. moves t b run ++ m) (move_here t run b w s odd some free) in
+    let more : moves t b (run ++ Arrive w b ∷ []) ≡ moves t b run ++ In (s, w) ∷ [] = moves-push t b run (Arrive w b) ∙ ap (λ m. moves t b run ++ m) (move_here t run b w s odd some free) in
     let P : List Move → Type 0 = λ ms. IsLog (room t b) d ms in
-    let here : IsLog (room t b) d (moves t b (run ++ Arrive b w ∷ [])) = subst P (sym more) got.holds in
-    let Q : List BusData → Type 0 = λ xs. (a : ℕ) → a < length t.buses → IsLog (room t a) (get_or xs a no_log) (moves t a (run ++ Arrive b w ∷ [])) in
+    let here : IsLog (room t b) d (moves t b (run ++ Arrive w b ∷ [])) = subst P (sym more) got.holds in
+    let Q : List BusData → Type 0 = λ xs. (a : ℕ) → a < length t.buses → IsLog (room t a) (get_or xs a no_log) (moves t a (run ++ Arrive w b ∷ [])) in
     record {
       holds = record {
-        clock = same_tick ∙ h.clock ∙ sym (calm run (Arrive b w) refl);
-        logs = subst Q (sym buses) (logs-set t run (Arrive b w) old.buses.items b d there here (λ a other. move_elsewhere t run a b w other) h.logs);
+        clock = same_tick ∙ h.clock ∙ sym (calm run (Arrive w b) refl);
+        logs = subst Q (sym buses) (logs-set t run (Arrive w b) old.buses.items b d there here (λ a other. move_elsewhere t run a b w other) h.logs);
         words = λ k l. ap (λ xs. get_or xs k None) latests ∙ h.words k l ∙ sym (latest-arrive t k run b w s odd some free);
-        turns = λ q l. ap (λ xs. get_or xs q 0) cursors ∙ h.turns q l ∙ turn-same t q run (Arrive b w) refl;
-        counts = λ o l. ap (λ xs. get_or xs o 0) sents ∙ h.counts o l ∙ sym (sent-other t o run (Arrive b w) refl);
+        turns = λ q l. ap (λ xs. get_or xs q 0) cursors ∙ h.turns q l ∙ turn-same t q run (Arrive w b) refl;
+        counts = λ o l. ap (λ xs. get_or xs o 0) sents ∙ h.counts o l ∙ sym (sent-other t o run (Arrive w b) refl);
       };
       answer = rw (odd, some, free, more) got.answer;
     }
@@ -384,20 +384,20 @@ module _ (t : TableRows) (old new : ReplyWatch) (run : List Event) (r b : ℕ) (
           get_or-set_other old.latest.items x.0 s (Some (x, old.tick)) None ne ∙ h.words s l ∙ sym (latest_other s apart)
     ]
 
-    pub replies-took : length old.latest.items ≡ length t.streams → new.latest.items ≡ set old.latest.items x.0 (Some (x, old.tick)) → Replies t new run (Route r) (Took b x.1)
+    pub replies-took : length old.latest.items ≡ length t.streams → new.latest.items ≡ set old.latest.items x.0 (Some (x, old.tick)) → Replies t new run (Route r) (Took x.1 b)
     unfolding reply
     replies-took sized latests =
         let rises : ltb (taken (room t b) (moves t b run)) (taken (room t b) (moves t b run ++ Visit ∷ [])) ≡ true = lt-ltb _ _ (omega (arith, (queue-visit (room t b) (moves t b run)).2, waits)) in
         record {
           holds = holds-route (λ s l. ap (λ xs. get_or xs s None) latests ∙ words_took sized s l);
-          answer = rw (visits_b, more_b, rises) (ap (λ (y : ℕ × ℕ). Took b y.1) item_is);
+          answer = rw (visits_b, more_b, rises) (ap (λ (y : ℕ × ℕ). Took y.1 b) item_is);
         }
 
 -- nothing but a send emits
 pub emission-none : (t : TableRows) (run : List Event) (e : Event) → ((o : ℕ) → e ≡ Send o → ⊥) → None ≡ emission t run e
 unfolding emission
 emission-none t run Tick h = refl
-emission-none t run (Arrive b w) h = refl
+emission-none t run (Arrive w b) h = refl
 emission-none t run (Route r) h = refl
 emission-none t run (Send o) h = absurd (h o refl)
 

@@ -123,17 +123,17 @@ watches-nothing t w start streams wires = record {
 
 -- ---- which events are arrivals
 
-pub quiet_even : (t : TableRows) (run : List Event) (a w : ℕ) → is_odd w ≡ false → IsQuiet t run (Arrive a w)
+pub quiet_even : (t : TableRows) (run : List Event) (a w : ℕ) → is_odd w ≡ false → IsQuiet t run (Arrive w a)
 quiet_even t run a w h = λ b l free. even-none t run a w h b
 
-pub quiet_unknown : (t : TableRows) (run : List Event) (a w : ℕ) → length t.buses ≤ a → IsQuiet t run (Arrive a w)
+pub quiet_unknown : (t : TableRows) (run : List Event) (a w : ℕ) → length t.buses ≤ a → IsQuiet t run (Arrive w a)
 quiet_unknown t run a w h = λ b l free. elsewhere-none t run a w b (λ e. omega (arith, e))
 
-pub quiet_undeclared : (t : TableRows) (run : List Event) (a w : ℕ) → stream_of t a w ≡ None → IsQuiet t run (Arrive a w)
+pub quiet_undeclared : (t : TableRows) (run : List Event) (a w : ℕ) → stream_of t a w ≡ None → IsQuiet t run (Arrive w a)
 quiet_undeclared t run a w h = λ b l free. undeclared-none t run a w h b
 
 -- a word of a policed bus concerns no other
-pub quiet_policed : (t : TableRows) (run : List Event) (a w : ℕ) → is_policed t a ≡ true → IsQuiet t run (Arrive a w)
+pub quiet_policed : (t : TableRows) (run : List Event) (a w : ℕ) → is_policed t a ≡ true → IsQuiet t run (Arrive w a)
 quiet_policed t run a w h = λ b l free. elim (cases_eq a b) [
   | inl same ↦ absurd (let both : true ≡ false = sym h ∙ ap (is_policed t) same ∙ free in cc)
   | inr other ↦ elsewhere-none t run a w b other
@@ -152,19 +152,19 @@ module _ (t : TableRows) (v : AreValid t) (run : List Event) (a w s : ℕ) (is :
   let_in_here : refuses t a run (Some s) ≡ false
   let_in_here = refuses-none t a run (Some s) is.free
 
-  here : arrival_of t a run (Arrive a w) ≡ Some s
+  here : arrival_of t a run (Arrive w a) ≡ Some s
   here = arrival-here t run a w s is.odd is.declared let_in_here
 
   own : (s < length t.streams) × ((stream_row t s).bus ≡ a)
   own = stream_of-there t a w s is.declared
 
-  here_stream : arrival_on t s run (Arrive a w) ≡ Some s
+  here_stream : arrival_on t s run (Arrive w a) ≡ Some s
   here_stream = arrival-own t run a w s is.odd is.declared let_in_here
 
   own_free : is_policed t (stream_row t s).bus ≡ false
   own_free = ap (is_policed t) own.1 ∙ is.free
 
-  other_stream : (k : ℕ) → (s ≡ k → ⊥) → arrival_on t k run (Arrive a w) ≡ None
+  other_stream : (k : ℕ) → (s ≡ k → ⊥) → arrival_on t k run (Arrive w a) ≡ None
   other_stream k other = arrival-others t run a w s is.odd is.declared let_in_here k other
 
   minimum_some : 1 ≤ (stream_row t s).minimum
@@ -174,34 +174,34 @@ module _ (t : TableRows) (v : AreValid t) (run : List Event) (a w s : ℕ) (is :
   number = pace_of (stream_row t s).minimum (ticks_of (arrivals t s run))
 
   -- the stream comes too soon
-  pub stream-breaks : KeepsSources t run → ltb (tick_after run + (stream_row t s).jitter) number ≡ true → KeepsSources t (run ++ Arrive a w ∷ []) → ⊥
+  pub stream-breaks : KeepsSources t run → ltb (tick_after run + (stream_row t s).jitter) number ≡ true → KeepsSources t (run ++ Arrive w a ∷ []) → ⊥
   stream-breaks kept soon k =
-      let late = (stream_rests-push t s s run (Arrive a w) minimum_some here_stream (kept.streams_rest s own.0 own_free)).1 (k.streams_rest s own.0 own_free) in
+      let late = (stream_rests-push t s s run (Arrive w a) minimum_some here_stream (kept.streams_rest s own.0 own_free)).1 (k.streams_rest s own.0 own_free) in
       let both : true ≡ false = sym soon ∙ late in cc
 
   -- the wire carries too many
-  pub wire-breaks : (load : WireLoad) → IsLoad t.tick_us (bus_row t a).spacing (tick_after run) (ticks_of (bus_arrivals t a run)) load → t.tick_us < left_us t.tick_us (tick_after run) load → KeepsSources t (run ++ Arrive a w ∷ []) → ⊥
+  pub wire-breaks : (load : WireLoad) → IsLoad t.tick_us (bus_row t a).spacing (tick_after run) (ticks_of (bus_arrivals t a run)) load → t.tick_us < left_us t.tick_us (tick_after run) load → KeepsSources t (run ++ Arrive w a ∷ []) → ⊥
   wire-breaks load h full k =
       let l = lacks-room t.tick_us (bus_row t a).spacing (tick_after run) (ticks_of (bus_arrivals t a run)) load (v.spacings a is.bus_there) (bus_arrivals-none_later t a run) h full in
-      let r = (wire_rests-push t a s (l.0 * t.tick_us / (bus_row t a).spacing + 1) l.0 run (Arrive a w) l.1 here).0 (k.wires_rest a is.bus_there is.free l.0 l.1) in
+      let r = (wire_rests-push t a s (l.0 * t.tick_us / (bus_row t a).spacing + 1) l.0 run (Arrive w a) l.1 here).0 (k.wires_rest a is.bus_there is.free l.0 l.1) in
       omega (arith, r.1, l.2)
 
   -- neither
   kept-arrival : (load : WireLoad) → IsLoad t.tick_us (bus_row t a).spacing (tick_after run) (ticks_of (bus_arrivals t a run)) load → left_us t.tick_us (tick_after run) load ≤ t.tick_us
-      → ltb (tick_after run + (stream_row t s).jitter) number ≡ false → KeepsSources t run → KeepsSources t (run ++ Arrive a w ∷ [])
+      → ltb (tick_after run + (stream_row t s).jitter) number ≡ false → KeepsSources t run → KeepsSources t (run ++ Arrive w a ∷ [])
   kept-arrival load h room rested k = record {
     streams_rest = λ x l free. elim (cases_eq s x) [
       | inl same ↦
-          let P : ℕ → Type 0 = λ x. HoldsCap (cap_of t x) (ticks_of (arrivals t x (run ++ Arrive a w ∷ []))) in
-          subst P same ((stream_rests-push t s s run (Arrive a w) minimum_some here_stream (k.streams_rest s own.0 own_free)).0 rested)
-      | inr other ↦ λ d. rest-same _ _ _ _ (arrivals-other t x run (Arrive a w) (other_stream x other)) (k.streams_rest x l free d)
+          let P : ℕ → Type 0 = λ x. HoldsCap (cap_of t x) (ticks_of (arrivals t x (run ++ Arrive w a ∷ []))) in
+          subst P same ((stream_rests-push t s s run (Arrive w a) minimum_some here_stream (k.streams_rest s own.0 own_free)).0 rested)
+      | inr other ↦ λ d. rest-same _ _ _ _ (arrivals-other t x run (Arrive w a) (other_stream x other)) (k.streams_rest x l free d)
     ];
     wires_rest = λ b l free d some. elim (cases_eq a b) [
       | inl same ↦
-          let P : ℕ → Type 0 = λ b. HoldAtMost (d * t.tick_us / (bus_row t b).spacing + 1) d (ticks_of (bus_arrivals t b (run ++ Arrive a w ∷ []))) in
-          subst P same ((wire_rests-push t a s (d * t.tick_us / (bus_row t a).spacing + 1) d run (Arrive a w) some here).1
+          let P : ℕ → Type 0 = λ b. HoldAtMost (d * t.tick_us / (bus_row t b).spacing + 1) d (ticks_of (bus_arrivals t b (run ++ Arrive w a ∷ []))) in
+          subst P same ((wire_rests-push t a s (d * t.tick_us / (bus_row t a).spacing + 1) d run (Arrive w a) some here).1
           (k.wires_rest a is.bus_there is.free d some, has-room t.tick_us (bus_row t a).spacing (tick_after run) (ticks_of (bus_arrivals t a run)) load (v.spacings a is.bus_there) (bus_arrivals-none_later t a run) h room d some))
-      | inr other ↦ rest-same _ _ _ _ (bus_arrivals-other t b run (Arrive a w) (elsewhere-none t run a w b other)) (k.wires_rest b l free d some)
+      | inr other ↦ rest-same _ _ _ _ (bus_arrivals-other t b run (Arrive w a) (elsewhere-none t run a w b other)) (k.wires_rest b l free d some)
     ];
   }
 
@@ -210,9 +210,9 @@ module _ (t : TableRows) (v : AreValid t) (run : List Event) (a w s : ℕ) (is :
       → new.tick ≡ old.tick → new.streams.items ≡ set old.streams.items s pace → new.wires.items ≡ set old.wires.items a load
       → pace ≡ moved (stream_row t s).minimum old.tick (get_or old.streams.items s no_pace) → load ≡ loaded t.tick_us (bus_row t a).spacing old.tick (get_or old.wires.items a no_load)
       → ltb (tick_after run + (stream_row t s).jitter) number ≡ false → left_us t.tick_us old.tick (get_or old.wires.items a no_load) ≤ t.tick_us
-      → Watches t new (run ++ Arrive a w ∷ [])
+      → Watches t new (run ++ Arrive w a ∷ [])
   watches-arrival old new pace load h streams_sized wires_sized same_tick streams wires pace_is load_is rested room =
-      let still : tick_after (run ++ Arrive a w ∷ []) ≡ tick_after run = calm run (Arrive a w) refl in
+      let still : tick_after (run ++ Arrive w a ∷ []) ≡ tick_after run = calm run (Arrive w a) refl in
       let P : ℕ → Type 0 = λ n. left_us t.tick_us n (get_or old.wires.items a no_load) ≤ t.tick_us in
       let Q : ℕ → Type 0 = λ n. load ≡ loaded t.tick_us (bus_row t a).spacing n (get_or old.wires.items a no_load) in
       let room' : left_us t.tick_us (tick_after run) (get_or old.wires.items a no_load) ≤ t.tick_us = subst P h.clock room in
@@ -222,29 +222,29 @@ module _ (t : TableRows) (v : AreValid t) (run : List Event) (a w s : ℕ) (is :
         clock = same_tick ∙ h.clock ∙ sym still;
         paces = λ x l free. elim (cases_eq s x) [
           | inl same ↦
-              let R : ℕ → Type 0 = λ x. IsPaceOf (stream_row t x).minimum (tick_after (run ++ Arrive a w ∷ [])) (ticks_of (arrivals t x (run ++ Arrive a w ∷ []))) (get_or new.streams.items x no_pace) in
-              let S : Pace → Type 0 = λ p. IsPaceOf (stream_row t s).minimum (tick_after (run ++ Arrive a w ∷ [])) (ticks_of (arrivals t s (run ++ Arrive a w ∷ []))) p in
+              let R : ℕ → Type 0 = λ x. IsPaceOf (stream_row t x).minimum (tick_after (run ++ Arrive w a ∷ [])) (ticks_of (arrivals t x (run ++ Arrive w a ∷ []))) (get_or new.streams.items x no_pace) in
+              let S : Pace → Type 0 = λ p. IsPaceOf (stream_row t s).minimum (tick_after (run ++ Arrive w a ∷ [])) (ticks_of (arrivals t s (run ++ Arrive w a ∷ []))) p in
               let T : ℕ → Type 0 = λ n. pace ≡ moved (stream_row t s).minimum n (get_or old.streams.items s no_pace) in
               let pace' : pace ≡ moved (stream_row t s).minimum (tick_after run) (get_or old.streams.items s no_pace) = subst T h.clock pace_is in
               subst R same (subst S (sym (ap (λ xs. get_or xs s no_pace) streams ∙ get_or-set_same old.streams.items s pace no_pace (omega (arith, own.0)) ∙ pace'))
-              (pace-same (stream_row t s).minimum (tick_after run) _ _ _ _ (omega (arith, still)) (arrivals-push t s s run (Arrive a w) here_stream) (pace-push (stream_row t s).minimum (tick_after run) (ticks_of (arrivals t s run)) (get_or old.streams.items s no_pace) (h.paces s own.0 own_free))))
+              (pace-same (stream_row t s).minimum (tick_after run) _ _ _ _ (omega (arith, still)) (arrivals-push t s s run (Arrive w a) here_stream) (pace-push (stream_row t s).minimum (tick_after run) (ticks_of (arrivals t s run)) (get_or old.streams.items s no_pace) (h.paces s own.0 own_free))))
           | inr other ↦
               let ne : x ≡ s → ⊥ = λ e. other (sym e) in
-              let S : Pace → Type 0 = λ p. IsPaceOf (stream_row t x).minimum (tick_after (run ++ Arrive a w ∷ [])) (ticks_of (arrivals t x (run ++ Arrive a w ∷ []))) p in
+              let S : Pace → Type 0 = λ p. IsPaceOf (stream_row t x).minimum (tick_after (run ++ Arrive w a ∷ [])) (ticks_of (arrivals t x (run ++ Arrive w a ∷ []))) p in
               subst S (sym (ap (λ xs. get_or xs x no_pace) streams ∙ get_or-set_other old.streams.items s x pace no_pace ne))
-              (pace-same (stream_row t x).minimum (tick_after run) _ _ _ _ (omega (arith, still)) (arrivals-other t x run (Arrive a w) (other_stream x other)) (h.paces x l free))
+              (pace-same (stream_row t x).minimum (tick_after run) _ _ _ _ (omega (arith, still)) (arrivals-other t x run (Arrive w a) (other_stream x other)) (h.paces x l free))
         ];
         loads = λ b l free. elim (cases_eq a b) [
           | inl same ↦
-              let R : ℕ → Type 0 = λ b. IsLoad t.tick_us (bus_row t b).spacing (tick_after (run ++ Arrive a w ∷ [])) (ticks_of (bus_arrivals t b (run ++ Arrive a w ∷ []))) (get_or new.wires.items b no_load) in
-              let S : WireLoad → Type 0 = λ x. IsLoad t.tick_us (bus_row t a).spacing (tick_after (run ++ Arrive a w ∷ [])) (ticks_of (bus_arrivals t a (run ++ Arrive a w ∷ []))) x in
+              let R : ℕ → Type 0 = λ b. IsLoad t.tick_us (bus_row t b).spacing (tick_after (run ++ Arrive w a ∷ [])) (ticks_of (bus_arrivals t b (run ++ Arrive w a ∷ []))) (get_or new.wires.items b no_load) in
+              let S : WireLoad → Type 0 = λ x. IsLoad t.tick_us (bus_row t a).spacing (tick_after (run ++ Arrive w a ∷ [])) (ticks_of (bus_arrivals t a (run ++ Arrive w a ∷ []))) x in
               subst R same (subst S (sym (ap (λ xs. get_or xs a no_load) wires ∙ get_or-set_same old.wires.items a load no_load (omega (arith, is.bus_there)) ∙ load'))
-              (load-same t.tick_us (bus_row t a).spacing _ _ _ _ _ still (bus_arrivals-push t a s run (Arrive a w) here) (load-push t.tick_us (bus_row t a).spacing (tick_after run) (ticks_of (bus_arrivals t a run)) (get_or old.wires.items a no_load) (h.loads a is.bus_there is.free))))
+              (load-same t.tick_us (bus_row t a).spacing _ _ _ _ _ still (bus_arrivals-push t a s run (Arrive w a) here) (load-push t.tick_us (bus_row t a).spacing (tick_after run) (ticks_of (bus_arrivals t a run)) (get_or old.wires.items a no_load) (h.loads a is.bus_there is.free))))
           | inr other ↦
               let ne : b ≡ a → ⊥ = λ e. other (sym e) in
-              let S : WireLoad → Type 0 = λ x. IsLoad t.tick_us (bus_row t b).spacing (tick_after (run ++ Arrive a w ∷ [])) (ticks_of (bus_arrivals t b (run ++ Arrive a w ∷ []))) x in
+              let S : WireLoad → Type 0 = λ x. IsLoad t.tick_us (bus_row t b).spacing (tick_after (run ++ Arrive w a ∷ [])) (ticks_of (bus_arrivals t b (run ++ Arrive w a ∷ []))) x in
               subst S (sym (ap (λ xs. get_or xs b no_load) wires ∙ get_or-set_other old.wires.items a b load no_load ne))
-              (load-same t.tick_us (bus_row t b).spacing _ _ _ _ _ still (bus_arrivals-other t b run (Arrive a w) (elsewhere-none t run a w b other)) (h.loads b l free))
+              (load-same t.tick_us (bus_row t b).spacing _ _ _ _ _ still (bus_arrivals-other t b run (Arrive w a) (elsewhere-none t run a w b other)) (h.loads b l free))
         ];
       }
 
@@ -263,9 +263,9 @@ module _ (t : TableRows) (v : AreValid t) (run : List Event) (a w s : ℕ) (is :
       → pace ≡ moved (stream_row t s).minimum old.tick (get_or old.streams.items s no_pace) → carried ≡ can_carry t.tick_us old.tick (get_or old.wires.items a no_load)
       → (carried ≡ true → load ≡ loaded t.tick_us (bus_row t a).spacing old.tick (get_or old.wires.items a no_load))
       → ltb (tick_after run + (stream_row t s).jitter) number ≡ false
-      → Seen t new run (Arrive a w) carried
+      → Seen t new run (Arrive w a) carried
   seen-arrival old new pace load carried h streams_sized wires_sized same_tick streams wires pace_is test load_is rested =
-      let P : Bool → Type 0 = λ b. Seen t new run (Arrive a w) b in
+      let P : Bool → Type 0 = λ b. Seen t new run (Arrive w a) b in
       elim (cases_lt t.tick_us (left_us t.tick_us old.tick (get_or old.wires.items a no_load))) [
         | inl full ↦
             let Q : ℕ → Type 0 = λ n. t.tick_us < left_us t.tick_us n (get_or old.wires.items a no_load) in

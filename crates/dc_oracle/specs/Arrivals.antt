@@ -22,7 +22,7 @@ is_arrival Undeclared = false
 is_arrival TooEarly = false
 is_arrival Overrun = true
 is_arrival Latched = true
-is_arrival (Took b w) = false
+is_arrival (Took w b) = false
 is_arrival (Empty b) = false
 is_arrival (Sent l w) = false
 is_arrival Idle = false
@@ -36,7 +36,7 @@ taken_bus Undeclared = None
 taken_bus TooEarly = None
 taken_bus Overrun = None
 taken_bus Latched = None
-taken_bus (Took b w) = Some b
+taken_bus (Took w b) = Some b
 taken_bus (Empty b) = None
 taken_bus (Sent l w) = None
 taken_bus Idle = None
@@ -46,11 +46,11 @@ taken_bus (Now n) = None
 pub record ArrivesOf (t : TableRows) (run : List Event) (b w s : ℕ) : Type 0 where
   pub there : s < length t.streams
   pub bus : (stream_row t s).bus ≡ b
-  pub here : arrival_of t b run (Arrive b w) ≡ Some s
-  pub elsewhere : (a : ℕ) → (b ≡ a → ⊥) → arrival_of t a run (Arrive b w) ≡ None
+  pub here : arrival_of t b run (Arrive w b) ≡ Some s
+  pub elsewhere : (a : ℕ) → (b ≡ a → ⊥) → arrival_of t a run (Arrive w b) ≡ None
 
 abbrev pub Arrives : TableRows → List Event → ℕ → ℕ → Option ℕ → Type 0
-Arrives t run b w None = (a : ℕ) → arrival_of t a run (Arrive b w) ≡ None
+Arrives t run b w None = (a : ℕ) → arrival_of t a run (Arrive w b) ≡ None
 Arrives t run b w (Some s) = ArrivesOf t run b w s
 
 -- a part for each stream and each bus of the tables

@@ -15,7 +15,7 @@ use Rattle.dc_oracle.specs.Pace.{IsPaceOf, no_pace}
 -- whether the event brings an odd word that a policed bus refuses as early
 abbrev pub is_refused : TableRows → List Event → Event → Bool
 is_refused t run Tick = false
-is_refused t run (Arrive b w) = is_odd w && refuses t b run (stream_of t b w)
+is_refused t run (Arrive w b) = is_odd w && refuses t b run (stream_of t b w)
 is_refused t run (Route r) = false
 is_refused t run (Send o) = false
 

@@ -38,7 +38,7 @@ fn taken_bus(reply: &Reply) -> Option<usize>
     ensures { result ≡ taken_bus reply.now }
 {
     match *reply {
-        Reply::Took(bus, _) => Some(bus),
+        Reply::Took(_, bus) => Some(bus),
         _ => None,
     }
 }
@@ -46,7 +46,7 @@ fn taken_bus(reply: &Reply) -> Option<usize>
 /// The stream of an arrival on the bus, by the reply to it.
 fn arrival_of(tables: &Tables, bus: usize, word: Word, reply: &Reply) -> Option<usize>
     ensures there { IfSome result (λ s. s < length tables.now.streams) }
-    ensures arrives { (run : List Event) → bus < length tables.now.buses → reply.now ≡ reply_to tables.now run (Event.Arrive bus word) → Arrives tables.now run bus word result }
+    ensures arrives { (run : List Event) → bus < length tables.now.buses → reply.now ≡ reply_to tables.now run (Event.Arrive word bus) → Arrives tables.now run bus word result }
 {
     if !is_arrival(reply) {
         return None;
@@ -125,7 +125,7 @@ impl ArrivalWatch {
         requires sized { IsSized tables.now self.old }
         requires early { tick < 2 ^ 64 - 1 }
         ensures sized { IsSized tables.now self.new }
-        ensures follows { (run : List Event) → Follows tables.now self.old run → tick ≡ tick_after run → bus < length tables.now.buses → reply.now ≡ reply_to tables.now run (Event.Arrive bus word) → OnOk result (Follows tables.now self.new (run ++ Event.Arrive bus word ∷ [])) }
+        ensures follows { (run : List Event) → Follows tables.now self.old run → tick ≡ tick_after run → bus < length tables.now.buses → reply.now ≡ reply_to tables.now run (Event.Arrive word bus) → OnOk result (Follows tables.now self.new (run ++ Event.Arrive word bus ∷ [])) }
     {
         tables.valid();
         queues_grow(tables);
@@ -179,7 +179,7 @@ impl ArrivalWatch {
     {
         queues_grow(tables);
         match *event {
-            Event::Arrive(bus, word) => self.arrive(tables, bus, word, reply, tick),
+            Event::Arrive(word, bus) => self.arrive(tables, bus, word, reply, tick),
             Event::Route(router) => {
                 self.route(tables, replies, router, reply);
                 Ok(())

@@ -34,7 +34,7 @@ impl Police {
         requires sized { length self.old.paces.items ≡ length tables.now.streams }
         ensures sized { length self.new.paces.items ≡ length tables.now.streams }
         ensures tick { self.new.tick ≡ self.old.tick }
-        ensures judges { (run : List Event) → Polices tables.now self.old run → bus < length tables.now.buses → Judges tables.now self.new run (Event.Arrive bus word) result }
+        ensures judges { (run : List Event) → Polices tables.now self.old run → bus < length tables.now.buses → Judges tables.now self.new run (Event.Arrive word bus) result }
     {
         tables.valid();
         if !word.is_odd() {
@@ -62,7 +62,7 @@ impl Police {
         ensures judges { (run : List Event) → Polices tables.now self.old run → IsNumbered tables.now event.now → Judges tables.now self.new run event.now result }
     {
         match *event {
-            Event::Arrive(bus, word) => self.arrive(tables, bus, word),
+            Event::Arrive(word, bus) => self.arrive(tables, bus, word),
             Event::Route(_) | Event::Send(_) => false,
             Event::Tick => {
                 self.tick += 1;

@@ -103,7 +103,7 @@ impl ReplyWatch {
         requires sized { IsSized tables.now self.old }
         ensures sized { IsSized tables.now self.new }
         ensures tick { self.new.tick ≡ self.old.tick }
-        ensures reply { (run : List Event) → Holds tables.now self.old run → bus < length tables.now.buses → is_refused tables.now run (Event.Arrive bus word) ≡ false → IfOk result (Replies tables.now self.new run (Event.Arrive bus word)) }
+        ensures reply { (run : List Event) → Holds tables.now self.old run → bus < length tables.now.buses → is_refused tables.now run (Event.Arrive word bus) ≡ false → IfOk result (Replies tables.now self.new run (Event.Arrive word bus)) }
     {
         if !word.is_odd() {
             return Ok(Reply::BadParity);
@@ -137,7 +137,7 @@ impl ReplyWatch {
             return Reply::Empty(bus);
         };
         note(&mut self.latest, stream, word, self.tick);
-        Reply::Took(bus, word)
+        Reply::Took(word, bus)
     }
 
     /// The source with its latest word, where it is fresh for the label.
@@ -287,7 +287,7 @@ impl ReplyWatch {
         ensures reply { (run : List Event) → Holds tables.now self.old run → IsNumbered tables.now event → is_refused tables.now run event ≡ false → IfOk result (Replies tables.now self.new run event) }
     {
         match event {
-            Event::Arrive(bus, word) => self.arrive(tables, bus, word),
+            Event::Arrive(word, bus) => self.arrive(tables, bus, word),
             Event::Route(router) => Ok(self.route(tables, router)),
             Event::Send(output) => Ok(self.send(tables, output)),
             Event::Tick => Ok(self.turn(tables)),

@@ -65,7 +65,7 @@ impl SourceWatch {
     fn arrive(&mut self, tables: &Tables, bus: usize, word: Word) -> Result<bool, AllocError>
         requires sized { IsSized tables.now self.old }
         ensures sized { IsSized tables.now self.new }
-        ensures seen { (run : List Event) → Watches tables.now self.old run → IfOk result (Seen tables.now self.new run (Event.Arrive bus word)) }
+        ensures seen { (run : List Event) → Watches tables.now self.old run → IfOk result (Seen tables.now self.new run (Event.Arrive word bus)) }
     {
         tables.valid();
         if bus >= self.wires.len() || !word.is_odd() {
@@ -94,7 +94,7 @@ impl SourceWatch {
     {
         tables.valid();
         match event {
-            Event::Arrive(bus, word) => self.arrive(tables, bus, word),
+            Event::Arrive(word, bus) => self.arrive(tables, bus, word),
             Event::Route(_) | Event::Send(_) => Ok(true),
             Event::Tick => {
                 self.tick += 1;

@@ -10,10 +10,10 @@ use std::rt::HostRuntime;
 use std::test::Fail;
 
 /// A word of label 203 arrives, normal operation, data 0.
-const ARRIVE: Event = Event::Arrive(0, Word(0x6000_00C1));
+const ARRIVE: Event = Event::Arrive(Word(0x6000_00C1), 0);
 
 /// A word of label 204 arrives.
-const OTHER: Event = Event::Arrive(0, Word(0xE000_0021));
+const OTHER: Event = Event::Arrive(Word(0xE000_0021), 0);
 
 /// The certificate of the small tables with this age.
 fn certificate(alloc: Global, age: u32) -> Result<Certificate, Fail> {

@@ -125,7 +125,7 @@ struct Counts {
 /// Words arrive, up to seven of them.
 fn arrive(rt: &impl Abort, chance: &mut Chance, core: &mut Core, counts: &mut Counts) {
     for _word in 0..chance.below(8) {
-        match core.apply(Event::Arrive(0, random_word(chance))) {
+        match core.apply(Event::Arrive(random_word(chance), 0)) {
             Ok(Reply::Queued(_)) => counts.queued = counts.queued.wrapping_add(1),
             Ok(Reply::TooEarly) => counts.early = counts.early.wrapping_add(1),
             Ok(Reply::BadParity | Reply::Undeclared) => {}

@@ -7,7 +7,7 @@ use dc_tables::Tables;
 /// Whether the event's number is in the tables.
 fn is_known(tables: &Tables, event: &Event) -> bool {
     match event {
-        Event::Arrive(bus, _) => *bus < tables.bus_count(),
+        Event::Arrive(_, bus) => *bus < tables.bus_count(),
         Event::Route(router) => *router < tables.router_count(),
         Event::Send(output) => *output < tables.output_count(),
         Event::Tick => true,

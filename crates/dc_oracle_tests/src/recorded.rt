@@ -58,10 +58,10 @@ fn steady_runs_keep_the_budgets(rt: HostRuntime) -> Result<(), Fail> {
 #[test]
 fn wire_carries_three_words_in_a_tick(rt: HostRuntime) -> Result<(), Fail> {
     let run = [
-        Event::Arrive(0, Word(0xE000_0081)),
-        Event::Arrive(0, Word(0xE000_0041)),
-        Event::Arrive(0, NORMAL),
-        Event::Arrive(0, OTHER),
+        Event::Arrive(Word(0xE000_0081), 0),
+        Event::Arrive(Word(0xE000_0041), 0),
+        Event::Arrive(NORMAL, 0),
+        Event::Arrive(OTHER, 0),
     ];
     assert_eq!(rt; sources_fail(rt.alloc(), LARGEST, &run)?, Some(4));
     Ok(())
@@ -70,13 +70,13 @@ fn wire_carries_three_words_in_a_tick(rt: HostRuntime) -> Result<(), Fail> {
 /// A word of label 203 in tick 0 and in this tick, with two steps and a Tick in each tick between.
 fn two_words(alloc: Global, ticks: u32) -> Result<Vec<Event>, Fail> {
     let mut run = Vec::new(alloc);
-    run.push(Event::Arrive(0, NORMAL))?;
+    run.push(Event::Arrive(NORMAL, 0))?;
     for _tick in 0..ticks {
         run.push(Event::Route(0))?;
         run.push(Event::Send(0))?;
         run.push(Event::Tick)?;
     }
-    run.push(Event::Arrive(0, NORMAL))?;
+    run.push(Event::Arrive(NORMAL, 0))?;
     Ok(run)
 }
 
@@ -92,9 +92,9 @@ fn stream_rests_for_ten_ticks(rt: HostRuntime) -> Result<(), Fail> {
 
 #[test]
 fn words_that_no_stream_declares_are_no_arrivals(rt: HostRuntime) -> Result<(), Fail> {
-    let even = Event::Arrive(0, Word(0x2000_00C1));
-    let undeclared = Event::Arrive(0, Word(0xE000_0081));
-    let unknown = Event::Arrive(7, NORMAL);
+    let even = Event::Arrive(Word(0x2000_00C1), 0);
+    let undeclared = Event::Arrive(Word(0xE000_0081), 0);
+    let unknown = Event::Arrive(NORMAL, 7);
     let run = [even, even, undeclared, undeclared, unknown, unknown];
     assert_eq!(rt; sources_fail(rt.alloc(), SMALL, &run)?, None);
     Ok(())
@@ -115,14 +115,14 @@ const LATE: Plan = Plan {
 fn sources_of_a_policed_bus_are_not_asked(rt: HostRuntime) -> Result<(), Fail> {
     let soon = two_words(rt.alloc(), 9)?;
     assert_eq!(rt; sources_fail(rt.alloc(), POLICED, soon.as_slice())?, None);
-    let flood = [Event::Arrive(0, NORMAL); 5];
+    let flood = [Event::Arrive(NORMAL, 0); 5];
     assert_eq!(rt; sources_fail(rt.alloc(), POLICED, &flood)?, None);
     Ok(())
 }
 
 #[test]
 fn a_jitter_lets_two_words_come_together(rt: HostRuntime) -> Result<(), Fail> {
-    let flood = [Event::Arrive(0, NORMAL); 3];
+    let flood = [Event::Arrive(NORMAL, 0); 3];
     assert_eq!(rt; sources_fail(rt.alloc(), LATE, &flood)?, Some(3));
     assert_eq!(rt; sources_fail(rt.alloc(), SMALL, &flood)?, Some(2));
     let soon = two_words(rt.alloc(), 1)?;
@@ -188,7 +188,7 @@ fn steady_tick_sends_the_fallback(rt: HostRuntime) -> Result<(), Fail> {
 #[test]
 fn fresh_word_is_copied(rt: HostRuntime) -> Result<(), Fail> {
     let run = [
-        Event::Arrive(0, NORMAL),
+        Event::Arrive(NORMAL, 0),
         Event::Route(0),
         Event::Send(0),
         Event::Send(0),
@@ -196,7 +196,7 @@ fn fresh_word_is_copied(rt: HostRuntime) -> Result<(), Fail> {
     let reported = outputs_of(rt.alloc(), SMALL, &run)?;
     let wanted = [
         Reply::Queued(1),
-        Reply::Took(0, NORMAL),
+        Reply::Took(NORMAL, 0),
         Reply::Sent(label(0o203)?, NORMAL),
         Reply::Idle,
     ];
@@ -207,10 +207,10 @@ fn fresh_word_is_copied(rt: HostRuntime) -> Result<(), Fail> {
 #[test]
 fn early_words_are_refused_before_the_latch(rt: HostRuntime) -> Result<(), Fail> {
     let run = [
-        Event::Arrive(0, NORMAL),
-        Event::Arrive(0, NORMAL),
-        Event::Arrive(0, OTHER),
-        Event::Arrive(0, NORMAL),
+        Event::Arrive(NORMAL, 0),
+        Event::Arrive(NORMAL, 0),
+        Event::Arrive(OTHER, 0),
+        Event::Arrive(NORMAL, 0),
     ];
     let one = Plan {
         queue: 1,
@@ -230,13 +230,13 @@ fn early_words_are_refused_before_the_latch(rt: HostRuntime) -> Result<(), Fail>
 #[test]
 fn overrun_latches_the_bus(rt: HostRuntime) -> Result<(), Fail> {
     let run = [
-        Event::Arrive(0, Word(0x2000_00C1)),
-        Event::Arrive(0, Word(0xE000_0081)),
-        Event::Arrive(0, NORMAL),
-        Event::Arrive(0, OTHER),
-        Event::Arrive(0, NORMAL),
+        Event::Arrive(Word(0x2000_00C1), 0),
+        Event::Arrive(Word(0xE000_0081), 0),
+        Event::Arrive(NORMAL, 0),
+        Event::Arrive(OTHER, 0),
+        Event::Arrive(NORMAL, 0),
         Event::Route(0),
-        Event::Arrive(0, NORMAL),
+        Event::Arrive(NORMAL, 0),
         Event::Send(0),
     ];
     let reported = outputs_of(rt.alloc(), SMALL, &run)?;
@@ -246,7 +246,7 @@ fn overrun_latches_the_bus(rt: HostRuntime) -> Result<(), Fail> {
         Reply::Queued(1),
         Reply::Queued(2),
         Reply::Overrun,
-        Reply::Took(0, NORMAL),
+        Reply::Took(NORMAL, 0),
         Reply::Latched,
         Reply::Sent(label(0o203)?, FALLBACK),
     ];

@@ -6,86 +6,15 @@ use dc_device::MemSource;
 use dc_event::{Event, TraceReader, TraceStop};
 use dc_tables::Tables;
 use dc_toml::read_tables;
+use dc_trials::push_small_tables;
 use std::alloc::{AllocError, Global};
 use std::process::Abort;
 use std::rt::HostRuntime;
 use std::sync::Arc;
 use std::test::Fail;
 
-/// Labels 203 and 204.
-const PARAMETERS: &str = "version = 1
-tick_us = 1000
-[[parameter]]
-label = \"203\"
-equipment = \"001\"
-format = \"bnr\"
-min_us = 10000
-max_us = 20000
-[[parameter]]
-label = \"204\"
-equipment = \"001\"
-format = \"bnr\"
-min_us = 10000
-max_us = 20000
-";
-
-/// The streams of bus A, and a second bus with one of its own.
-const BUSES: &str = "[[bus.stream]]
-name = \"A-203\"
-label = \"203\"
-equipment = \"001\"
-sdi = \"any\"
-[[bus.stream]]
-name = \"A-204\"
-label = \"204\"
-equipment = \"001\"
-sdi = \"any\"
-[[bus]]
-name = \"B\"
-speed = \"high\"
-queue = 2
-[[bus.stream]]
-name = \"B-203\"
-label = \"203\"
-equipment = \"001\"
-sdi = \"any\"
-";
-
-/// The router and the output.
-const ACTORS: &str = "[[router]]
-name = \"R1\"
-steps = 1
-within = 1
-most = 2
-visits = [\"A\", \"B\"]
-[[output]]
-name = \"O\"
-speed = \"high\"
-steps = 1
-within = 2
-frame = 15
-[[output.label]]
-name = \"x\"
-label = \"203\"
-equipment = \"001\"
-sdi = 0
-sources = [\"A-203\", \"B-203\"]
-stale = 22
-age = 30
-";
-
-/// The small tables with a second bus, where bus A's queue has this room and the label is due at these ticks.
-fn push_tables(text: &mut String, queue: &str, offsets: &str) -> Result<(), AllocError> {
-    text.push_str(PARAMETERS)?;
-    text.push_str("[[bus]]\nname = \"A\"\nspeed = \"high\"\nqueue = ")?;
-    text.push_str(queue)?;
-    text.push_str("\n")?;
-    text.push_str(BUSES)?;
-    text.push_str(ACTORS)?;
-    text.push_str("offsets = [")?;
-    text.push_str(offsets)?;
-    text.push_str("]\n")
-}
+/// The small tables with a second bus, which R1 visits and x has for a source.
+const SECOND_BUS: &str = "buses=2 visits=\"A\",\"B\" sources=\"A-203\",\"B-203\"";
 
 /// Steps of each kind that are refused; words that are refused; words that wait, are routed, copied, and lost. Each run
 /// ends with a bar.
@@ -119,7 +48,8 @@ fn run_trace(
     Ok(1000)
 }
 
-/// Runs a trace on a concentrator of the small tables.
+/// Runs a trace on a concentrator of the small tables with a second bus, where bus A's queue has this room and the label is due
+/// at these ticks.
 fn run_small(
     rt: &impl Abort,
     alloc: Global,
@@ -127,8 +57,9 @@ fn run_small(
     offsets: &str,
     trace: &str,
 ) -> Result<u32, Fail> {
+    let row = format!(in alloc; "{SECOND_BUS} queue={queue} offsets={offsets}")?;
     let mut text = String::new(alloc);
-    push_tables(&mut text, queue, offsets)?;
+    push_small_tables(&mut text, row.as_str())?;
     let tables = Arc::new(alloc, read_tables(alloc, text.as_bytes())?)?;
     let shared = Arc::try_clone(&tables)?;
     let mut core = Core::new(alloc, shared)?;
@@ -148,7 +79,7 @@ fn run_all(rt: &impl Abort, alloc: Global, queue: &str, offsets: &str) -> Result
 fn the_second_opinion_agrees_on_worked_runs(rt: HostRuntime) -> Result<(), Fail> {
     assert_eq!(rt; run_all(&rt, rt.alloc(), "2", "0")?, 62);
     assert_eq!(rt; run_all(&rt, rt.alloc(), "1", "0")?, 62);
-    assert_eq!(rt; run_all(&rt, rt.alloc(), "2", "1, 0")?, 62);
+    assert_eq!(rt; run_all(&rt, rt.alloc(), "2", "1,0")?, 62);
     Ok(())
 }
 

@@ -35,7 +35,7 @@ pub fn random_event(chance: &mut Chance, tables: &Tables) -> Event {
         9..=11 => Event::Send(number(chance, tables.output_count())),
         _ => {
             let bus = number(chance, tables.bus_count());
-            Event::Arrive(bus, random_word(chance))
+            Event::Arrive(random_word(chance), bus)
         }
     }
 }

@@ -1,12 +1,13 @@
 -- Where a cap jumps.
-use Rattle.std.proofs.Common.{◌≡◌, ℕ, zero, suc, ◌+◌, ◌-◌, ◌*◌, ◌/◌, ◌<◌, ◌≤◌, min, List, Option, Some, None, length, take, get_or, sym, ap, subst, arith, inl, inr}
-use Rattle.std.specs.Prelude.{MatchOption}
+use Rattle.std.proofs.Common.{◌≡◌, ℕ, zero, suc, ◌+◌, ◌-◌, ◌*◌, ◌/◌, ◌<◌, ◌≤◌, min, List, Option, Some, None, length, take, get_or, refl, sym, ap, subst, ◌∙◌, arith, inl, inr}
+use Rattle.std.specs.Prelude.{IfSome}
+use Rattle.std.specs.Option.{unwrap_or}
 use Rattle.std.specs.List.{sum_by}
 use Rattle.std.proofs.lemmas.List.{take_all}
 use Rattle.std.proofs.lemmas.List.Sums.{sum_by_more}
 use Rattle.std.proofs.Math.Nat.{div-mul-le_self, div-add-mod', mod-lt, mul-le-mul_right}
 use Rattle.std.proofs.lemmas.Bool.{cases_lt}
-use Rattle.dc_bound.specs.Window.{FlatTo, IsNextJump, wire_cap}
+use Rattle.dc_bound.specs.Window.{FlatTo, IsKept, IsNextJump, wire_cap}
 use Rattle.dc_bound.specs.lemmas.Sums.{sum_monotone}
 use Rattle.dc_bound.specs.lemmas.Counts.{ceil_from, ceil_mono, wire_mono}
 use Rattle.dc_bound.specs.Window.{earlier_jump}
@@ -44,7 +45,7 @@ sum_jumps f g f_grows g_grows d (Some i) (Some j) fj gj = (
 
 -- ---- a jump that is known by its place
 
-pub jump_found : (f : ℕ → ℕ) (d n : ℕ) (jump : Option ℕ) → (d < n) × FlatTo f d (n - 1) × (f d < f n) → MatchOption jump (1000000 < n) (λ j. (j ≡ n) × (j ≤ 1000000)) → IsNextJump f d jump
+pub jump_found : (f : ℕ → ℕ) (d n : ℕ) (jump : Option ℕ) → (d < n) × FlatTo f d (n - 1) × (f d < f n) → IsKept n jump → IsNextJump f d jump
 jump_found f d n None at far = λ k from to. at.1 k from (omega arith)
 jump_found f d n (Some j) at found = (
   omega (arith, at.0, found.0),
@@ -119,6 +120,20 @@ sum_grows cap grows bs d e h = sum_monotone cap grows bs d e h
 pub same_jump : (f g : ℕ → ℕ) (d : ℕ) (jump : Option ℕ) → ((e : ℕ) → f e ≡ g e) → IsNextJump f d jump → IsNextJump g d jump
 same_jump f g d None same h = λ k from to. omega (arith, h k from to, same k, same d)
 same_jump f g d (Some j) same h = (h.0, h.1, (λ k from to. omega (arith, h.2 k from to, same k, same d)), omega (arith, h.3, same d, same j))
+
+-- a number keeps one jump at most
+pub one_kept : (n : ℕ) (jump other : Option ℕ) → IsKept n jump → IsKept n other → jump ≡ other
+one_kept n None None a b = refl
+one_kept n None (Some j) a b = absurd (omega (arith, a, b))
+one_kept n (Some i) None a b = absurd (omega (arith, a, b))
+one_kept n (Some i) (Some j) a b = ap Some (a.0 ∙ sym b.0)
+
+-- the lesser of the numbers keeps the earlier of the jumps
+pub earlier_kept : (n r : ℕ) (other jump : Option ℕ) → r ≡ min n (unwrap_or other 1000001) → IfSome other (λ j. j ≤ 1000000) → IsKept n jump → IsKept r (earlier_jump jump other)
+earlier_kept n r None None is short kept = omega (arith, is, kept)
+earlier_kept n r (Some j) None is short kept = (omega (arith, is, short, kept), short)
+earlier_kept n r None (Some i) is short kept = (omega (arith, is, kept), kept.1)
+earlier_kept n r (Some j) (Some i) is short kept = (omega (arith, is, short, kept), omega (arith, short, kept))
 
 -- one member more
 pub member_jumps : {B : Type 0} (cap : B → ℕ → ℕ) → ((b : B) (d e : ℕ) → d ≤ e → cap b d ≤ cap b e) →

@@ -2,7 +2,7 @@
 use Rattle.std.proofs.Common.{◌≡◌, ℕ, ◌+◌, ◌-◌, ◌≤◌, Option, Some, None, refl, arith}
 use Rattle.dc_bound.specs.lemmas.Jumps.{Grows}
 use Rattle.dc_busy.specs.BusyWindow.{Closes, BacklogBounded, DelayBounded}
-use Rattle.dc_busy.specs.Least.{IsLeastUpTo100000}
+use Rattle.dc_busy.specs.Least.{IsLeastUpToLongest}
 
 -- what bounds the backlog of a window bounds that of a shorter one
 pub shorter-backlog : (a s : ℕ → ℕ) (short long backlog : ℕ) → short ≤ long → BacklogBounded a s long backlog → BacklogBounded a s short backlog
@@ -18,7 +18,7 @@ closing-bounds_delay a s a_grows s_grows window closes w some inside =
 
 -- so it has a least delay
 pub closing-has_delay : (a s : ℕ → ℕ) → Grows a → Grows s → (window : ℕ) → 1 ≤ window → window ≤ 100000 → Closes a s window →
-    (found : Option ℕ) → IsLeastUpTo100000 (DelayBounded a s window) found → (d : ℕ) × (found ≡ Some d)
+    (found : Option ℕ) → IsLeastUpToLongest (DelayBounded a s window) found → (d : ℕ) × (found ≡ Some d)
 closing-has_delay a s a_grows s_grows window some most closes None h =
     absurd (h (window - 1) (omega arith) (closing-bounds_delay a s a_grows s_grows window closes))
 closing-has_delay a s a_grows s_grows window some most closes (Some d) h = (d, refl)

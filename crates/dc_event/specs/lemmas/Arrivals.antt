@@ -47,7 +47,7 @@ word-stamped k w (Some s) = refl
 move-stamped : (t : TableRows) (b k : ℕ) (past : List Event) (e : Event) → stamped move_ends tag_of k (move_of t b past e) ≡ stamp k (arrival_of t b past e) []
 unfolding stamped
 move-stamped t b k past Tick = refl
-move-stamped t b k past (Arrive a w) =
+move-stamped t b k past (Arrive w a) =
     elim ((a == b) && is_odd w) as (λ v. stamped move_ends tag_of k (cond v (in_of (let_in t b past (stream_of t b w)) w) []) ≡ stamp k (let_in t b past (cond v (stream_of t b w) None)) []) [
       | true ↦ word-stamped k w (let_in t b past (stream_of t b w))
       | false ↦ refl
@@ -290,48 +290,48 @@ either_none true = refl
 either_none false = refl
 
 -- an even word is an arrival of no bus
-pub even-none : (t : TableRows) (run : List Event) (b w : ℕ) → is_odd w ≡ false → (a : ℕ) → arrival_of t a run (Arrive b w) ≡ None
+pub even-none : (t : TableRows) (run : List Event) (b w : ℕ) → is_odd w ≡ false → (a : ℕ) → arrival_of t a run (Arrive w b) ≡ None
 even-none t run b w even a = ap (λ v. let_in t a run (cond v (stream_of t a w) None)) (false_and (b == a) (is_odd w) even)
 
 -- a word is an arrival of no bus but its own
-pub elsewhere-none : (t : TableRows) (run : List Event) (b w a : ℕ) → (b ≡ a → ⊥) → arrival_of t a run (Arrive b w) ≡ None
+pub elsewhere-none : (t : TableRows) (run : List Event) (b w a : ℕ) → (b ≡ a → ⊥) → arrival_of t a run (Arrive w b) ≡ None
 elsewhere-none t run b w a other = ap (λ v. let_in t a run (cond (v && is_odd w) (stream_of t a w) None)) (ne_eqb b a other)
 
 -- a word that no stream of its bus declares is an arrival of no bus
-pub undeclared-none : (t : TableRows) (run : List Event) (b w : ℕ) → stream_of t b w ≡ None → (a : ℕ) → arrival_of t a run (Arrive b w) ≡ None
+pub undeclared-none : (t : TableRows) (run : List Event) (b w : ℕ) → stream_of t b w ≡ None → (a : ℕ) → arrival_of t a run (Arrive w b) ≡ None
 undeclared-none t run b w none a = elim (cases_eq b a) [
   | inl same ↦
-      let P : ℕ → Type 0 = λ a. arrival_of t a run (Arrive b w) ≡ None in
+      let P : ℕ → Type 0 = λ a. arrival_of t a run (Arrive w b) ≡ None in
       subst P same (ap (λ o. let_in t b run (cond ((b == b) && is_odd w) o None)) none ∙ ap (let_in t b run) (either_none ((b == b) && is_odd w)))
   | inr other ↦ elsewhere-none t run b w a other
 ]
 
-offer-here : (t : TableRows) (b w k : ℕ) → is_odd w ≡ true → stream_of t b w ≡ Some k → offer_of t b (Arrive b w) ≡ Some k
+offer-here : (t : TableRows) (b w k : ℕ) → is_odd w ≡ true → stream_of t b w ≡ Some k → offer_of t b (Arrive w b) ≡ Some k
 offer-here t b w k odd some = let e : (b == b) ≡ true = eq-eqb b b refl in rw (e, odd) some
 
 -- a word that its bus refuses is an arrival of no bus
-pub refused-none : (t : TableRows) (run : List Event) (b w k : ℕ) → is_odd w ≡ true → stream_of t b w ≡ Some k → refuses t b run (Some k) ≡ true → (a : ℕ) → arrival_of t a run (Arrive b w) ≡ None
+pub refused-none : (t : TableRows) (run : List Event) (b w k : ℕ) → is_odd w ≡ true → stream_of t b w ≡ Some k → refuses t b run (Some k) ≡ true → (a : ℕ) → arrival_of t a run (Arrive w b) ≡ None
 refused-none t run b w k odd some early a = elim (cases_eq b a) [
   | inl same ↦
-      let P : ℕ → Type 0 = λ a. arrival_of t a run (Arrive b w) ≡ None in
+      let P : ℕ → Type 0 = λ a. arrival_of t a run (Arrive w b) ≡ None in
       subst P same (ap (let_in t b run) (offer-here t b w k odd some) ∙ ap (λ v. cond v None (Some k)) early)
   | inr other ↦ elsewhere-none t run b w a other
 ]
 
 -- each other word is an arrival of its bus, and of its stream alone
-pub arrival-here : (t : TableRows) (run : List Event) (b w k : ℕ) → is_odd w ≡ true → stream_of t b w ≡ Some k → refuses t b run (Some k) ≡ false → arrival_of t b run (Arrive b w) ≡ Some k
+pub arrival-here : (t : TableRows) (run : List Event) (b w k : ℕ) → is_odd w ≡ true → stream_of t b w ≡ Some k → refuses t b run (Some k) ≡ false → arrival_of t b run (Arrive w b) ≡ Some k
 arrival-here t run b w k odd some free = ap (let_in t b run) (offer-here t b w k odd some) ∙ ap (λ v. cond v None (Some k)) free
 
-pub arrival-own : (t : TableRows) (run : List Event) (b w k : ℕ) → is_odd w ≡ true → stream_of t b w ≡ Some k → refuses t b run (Some k) ≡ false → arrival_on t k run (Arrive b w) ≡ Some k
+pub arrival-own : (t : TableRows) (run : List Event) (b w k : ℕ) → is_odd w ≡ true → stream_of t b w ≡ Some k → refuses t b run (Some k) ≡ false → arrival_on t k run (Arrive w b) ≡ Some k
 arrival-own t run b w k odd some free =
     let own = stream_of-there t b w k some in
     let e : eqb k k ≡ true = eq-eqb k k refl in
-    ap (λ a. only k (arrival_of t a run (Arrive b w))) own.1 ∙ ap (only k) (arrival-here t run b w k odd some free) ∙ ap (λ v. cond v (Some k) None) e
+    ap (λ a. only k (arrival_of t a run (Arrive w b))) own.1 ∙ ap (only k) (arrival-here t run b w k odd some free) ∙ ap (λ v. cond v (Some k) None) e
 
-pub arrival-others : (t : TableRows) (run : List Event) (b w k : ℕ) → is_odd w ≡ true → stream_of t b w ≡ Some k → refuses t b run (Some k) ≡ false → (s : ℕ) → (k ≡ s → ⊥) → arrival_on t s run (Arrive b w) ≡ None
+pub arrival-others : (t : TableRows) (run : List Event) (b w k : ℕ) → is_odd w ≡ true → stream_of t b w ≡ Some k → refuses t b run (Some k) ≡ false → (s : ℕ) → (k ≡ s → ⊥) → arrival_on t s run (Arrive w b) ≡ None
 arrival-others t run b w k odd some free s other = elim (cases_eq b (stream_row t s).bus) [
   | inl same ↦
-      let P : ℕ → Type 0 = λ a. only s (arrival_of t a run (Arrive b w)) ≡ None in
+      let P : ℕ → Type 0 = λ a. only s (arrival_of t a run (Arrive w b)) ≡ None in
       subst P same (ap (only s) (arrival-here t run b w k odd some free) ∙ ap (λ v. cond v (Some k) None) (ne_eqb k s other))
   | inr far ↦ ap (only s) (elsewhere-none t run b w (stream_row t s).bus far)
 ]

@@ -166,14 +166,14 @@ entries_due-none t o k = entries_in-none (k % (output_row t o).frame) (output_ro
 output_move-ticks : (t : TableRows) (o : ℕ) (past : List Event) (e : Event) → ticks_in (output_move_of t o past e) ≡ ends e
 unfolding ticks
 output_move-ticks t o past Tick = omega (arith, (entries_due-none t o (tick_after past + 1)).0)
-output_move-ticks t o past (Arrive b w) = refl
+output_move-ticks t o past (Arrive w b) = refl
 output_move-ticks t o past (Route r) = refl
 output_move-ticks t o past (Send q) = elim (eqb q o) as (λ v. ticks_in (cond v (Visit ∷ []) []) ≡ 0) [ true ↦ refl | false ↦ refl ]
 
 output_move-visits : (t : TableRows) (o : ℕ) (past : List Event) (e : Event) → visits (output_move_of t o past e) ≡ sends o (e ∷ [])
 unfolding picks
 output_move-visits t o past Tick = omega (arith, (entries_due-none t o (tick_after past + 1)).1)
-output_move-visits t o past (Arrive b w) = refl
+output_move-visits t o past (Arrive w b) = refl
 output_move-visits t o past (Route r) = refl
 output_move-visits t o past (Send q) = elim (eqb q o) as (λ v. visits (cond v (Visit ∷ []) []) ≡ picks (λ (p : Option ℕ). p) (cond v (Some q) None ∷ [])) [ true ↦ refl | false ↦ refl ]
 
@@ -197,7 +197,7 @@ module _ (t : TableRows) (valid : AreValid t) (o : ℕ) (there : o < length t.ou
   output_move-ins past Tick =
       let k : tick_after past + 1 ≡ suc (tick_after past) = omega arith in
       omega (arith, due_by-next t valid o there (tick_after past), ap (due_by t o) k, ap (λ n. length (ins (entries_due t o n))) k)
-  output_move-ins past (Arrive b w) = let z : tick_after past + 0 ≡ tick_after past = omega arith in omega (arith, ap (due_by t o) z)
+  output_move-ins past (Arrive w b) = let z : tick_after past + 0 ≡ tick_after past = omega arith in omega (arith, ap (due_by t o) z)
   output_move-ins past (Route r) = let z : tick_after past + 0 ≡ tick_after past = omega arith in omega (arith, ap (due_by t o) z)
   output_move-ins past (Send q) =
       let z : tick_after past + 0 ≡ tick_after past = omega arith in
@@ -275,7 +275,7 @@ module _ (t : TableRows) (valid : AreValid t) (o : ℕ) (there : o < length t.ou
   push_passed : (run : List Event) (e : Event) → min (passed (output_moves t o run) + sends o (e ∷ [])) (due_by t o (tick_after (run ++ e ∷ []))) ≤ passed (output_moves t o run ++ output_move_of t o run e)
   unfolding picks
   push_passed run Tick = omega (arith, passed-rises (output_moves t o run) (output_move_of t o run Tick))
-  push_passed run (Arrive b w) = omega (arith, passed-rises (output_moves t o run) [])
+  push_passed run (Arrive w b) = omega (arith, passed-rises (output_moves t o run) [])
   push_passed run (Route r) = omega (arith, passed-rises (output_moves t o run) [])
   push_passed run (Send q) =
       let same : tick_after (run ++ Send q ∷ []) ≡ tick_after run = send_tick run q in

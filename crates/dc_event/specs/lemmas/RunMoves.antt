@@ -47,7 +47,7 @@ one_step : (t : TableRows) (b r u d k : ℕ) (past : List Event) (e : Event)
     → count_in u d (V.visited (router_row t r).visits b (routes r past) (route_step r k e)) ≤ count_in u d (ticks_of (stamped move_ends visit_of k (move_of t b past e)))
 unfolding stamped count_in V.visited
 one_step t b r u d k past Tick = omega arith
-one_step t b r u d k past (Arrive a w) = omega arith
+one_step t b r u d k past (Arrive w a) = omega arith
 one_step t b r u d k past (Send o) = omega arith
 one_step t b r u d k past (Route q) =
     elim (cases_eq q r) [

@@ -119,7 +119,7 @@ sent-le t o run = omega (arith, served-le (λ past. due_by t o (tick_after past)
 
 due_by-later : (t : TableRows) (o k : ℕ) (e : Event) → due_by t o k ≤ due_by t o (k + ends e)
 due_by-later t o k Tick = due_by-next t o k
-due_by-later t o k (Arrive b w) = rw add-zero (omega arith)
+due_by-later t o k (Arrive w b) = rw add-zero (omega arith)
 due_by-later t o k (Route r) = rw add-zero (omega arith)
 due_by-later t o k (Send q) = rw add-zero (omega arith)
 
@@ -140,7 +140,7 @@ arrive_moves (Some s) w = refl
 move_ticks : (t : TableRows) (b : ℕ) (past : List Event) (e : Event) → ticks_in (move_of t b past e) ≡ ends e
 unfolding ticks
 move_ticks t b past Tick = refl
-move_ticks t b past (Arrive a w) = elim ((a == b) && is_odd w) as (λ x. ticks move_ends (cond x (in_of (let_in t b past (stream_of t b w)) w) []) ≡ 0) [ true ↦ arrive_moves (let_in t b past (stream_of t b w)) w | false ↦ refl ]
+move_ticks t b past (Arrive w a) = elim ((a == b) && is_odd w) as (λ x. ticks move_ends (cond x (in_of (let_in t b past (stream_of t b w)) w) []) ≡ 0) [ true ↦ arrive_moves (let_in t b past (stream_of t b w)) w | false ↦ refl ]
 move_ticks t b past (Route r) = elim (visited t r (routes r past) == b) as (λ x. ticks move_ends (cond x (Visit ∷ []) []) ≡ 0) [ true ↦ refl | false ↦ refl ]
 move_ticks t b past (Send o) = refl
 
@@ -181,7 +181,7 @@ none_declared t b n l = absurd (omega arith)
 move_declared : (t : TableRows) (b : ℕ) (past : List Event) (e : Event) → AllDeclared t b (ins (move_of t b past e))
 unfolding ins
 move_declared t b past Tick = none_declared t b
-move_declared t b past (Arrive a w) = elim ((a == b) && is_odd w) as (λ x. AllDeclared t b (ins (cond x (in_of (let_in t b past (stream_of t b w)) w) []))) [ true ↦ arrival_declared t b w (let_in t b past (stream_of t b w)) (λ s h. let_in-some t b past (stream_of t b w) s h) | false ↦ none_declared t b ]
+move_declared t b past (Arrive w a) = elim ((a == b) && is_odd w) as (λ x. AllDeclared t b (ins (cond x (in_of (let_in t b past (stream_of t b w)) w) []))) [ true ↦ arrival_declared t b w (let_in t b past (stream_of t b w)) (λ s h. let_in-some t b past (stream_of t b w) s h) | false ↦ none_declared t b ]
 move_declared t b past (Route r) = elim (visited t r (routes r past) == b) as (λ x. AllDeclared t b (ins (cond x (Visit ∷ []) []))) [ true ↦ none_declared t b | false ↦ none_declared t b ]
 move_declared t b past (Send o) = none_declared t b
 

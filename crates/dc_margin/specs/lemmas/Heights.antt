@@ -1,11 +1,10 @@
 -- Peaks: which they are, and that the searches find them.
-use Rattle.std.proofs.Common.{◌≡◌, ℕ, zero, suc, ◌+◌, ◌-◌, ◌≤◌, ◌<◌, Bool, true, false, Option, Some, None, refl, sym, ap, arith, inl, inr, subst}
-use Rattle.std.specs.Prelude.{nat_lt, nat_le, if◌then◌else◌, MatchOption}
-use Rattle.std.specs.Option.{unwrap_or}
-use Rattle.std.proofs.lemmas.Bool.{cases_lt, lt-ltb, le-ltb, lt-leb, le-leb}
-use Rattle.dc_busy.specs.BusyWindow.{BacklogAt, BacklogBounded, DelayAt, DelayBounded, IsLeastFailing}
-use Rattle.dc_busy.specs.Least.{IsLeast, IsLeastUpTo100000}
-use Rattle.dc_margin.specs.Peaks.{IsPeak, peak, waiting, least_below, needed}
+use Rattle.std.proofs.Common.{◌≡◌, ℕ, zero, suc, ◌+◌, ◌-◌, ◌≤◌, ◌<◌, Bool, true, false, refl, ap, arith, inl, inr}
+use Rattle.std.specs.Prelude.{nat_lt, nat_le, if◌then◌else◌}
+use Rattle.std.proofs.lemmas.Bool.{cases_lt, lt-ltb, le-ltb, le-leb}
+use Rattle.dc_busy.specs.BusyWindow.{DelayAt}
+use Rattle.dc_busy.specs.declared.limits.TheConstants.{LONGEST_WINDOW}
+use Rattle.dc_margin.specs.Peaks.{IsPeak, peak, least_below, needed}
 
 -- ---- which it is
 
@@ -67,35 +66,7 @@ pub there-is : (f : ℕ → ℕ) (n : ℕ) → 1 ≤ n → IsPeak f n (peak f n)
 there-is f zero some = absurd (omega arith)
 there-is f (suc n) some = peak-of f n
 
--- ---- the search for a backlog
-
-module _ (cap floor : ℕ → ℕ) (window height : ℕ) (some : 1 ≤ window) (least : IsLeast (BacklogBounded cap floor window) height) where
-  -- the first w that has so many waiting is the first that fails for one less
-  pub backlog-found : (found : Option ℕ) → MatchOption found (BacklogBounded cap floor window (height - 1)) (λ w. IsLeastFailing (BacklogAt cap floor (height - 1)) window w) →
-      (r : ℕ) → r ≡ unwrap_or found 1 → IsPeak (waiting cap floor) window r height
-  backlog-found None passes r is =
-      let none : height ≡ 0 = omega (arith, least.1 (height - 1) passes) in
-      let at : waiting cap floor r ≤ height = least.0 r (omega (arith, is)) (omega (arith, is)) in
-      record {
-        some = omega (arith, is);
-        within = omega (arith, is);
-        height = omega (arith, at, none);
-        greatest = least.0;
-        first = λ v low high. absurd (omega (arith, is));
-      }
-  backlog-found (Some w) fails r is =
-      record {
-        some = omega (arith, fails.0, is);
-        within = omega (arith, fails.1, is);
-        height = omega (arith, ap (waiting cap floor) is, least.0 w fails.0 fails.1, elim (cases_lt (height - 1) (waiting cap floor w)) as (λ _. height - 1 < waiting cap floor w) [ inl l ↦ l | inr g ↦ absurd (fails.2 g) ]);
-        greatest = least.0;
-        first = λ v low high. elim (cases_lt height 1) [
-          | inl nothing ↦ absurd (fails.2 (omega (arith, least.0 w fails.0 fails.1)))
-          | inr some_wait ↦ omega (arith, fails.3 v low (omega (arith, is)))
-        ];
-      }
-
--- ---- the search for a delay
+-- ---- the least delay
 
 -- the least number below n is at most each that passes
 pub below-least : (n : ℕ) (test : ℕ → Bool) (d : ℕ) → d < n → test d ≡ true → least_below n test ≤ d
@@ -126,55 +97,5 @@ below-count (suc n) test =
 
 module _ (cap floor : ℕ → ℕ) (grows : (d e : ℕ) → d ≤ e → floor d ≤ floor e) where
   -- a delay that passes is enough
-  pub enough : (w d : ℕ) → d ≤ 100000 → DelayAt cap floor d w → needed cap floor w ≤ d
-  enough w d short passes = below-least 100001 (λ d. nat_le (cap w) (floor (w - 1 + d))) d (omega arith) (le-leb _ _ passes)
-
-  -- one that fails is too short
-  too-short : (w d : ℕ) → d ≤ 100000 → ¬ DelayAt cap floor d w → d + 1 ≤ needed cap floor w
-  too-short w d short fails =
-      above-failing 100001 (λ d. nat_le (cap w) (floor (w - 1 + d))) (d + 1) (omega arith)
-      (λ e below. elim (cases_lt (floor (w - 1 + e)) (cap w)) [
-        | inl l ↦ lt-leb _ _ l
-        | inr g ↦ absurd (fails (omega (arith, g, grows (w - 1 + e) (w - 1 + d) (omega arith))))
-      ])
-
-  at-most : (w : ℕ) → needed cap floor w ≤ 100001
-  at-most w = below-count 100001 (λ d. nat_le (cap w) (floor (w - 1 + d)))
-
-  -- the first w that needs so much is the first that fails for one tick less
-  pub delay-found : (window : ℕ) → 1 ≤ window → (least : Option ℕ) → IsLeastUpTo100000 (DelayBounded cap floor window) least →
-      (height : ℕ) → height ≡ unwrap_or least 100001 →
-      (found : Option ℕ) → MatchOption found (DelayBounded cap floor window (height - 1)) (λ w. IsLeastFailing (DelayAt cap floor (height - 1)) window w) →
-      (r : ℕ) → r ≡ unwrap_or found 1 → IsPeak (needed cap floor) window r height
-  delay-found window some None none height at None passes r is = absurd (none (height - 1) (omega (arith, at)) passes)
-  delay-found window some None none height at (Some w) fails r is =
-      record {
-        some = omega (arith, fails.0, is);
-        within = omega (arith, fails.1, is);
-        height = omega (arith, at, ap (needed cap floor) is, at-most w, too-short w (height - 1) (omega (arith, at)) fails.2);
-        greatest = λ v low high. omega (arith, at, at-most v);
-        first = λ v low high. omega (arith, at, enough v (height - 1) (omega (arith, at)) (fails.3 v low (omega (arith, is))));
-      }
-  delay-found window some (Some d) least height at None passes r is =
-      let none : d ≡ 0 = omega (arith, at, least.1.1 (height - 1) passes) in
-      let low : 1 ≤ r = omega (arith, is) in
-      record {
-        some = low;
-        within = omega (arith, is);
-        height = omega (arith, at, none, enough r d least.0 (least.1.0 r low (omega (arith, is))));
-        greatest = λ v low high. omega (arith, at, enough v d least.0 (least.1.0 v low high));
-        first = λ v low high. absurd (omega (arith, is));
-      }
-  delay-found window some (Some d) least height at (Some w) fails r is =
-      elim (cases_lt d 1) [
-        | inl nothing ↦
-            let e : height - 1 ≡ d = omega (arith, at, nothing) in
-            absurd (fails.2 (subst (λ n. DelayAt cap floor n w) (sym e) (least.1.0 w fails.0 fails.1)))
-        | inr late ↦ record {
-          some = omega (arith, fails.0, is);
-          within = omega (arith, fails.1, is);
-          height = omega (arith, at, late, ap (needed cap floor) is, enough w d least.0 (least.1.0 w fails.0 fails.1), too-short w (height - 1) (omega (arith, at, least.0)) fails.2);
-          greatest = λ v low high. omega (arith, at, enough v d least.0 (least.1.0 v low high));
-          first = λ v low high. omega (arith, at, late, enough v (height - 1) (omega (arith, at, least.0)) (fails.3 v low (omega (arith, is))));
-        }
-      ]
+  pub enough : (w d : ℕ) → d ≤ LONGEST_WINDOW → DelayAt cap floor d w → needed cap floor w ≤ d
+  enough w d short passes = below-least (LONGEST_WINDOW + 1) (λ d. nat_le (cap w) (floor (w - 1 + d))) d (omega arith) (le-leb _ _ passes)

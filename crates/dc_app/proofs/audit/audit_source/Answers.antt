@@ -1,6 +1,6 @@
 use Rattle.std.proofs.Common.{refl}
 use Rattle.dc_app.proofs.Auditing.{certificate_kept, certified_order, claims_judged, unread_judged}
-use Rattle.dc_app.proofs.Checking.{both_raised}
+use Rattle.dc_answer.specs.lemmas.Reporting.{both_raised}
 use Rattle.dc_app.proofs.audit.audit_source.Goals as goal
 
 pub returns-in-Ok-clause-answer : goal.returns-in-Ok-clause-answer

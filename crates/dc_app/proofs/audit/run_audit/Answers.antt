@@ -1,6 +1,6 @@
-use Rattle.dc_app.specs.Answer.{Any}
-use Rattle.dc_app.specs.Audit.{AnswersAudit, AuditAnswers}
-use Rattle.dc_app.proofs.Auditing.{audit_none, audit_part, audit_reported, audit_whole, some_judged}
+use Rattle.dc_answer.specs.Answer.{Any}
+use Rattle.dc_answer.specs.lemmas.Judgments.{reported_any, some_judged, texts_reported}
+use Rattle.dc_app.specs.Audit.{AnswersAudit}
 use Rattle.dc_app.proofs.audit.run_audit.Goals as goal
 
 pub returns-clause-reported : goal.returns-clause-reported
@@ -9,8 +9,8 @@ returns-clause-reported g c =
     let said = c.say-ended.ensures in
     let report = c.report.ensures in
     let ends = rw c.as_slice.ensures.value at said.bytes in
-    audit_reported Any judged.new.text.items _ _ (λ whole. Any) (λ answer is. is) (λ answer is. is) (λ answer is. tt) judged.result c.say-ended.result _ _ _ _ _ _ _
-    (some_judged judged.new.text.items judged.result judged.ensures.sink) judged.ensures.source ends said.status said.same said.failure said.count report.rise report.status report.reports
+    reported_any _ _ _ _ _ _ _ _ (texts_reported Any judged.new.text.items _ _ _ judged.result c.say-ended.result _ _ _ _ _ _
+    (some_judged judged.new.text.items judged.result judged.ensures.sink) judged.ensures.source ends said.same said.failure said.count report.rise report.exit report.reports)
 
 pub returns-clause-reports : goal.returns-clause-reports
 returns-clause-reports g c = λ rows claims events e f h.
@@ -18,6 +18,5 @@ returns-clause-reports g c = λ rows claims events e f h.
     let said = c.say-ended.ensures in
     let report = c.report.ensures in
     let ends = rw c.as_slice.ensures.value at said.bytes in
-    audit_reported (AnswersAudit rows claims events) judged.new.text.items _ _ (AuditAnswers rows claims events) (audit_whole rows claims events) (audit_part rows claims events) (audit_none rows claims events)
-    judged.result c.say-ended.result _ _ _ _ _ _ _
-    (judged.ensures.answer rows claims events e f h) judged.ensures.source ends said.status said.same said.failure said.count report.rise report.status report.reports
+    texts_reported (AnswersAudit rows claims events) judged.new.text.items _ _ _ judged.result c.say-ended.result _ _ _ _ _ _
+    (judged.ensures.answer rows claims events e f h) judged.ensures.source ends said.same said.failure said.count report.rise report.exit report.reports

@@ -1,6 +1,7 @@
 use Rattle.std.proofs.Common.{refl}
-use Rattle.dc_app.proofs.Loading.{behind_kept, behind_read}
-use Rattle.dc_app.proofs.Checking.{both_judged, both_raised, refused_judged}
+use Rattle.dc_answer.specs.lemmas.Loading.{behind_kept, behind_read}
+use Rattle.dc_answer.specs.lemmas.Reporting.{both_raised}
+use Rattle.dc_app.proofs.Checking.{both_judged, refused_judged}
 use Rattle.dc_app.proofs.check.judge_sources.Goals as goal
 
 pub returns-in-Ok-clause-answer : goal.returns-in-Ok-clause-answer

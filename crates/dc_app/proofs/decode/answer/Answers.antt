@@ -3,7 +3,8 @@ use Rattle.dc_device.specs.Lines.{NoFeed}
 use Rattle.dc_device.specs.lemmas.LineLemmas.{NoFeed-append}
 use Rattle.dc_app.specs.Decode.{answer_text}
 use Rattle.dc_event.specs.WordText.{word_of}
-use Rattle.dc_app.proofs.Exits.{ask_asks, ask_ends, cut_ends, line_asks, long_ends, says_ends, says_filled, says_first, says_next, word_ends, write_ends}
+use Rattle.dc_answer.specs.lemmas.Endings.{ask_ends}
+use Rattle.dc_app.proofs.DecodeExits.{ask_asks, cut_ends, end_prompt, line_asks, long_ends, not_dry, says_ends, says_filled, says_first, says_next, word_ends, write_ends}
 use Rattle.dc_app.proofs.decode.answer.Goals as goal
 
 pub loop-reader-init : goal.loop-reader-init
@@ -50,7 +51,7 @@ pub returns-in-Some-Long-clause-answer : goal.returns-in-Some-Long-clause-answer
 returns-in-Some-Long-clause-answer g c =
     let reads = rw c.in-Some-Long.field-0-is at c.in-Some-Long.ensures in
     says_ends _ _ _ _ _ _ (g.K.Sink.contents c.end_at.new.sink) _ _ _ c.end_at.result c.loop-reader.invariant.said
-    (long_ends _ _ _ _ c.read_on.new.self _ _ _ _ _ _ c.loop-reader.invariant.plain reads c.end_at.ensures.bytes)
+    (long_ends _ _ _ _ c.read_on.new.self _ _ _ _ _ _ c.loop-reader.invariant.plain reads (rw c.code_of.ensures.text at c.end_at.ensures.bytes))
 
 pub returns-in_default-clause-answer : goal.returns-in_default-clause-answer
 returns-in_default-clause-answer g c =
@@ -58,7 +59,7 @@ returns-in_default-clause-answer g c =
     let short = rw c.as_slice-in-Some-Whole.ensures.value at c.as_slice-in-Some-Whole.ensures.fits in
     let none : word_of c.read_on.new.line.items ≡ None = cc (c.as_slice-in-Some-Whole.ensures.value, c.read_word.ensures, c.in_default.is) in
     says_ends _ _ _ _ _ _ (g.K.Sink.contents c.end_at-in_default.new.sink) _ _ _ c.end_at-in_default.result c.loop-reader.invariant.said
-    (word_ends _ _ _ _ _ _ _ _ _ _ _ c.loop-reader.invariant.plain reads short none c.end_at-in_default.ensures.bytes)
+    (word_ends _ _ _ _ _ _ _ _ _ _ _ c.loop-reader.invariant.plain reads short none (rw c.code_of-in_default.ensures.text at c.end_at-in_default.ensures.bytes))
 
 pub returns-in-Err-write_word-clause-answer : goal.returns-in-Err-write_word-clause-answer
 returns-in-Err-write_word-clause-answer g c =
@@ -87,3 +88,9 @@ loop-reader-preserved g c =
           line_asks front _ _ _ _ _ _ before.asks room;
       dry = before.dry;
     }
+
+pub returns-in-Ok-false-clause-prompt : goal.returns-in-Ok-false-clause-prompt
+returns-in-Ok-false-clause-prompt g c = λ dry failed.
+    let asks = rw c.in-Ok-false.field-0-test at c.in-Ok-false.ensures.bytes in
+    let short = rw c.as_slice.ensures.value at c.as_slice.ensures.fits in
+    end_prompt _ _ _ _ _ _ _ _ _ _ _ _ _ _ _ _ c.loop-reader.invariant.said c.loop-reader.invariant.plain c.in-None.ensures short asks c.in-Ok-false.ensures.answered c.end_inside.ensures.answered

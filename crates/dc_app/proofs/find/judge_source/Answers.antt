@@ -14,4 +14,4 @@ pub returns-in-Err-Refused-clause-answer : goal.returns-in-Err-Refused-clause-an
 returns-in-Err-Refused-clause-answer g c = λ rows e.
     let loads = rw c.in-Err-Refused.field-0-is at c.in-Err-Refused.ensures.tables in
     let kept = c.keep_unreadable.ensures in
-    unread_judged _ rows _ _ _ c.keep_unreadable.result e loads c.in-Err-Refused.fault-is kept.kept kept.status kept.memory
+    unread_judged _ rows _ _ _ c.keep_unreadable.result e loads c.in-Err-Refused.fault-is kept.kept kept.outcome kept.memory

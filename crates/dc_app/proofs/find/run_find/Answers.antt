@@ -1,21 +1,22 @@
-use Rattle.dc_app.specs.Answer.{Any, judged_answer}
-use Rattle.dc_app.proofs.Checking.{judged_reported}
-use Rattle.dc_app.proofs.Finding.{find_reports}
+use Rattle.dc_answer.specs.Answer.{Any}
+use Rattle.dc_answer.specs.lemmas.Judgments.{reported_any, some_judged, texts_reported}
+use Rattle.dc_app.specs.Find.{AnswersFind}
 use Rattle.dc_app.proofs.find.run_find.Goals as goal
 
 pub returns-clause-reported : goal.returns-clause-reported
 returns-clause-reported g c =
     let judged = c.judge_source-judged in
     let said = c.say-ended.ensures in
+    let report = c.report.ensures in
     let ends = rw c.as_slice.ensures.value at said.bytes in
-    let reported = c.report.ensures.reports (g.K.Sink.contents c.args.sink.now) (judged_answer judged.new.line.items judged.result) (g.K.Sink.failed c.args.sink.now) said.status said.count ends in
-    judged_reported judged.new.line.items _ _ _ _ _ _ _ Any judged.result c.say-ended.result _ tt judged.ensures.source said.count c.report.ensures.rise said.status said.failure c.report.ensures.status reported
+    reported_any _ _ _ _ _ _ _ _ (texts_reported Any judged.new.line.items _ _ _ judged.result c.say-ended.result _ _ _ _ _ _
+    (some_judged judged.new.line.items judged.result judged.ensures.sink) judged.ensures.source ends said.same said.failure said.count report.rise report.exit report.reports)
 
 pub returns-clause-reports : goal.returns-clause-reports
 returns-clause-reports g c = λ rows e.
     let judged = c.judge_source-judged in
     let said = c.say-ended.ensures in
-    let says = judged.ensures.answer rows e in
+    let report = c.report.ensures in
     let ends = rw c.as_slice.ensures.value at said.bytes in
-    let reported = c.report.ensures.reports (g.K.Sink.contents c.args.sink.now) (judged_answer judged.new.line.items judged.result) (g.K.Sink.failed c.args.sink.now) said.status said.count ends in
-    find_reports rows judged.new.line.items _ _ _ _ _ _ _ judged.result c.say-ended.result _ says judged.ensures.source said.count c.report.ensures.rise said.status said.same said.failure c.report.ensures.status reported
+    texts_reported (AnswersFind rows) judged.new.line.items _ _ _ judged.result c.say-ended.result _ _ _ _ _ _
+    (judged.ensures.answer rows e) judged.ensures.source ends said.same said.failure said.count report.rise report.exit report.reports

@@ -1,7 +1,8 @@
-use Rattle.std.proofs.Common.{◌∙◌, [], ap, arith, refl, sym}
+use Rattle.std.proofs.Common.{◌∙◌, ◌+◌, ◌≡◌, ◌≤◌, [], ap, arith, refl, sym}
 use Rattle.dc_event.specs.Reading.{Reading, dry_left, failures_at, pulls_left}
 use Rattle.dc_app.specs.Refusals.{refused, stop_end}
 use Rattle.dc_app.proofs.ReplayExits.{at_tick_0, cut_some, flush_ends, not_stopped, pulls_needed, pulls_reported, refused_ends, said_first, said_next, said_pulled, said_some, say_ends, step_count, step_early, stop_ends}
+use Rattle.dc_app.proofs.Shown.{pull_shown}
 use Rattle.dc_device.specs.lemmas.Known.{front_more}
 use Rattle.dc_app.proofs.replay.answer.Goals as goal
 
@@ -17,6 +18,7 @@ loop-writer-init g c =
       sink = refl;
       asks = omega (arith, ap (λ (r : Reading). pulls_left r.stopped r.room r.held) start);
       dry = omega (arith, ap (λ (r : Reading). dry_left r.stopped) start);
+      prompt = λ more. absurd (omega (arith, more));
     }
 
 pub returns-in-Err-clause-answer : goal.returns-in-Err-clause-answer
@@ -27,20 +29,24 @@ pub loop-writer-preserved-in-Ok : goal.loop-writer-preserved-in-Ok
 loop-writer-preserved-in-Ok g c =
     let before = c.loop-writer.invariant in
     let (ran, runs, none, fewer) = c.in-None.ensures.more in
+    let said = said_pulled _ _ _ _ _ _ _ _ _ (g.K.Sink.contents c.pull.new.sink) _ _ before.said (c.in-None.ensures.reported (g.S.Source.remaining c.loop-writer.trace)) c.pull.ensures.kept (rw c.pull.ensures.shows c.in-Ok.ensures.bytes) c.in-Ok.ensures.empty in
+    let source : g.S.Source.failed c.pull.new.source ≡ g.S.Source.failed c.args.trace.now + failures_at c.pull.new.self.stopped = omega (arith, before.source, c.pull.ensures.count, ap failures_at ran) in
+    let dry : g.S.Source.dry c.pull.new.source + dry_left c.pull.new.self.stopped ≤ g.S.Source.dry c.args.trace.now + 1 = omega (arith, before.dry, c.pull.ensures.asks.1, ap dry_left (runs ∙ sym ran)) in
     record {
-      said = said_pulled _ _ _ _ _ _ _ _ _ _ _ _ before.said (c.in-None.ensures.reported (g.S.Source.remaining c.loop-writer.trace)) c.pull.ensures.kept c.in-Ok.ensures.bytes c.in-Ok.ensures.empty;
+      said = said;
       rows = before.rows;
       early = before.early;
       within = omega (arith, before.within, c.pull.ensures.room, fewer);
-      source = omega (arith, before.source, c.pull.ensures.count, ap failures_at ran);
-      sink = omega (arith, before.sink, c.in-Ok.ensures.count);
+      source = source;
+      sink = omega (arith, before.sink, c.in-Ok.ensures.count, c.pull.ensures.sink);
       asks = omega (
         arith,
         before.asks,
         c.pull.ensures.asks.0,
         pulls_needed c.loop-writer.lines.stopped c.advance.new.self.stopped c.loop-writer.lines.held c.advance.new.self.held c.loop-writer.lines.room c.advance.new.self.room ran runs none fewer,
       );
-      dry = omega (arith, before.dry, c.pull.ensures.asks.1, ap dry_left (runs ∙ sym ran));
+      dry = dry;
+      prompt = pull_shown _ _ _ c.pull.new.self c.pull.new.self.stopped _ _ _ (g.K.Sink.contents c.pull.new.sink) _ _ _ _ _ _ _ _ refl said c.in-Ok.ensures.empty c.pull.ensures.end (rw (← c.pull.ensures.shows) at c.pull.ensures.answered) dry source;
     }
 
 pub returns-in-Some-Err-clause-answer : goal.returns-in-Some-Err-clause-answer
@@ -81,6 +87,7 @@ loop-writer-preserved g c =
         pulls_reported c.loop-writer.lines.stopped c.advance.new.self.stopped c.loop-writer.lines.held c.advance.new.self.held c.loop-writer.lines.room c.advance.new.self.room ran runs shorter,
       );
       dry = omega (arith, before.dry, ap dry_left (runs ∙ sym ran));
+      prompt = rw c.in-Ok-say.ensures.answered before.prompt;
     }
 
 pub returns-in-Err-clause-some : goal.returns-in-Err-clause-some

@@ -1,7 +1,7 @@
 use Rattle.std.proofs.Common.{◌≡◌, rules}
-use Rattle.dc_app.specs.Answer.{nothing}
-use Rattle.dc_app.specs.declared.answer.Failure.TheVariants.{Memory}
-use Rattle.dc_app.proofs.Exits.{none_ends}
+use Rattle.dc_answer.specs.Answer.{nothing}
+use Rattle.dc_answer.specs.declared.answer.Failure.TheVariants.{Memory}
+use Rattle.dc_answer.specs.lemmas.Endings.{none_ends}
 use Rattle.dc_app.proofs.ReplayExits.{none_written}
 use Rattle.dc_app.proofs.StepLemmas.{stands_first}
 use Rattle.dc_app.proofs.replay.answer_on.Goals as goal
@@ -31,3 +31,8 @@ pub returns-clause-answer : goal.returns-clause-answer
 returns-clause-answer g c =
     let e : c.deref.result.now ≡ c.args.tables = search rules in
     rw e at c.answer.ensures.answer
+
+pub returns-clause-prompt : goal.returns-clause-prompt
+returns-clause-prompt g c =
+    let e : c.deref.result.now ≡ c.args.tables = search rules in
+    rw e at c.answer.ensures.prompt

@@ -1,9 +1,9 @@
 use Rattle.std.proofs.Common.{refl}
-use Rattle.dc_app.specs.Answer.{nothing}
-use Rattle.dc_app.specs.Refusals.{tables_end}
-use Rattle.dc_app.proofs.Exits.{none_ends}
-use Rattle.dc_app.proofs.Loading.{behind_kept, behind_read}
-use Rattle.dc_app.proofs.ReplayReports.{failed_replays, read_replays, refused_replays, refused_some}
+use Rattle.dc_answer.specs.Answer.{nothing}
+use Rattle.dc_answer.specs.Inputs.{tables_end}
+use Rattle.dc_answer.specs.lemmas.Endings.{none_ends}
+use Rattle.dc_answer.specs.lemmas.Loading.{behind_kept, behind_read}
+use Rattle.dc_app.proofs.ReplayReports.{failed_replays, read_prompt, read_replays, refused_replays, refused_some}
 use Rattle.dc_app.proofs.replay.replay.Goals as goal
 
 pub returns-clause-answer : goal.returns-clause-answer
@@ -34,3 +34,6 @@ returns-in-Err-Refused-clause-some g c =
 
 pub returns-in-Err-Failed-clause-some : goal.returns-in-Err-Failed-clause-some
 returns-in-Err-Failed-clause-some g c = (nothing, none_ends _ _)
+
+pub returns-clause-prompt : goal.returns-clause-prompt
+returns-clause-prompt g c = λ more same. read_prompt _ _ _ _ _ _ c.in-Ok.ensures.tables (c.answer_on.ensures.prompt more same)

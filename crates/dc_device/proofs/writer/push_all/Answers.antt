@@ -9,4 +9,5 @@ loop-rest-preserved g c =
       written =
           rw c.split_at.ensures.back (push_more _ _ _ front _ _ c.in_ok-n.n whole before c.in_ok-n.ensures.bytes.0);
       failed = search rules;
+      answered = search rules;
     }

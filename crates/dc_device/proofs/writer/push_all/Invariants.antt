@@ -7,6 +7,7 @@ invariant-loop-rest g l =
     record {
       written : (front : List ℕ) × (front ++ l.rest ≡ l.bytes) × Appends (g.K.Sink.contents l.fn.sink) (g.K.Sink.contents l.sink) front;
       failed : g.K.Sink.failed l.sink ≡ g.K.Sink.failed l.fn.sink;
+      answered : g.K.Sink.answered l.sink ≡ g.K.Sink.answered l.fn.sink;
     }
 
 abbrev pub decreases-loop-rest : goal.decreases-loop-rest

@@ -1,7 +1,7 @@
 use Rattle.std.proofs.Common.{refl, sym, subst}
 use Rattle.std.specs.Option.{IsSome}
 use Rattle.dc_busy.specs.BusyWindow.{DelayBounded}
-use Rattle.dc_busy.specs.Least.{IsLeastUpTo100000}
+use Rattle.dc_busy.specs.Least.{IsLeastUpToLongest}
 use Rattle.dc_busy.specs.lemmas.Least.{closing-has_delay}
 use Rattle.dc_find.proofs.Numbers.{least-times}
 use Rattle.dc_find.proofs.queues.least_times.Goals as goal
@@ -16,4 +16,4 @@ unwrap-delay-requires g c =
 pub returns : goal.returns
 returns g c =
     least-times (g.A.ArrivalBound.cap c.args.arrivals.now) (g.S.ServiceBound.floor c.args.service.now) c.in-Some.window c.unwrap-delay.result c.in-Some.ensures
-    (subst (IsLeastUpTo100000 (DelayBounded (g.A.ArrivalBound.cap c.args.arrivals.now) (g.S.ServiceBound.floor c.args.service.now) c.in-Some.window)) c.unwrap-delay.ensures c.least_delay.ensures.exact)
+    (subst (IsLeastUpToLongest (DelayBounded (g.A.ArrivalBound.cap c.args.arrivals.now) (g.S.ServiceBound.floor c.args.service.now) c.in-Some.window)) c.unwrap-delay.ensures c.least_delay.ensures.exact)

@@ -5,16 +5,16 @@ use Rattle.dc_bound.proofs.cyclic.CyclicArrivalBound.at_most_and_jump.Goals as g
 pub least_span-span-requires-clause-near : goal.least_span-span-requires-clause-near
 least_span-span-requires-clause-near c = omega (arith, c.at_most-count.ensures, cyclic_le c.args.self.now.frame c.args.self.now.offsets.now c.args.self.now.framed c.args.d)
 
-pub returns-then-span-lt1000000-clause-jump : goal.returns-then-span-lt1000000-clause-jump
-returns-then-span-lt1000000-clause-jump c =
+pub returns-then-span-clause-jump : goal.returns-then-span-clause-jump
+returns-then-span-clause-jump c =
     let P : ℕ → Type 0 = λ k. (e : ℕ) → HasSpan c.args.self.now.frame c.args.self.now.offsets.now k e ↔ (c.least_span-span.result < e) in
     let spans = span_least c.args.self.now.frame c.args.self.now.offsets.now c.args.self.now.framed c.at_most-count.result c.least_span-span.result c.least_span-span.ensures in
     let flat = cap_flat c.args.self.now.frame c.args.self.now.offsets.now c.args.self.now.framed c.args.d c.least_span-span.result (subst P c.at_most-count.ensures spans) in
-    (omega (arith, flat.0), omega (arith, c.if-span-lt1000000.true), (λ k a b. flat.1 k a (omega arith)), flat.2)
+    (omega (arith, flat.0), omega (arith, c.if-span.true), (λ k a b. flat.1 k a (omega arith)), flat.2)
 
-pub returns-else-span-lt1000000-clause-jump : goal.returns-else-span-lt1000000-clause-jump
-returns-else-span-lt1000000-clause-jump c =
+pub returns-else-span-clause-jump : goal.returns-else-span-clause-jump
+returns-else-span-clause-jump c =
     let P : ℕ → Type 0 = λ k. (e : ℕ) → HasSpan c.args.self.now.frame c.args.self.now.offsets.now k e ↔ (c.least_span-span.result < e) in
     let spans = span_least c.args.self.now.frame c.args.self.now.offsets.now c.args.self.now.framed c.at_most-count.result c.least_span-span.result c.least_span-span.ensures in
     let flat = cap_flat c.args.self.now.frame c.args.self.now.offsets.now c.args.self.now.framed c.args.d c.least_span-span.result (subst P c.at_most-count.ensures spans) in
-    λ k a b. flat.1 k a (omega (arith, c.if-span-lt1000000.false))
+    λ k a b. flat.1 k a (omega (arith, c.if-span.false))

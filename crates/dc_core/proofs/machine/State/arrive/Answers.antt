@@ -16,8 +16,8 @@ unfolding reply
 returns-then-not-is_odd-clause-step c = λ run h.
     let even : is_odd c.args.word ≡ false = sym c.is_odd.ensures.test ∙ c.if-not-is_odd.true in
     let s = standing-nothing _ _ _ _ _ _ run _ (arrive_even _ run c.args.bus c.args.word even) h.0 in
-    let p = paces-other c.args.tables.now c.args.self.now.paces.items run (Arrive c.args.bus c.args.word) (even-none c.args.tables.now run c.args.bus c.args.word even) h.1 in
-    (may-follow _ _ run (Arrive c.args.bus c.args.word) (omega (arith, c.if-bus-len.false, c.len.ensures, c.requires.sized.queues)) refl h.0.clock c.requires.sized.early s.kept, (s, p), rw even refl)
+    let p = paces-other c.args.tables.now c.args.self.now.paces.items run (Arrive c.args.word c.args.bus) (even-none c.args.tables.now run c.args.bus c.args.word even) h.1 in
+    (may-follow _ _ run (Arrive c.args.word c.args.bus) (omega (arith, c.if-bus-len.false, c.len.ensures, c.requires.sized.queues)) refl h.0.clock c.requires.sized.early s.kept, (s, p), rw even refl)
 
 pub returns-in_default-clause-step : goal.returns-in_default-clause-step
 unfolding reply
@@ -25,8 +25,8 @@ returns-in_default-clause-step c = λ run h.
     let odd : is_odd c.args.word ≡ true = sym c.is_odd.ensures.test ∙ c.if-not-is_odd.false in
     let none : stream_of c.args.tables.now c.args.bus c.args.word ≡ None = sym c.stream_of.ensures.stream ∙ c.in_default.is in
     let s = standing-nothing _ _ _ _ _ _ run _ (arrive_undeclared _ run c.args.bus c.args.word none) h.0 in
-    let p = paces-other c.args.tables.now c.args.self.now.paces.items run (Arrive c.args.bus c.args.word) (undeclared-none c.args.tables.now run c.args.bus c.args.word none) h.1 in
-    (may-follow _ _ run (Arrive c.args.bus c.args.word) (omega (arith, c.if-bus-len.false, c.len.ensures, c.requires.sized.queues)) refl h.0.clock c.requires.sized.early s.kept, (s, p), rw (odd, none) refl)
+    let p = paces-other c.args.tables.now c.args.self.now.paces.items run (Arrive c.args.word c.args.bus) (undeclared-none c.args.tables.now run c.args.bus c.args.word none) h.1 in
+    (may-follow _ _ run (Arrive c.args.word c.args.bus) (omega (arith, c.if-bus-len.false, c.len.ensures, c.requires.sized.queues)) refl h.0.clock c.requires.sized.early s.kept, (s, p), rw (odd, none) refl)
 
 pub returns-then-refuses-clause-step : goal.returns-then-refuses-clause-step
 unfolding reply
@@ -36,9 +36,9 @@ returns-then-refuses-clause-step c = λ run h.
     let early : refuses c.args.tables.now c.args.bus run (Some c.in-Some.stream) ≡ true =
     sym (refuses-is c.args.tables.now c.valid.ensures c.args.self.now.paces.items run c.args.self.now.tick c.args.bus c.args.word c.in-Some.stream h.0.clock odd some h.1) ∙ sym c.refuses.ensures.test ∙ c.if-refuses.true in
     let s = standing-nothing _ _ _ _ _ _ run _ (arrive_refused _ run c.args.bus c.args.word c.in-Some.stream some early) h.0 in
-    let p = paces-other c.args.tables.now c.args.self.now.paces.items run (Arrive c.args.bus c.args.word) (refused-none c.args.tables.now run c.args.bus c.args.word c.in-Some.stream odd some early) h.1 in (
-      may-follow _ _ run (Arrive c.args.bus c.args.word) (omega (arith, c.if-bus-len.false, c.len.ensures, c.requires.sized.queues)) refl h.0.clock c.requires.sized.early s.kept,
-      (s, paces-kept c.args.tables.now c.args.self.now.paces.items c.refuses.new.paces.items (run ++ Arrive c.args.bus c.args.word ∷ []) (c.refuses.ensures.refused c.if-refuses.true) p),
+    let p = paces-other c.args.tables.now c.args.self.now.paces.items run (Arrive c.args.word c.args.bus) (refused-none c.args.tables.now run c.args.bus c.args.word c.in-Some.stream odd some early) h.1 in (
+      may-follow _ _ run (Arrive c.args.word c.args.bus) (omega (arith, c.if-bus-len.false, c.len.ensures, c.requires.sized.queues)) refl h.0.clock c.requires.sized.early s.kept,
+      (s, paces-kept c.args.tables.now c.args.self.now.paces.items c.refuses.new.paces.items (run ++ Arrive c.args.word c.args.bus ∷ []) (c.refuses.ensures.refused c.if-refuses.true) p),
       rw (odd, some, early) refl,
     )
 
@@ -57,7 +57,7 @@ returns-clause-step c = λ run h.
     let ch = changes_both c.args.self.now.queues.items c.args.self.now.latched.items c.args.bus c.receive.new.queue c.receive.new.latched queue_there latch_there in
     let s = standing-arrive _ _ _ _ _ _ _ run c.args.bus c.args.word c.in-Some.stream c.receive.result _ lt ch odd some free d h.0 in
     let p = paces-arrive c.args.tables.now c.valid.ensures c.args.self.now.paces.items run c.args.self.now.tick c.args.bus c.args.word c.in-Some.stream h.0.clock odd some h.1 c.requires.sized.paces free in (
-      may-follow _ _ run (Arrive c.args.bus c.args.word) lt refl h.0.clock c.requires.sized.early s.0.kept,
-      (s.0, paces-kept c.args.tables.now _ c.refuses.new.paces.items (run ++ Arrive c.args.bus c.args.word ∷ []) (c.refuses.ensures.let_in c.if-refuses.false) p),
+      may-follow _ _ run (Arrive c.args.word c.args.bus) lt refl h.0.clock c.requires.sized.early s.0.kept,
+      (s.0, paces-kept c.args.tables.now _ c.refuses.new.paces.items (run ++ Arrive c.args.word c.args.bus ∷ []) (c.refuses.ensures.let_in c.if-refuses.false) p),
       s.1,
     )

@@ -1,4 +1,4 @@
-use Rattle.dc_event.proofs.TraceSteps.{end_kept}
+use Rattle.dc_event.proofs.TraceSteps.{end_kept, end_stops}
 use Rattle.dc_event.proofs.trace_lines.TraceLines.pull.Goals as goal
 
 pub returns-in-Ok-false-clause-kept : goal.returns-in-Ok-false-clause-kept
@@ -8,3 +8,8 @@ returns-in-Ok-false-clause-kept g c =
     let stop = rw c.as_slice.ensures.value at c.end_inside.ensures in
     end_kept c.args.self.now c.self.inside.tables.now c.self.inside.line.items c.self.inside.reader c.fill.new.self c.self.inside.number c.self.inside.stopped c.end_inside.result _ _
     c.self.view_is c.requires.runs stop c.self.invariant short c.requires.read fills.0 fills.1
+
+pub returns-in-Ok-false-clause-end : goal.returns-in-Ok-false-clause-end
+returns-in-Ok-false-clause-end g c =
+    let stop = rw c.as_slice.ensures.value at c.end_inside.ensures in
+    end_stops c.args.self.now c.self.inside.tables.now c.self.inside.line.items c.self.inside.reader c.self.inside.number c.self.inside.stopped c.end_inside.result c.self.view_is stop

@@ -12,7 +12,7 @@ returns-then-bus-len-clause-follows c = λ run h clock l is. absurd (omega (arit
 
 pub returns-in_default-clause-follows : goal.returns-in_default-clause-follows
 returns-in_default-clause-follows c = λ run h clock l is.
-    follows-still c.args.tables.now c.queues_grow.ensures run (Arrive c.args.bus c.args.word) c.args.self.now (c.in_default.ensures.arrives run l is) (λ a. still-arrive c.args.tables.now run c.args.bus c.args.word a) h
+    follows-still c.args.tables.now c.queues_grow.ensures run (Arrive c.args.word c.args.bus) c.args.self.now (c.in_default.ensures.arrives run l is) (λ a. still-arrive c.args.tables.now run c.args.bus c.args.word a) h
 
 pub returns-clause-follows : goal.returns-clause-follows
 returns-clause-follows c = λ run h clock l is.

@@ -61,7 +61,7 @@ returns-clause-reply c = λ run h l.
       visit = subst P read (λ ms g. c.take-taken.ensures.visit (room c.args.tables.now c.visit-bus.result.0) ms g);
     } in
     let latests : c.note.new.latest.items ≡ set c.args.self.now.latest.items c.in-Some.stream (Some ((c.in-Some.stream, c.in-Some.word), c.args.self.now.tick)) = search rules in
-    let reported : Replies c.args.tables.now new run (Route c.args.router) (Took c.visit-bus.result.0 c.in-Some.word) =
+    let reported : Replies c.args.tables.now new run (Route c.args.router) (Took c.in-Some.word c.visit-bus.result.0) =
     replies-took c.args.tables.now c.args.self.now new run c.args.router c.visit-bus.result.0 c.take-taken.new.self v h (c.in-Some.stream, c.in-Some.word) (subst Q read c.in-Some.ensures.item.0)
     (c.in-Some.ensures.item.1 ∙ ap (λ (d : BusData). get_or d.words d.taken (0, 0)) read) c.requires.sized.streams latests in
     search rules

@@ -1,0 +1,3 @@
+-- What `margins` writes: the lines of margins, and its answer.
+pub mod Lines
+pub mod Margins

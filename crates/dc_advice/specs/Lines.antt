@@ -1,0 +1,59 @@
+-- The printed line of a margin: six fields parted by spaces, which stand in columns where the names and numbers are not too long.
+use Rattle.std.specs.Prelude.{ℕ, ℤ, Option, Some, None, List, [], ◌∷◌, ◌++◌, drop, length, codes, decimal}
+use Rattle.std.specs.Fmt.{signed_decimal}
+use Rattle.dc_check.specs.FaultText.{condition_code}
+use Rattle.dc_check.specs.declared.fault.CertificateList.{CertificateList}
+use Rattle.dc_check.specs.declared.fault.CertificateList.TheVariants.{Inputs, Outputs, Labels}
+use Rattle.dc_event.specs.ReplyText.{name_at}
+use Rattle.dc_margin.specs.Lines.{measure_of}
+use Rattle.dc_margin.specs.declared.lines.MarginLine.{MarginLine}
+use Rattle.dc_margin.specs.declared.lines.Measure.{Measure}
+use Rattle.dc_margin.specs.declared.lines.Measure.TheVariants.{Words, Ticks}
+use Rattle.dc_margin.specs.declared.margin.Decider.{Decider}
+use Rattle.dc_margin.specs.declared.margin.Decider.TheVariants.{Numbers, Window, Gap, Source}
+use Rattle.dc_margin.specs.declared.margin.Margin.{Margin}
+use Rattle.dc_print.specs.Verdicts.{member_name}
+use Rattle.dc_tables.specs.TableRows.{TableRows}
+
+-- a part, in seven places
+abbrev pub part_text : CertificateList → List ℕ
+part_text Inputs = codes "input  "
+part_text Outputs = codes "output "
+part_text Labels = codes "label  "
+
+-- blanks after a name up to sixteen places; before a number up to seven
+abbrev pub name_field : List ℕ → List ℕ
+name_field name = name ++ drop (length name) (codes "                ")
+
+abbrev pub number_field : List ℕ → List ℕ
+number_field number = drop (length number) (codes "       ") ++ number
+
+-- the number of a margin: `-` where it is not told, `none` where no delay up to 100,000 passes
+abbrev pub room_text : Option ℤ → List ℕ
+room_text None = codes "none"
+room_text (Some slack) = signed_decimal slack
+
+abbrev pub slack_text : Option Margin → List ℕ
+slack_text None = codes "-"
+slack_text (Some margin) = room_text margin.slack
+
+abbrev pub measure_text : Measure → List ℕ
+measure_text Words = codes "words"
+measure_text Ticks = codes "ticks"
+
+-- what decides it, as `window=3`, `gap=15` or `source=A-203`; `-` for the numbers alone
+abbrev pub decider_text : TableRows → Decider → List ℕ
+decider_text t Numbers = codes "-"
+decider_text t (Window w) = codes "window=" ++ decimal w
+decider_text t (Gap g) = codes "gap=" ++ decimal g
+decider_text t (Source s) = codes "source=" ++ name_at t.keys.streams s
+
+abbrev pub by_text : TableRows → Option Margin → List ℕ
+by_text t None = codes "-"
+by_text t (Some margin) = decider_text t margin.decider
+
+-- as `input  A                C04       0 words window=1`
+unfoldable pub margin_text : TableRows → MarginLine → List ℕ
+margin_text t line =
+    part_text line.part ++ name_field (member_name t line.part line.index) ++ codes " " ++ condition_code line.condition ++ codes " " ++ number_field (slack_text line.margin)
+    ++ codes " " ++ measure_text (measure_of line.condition) ++ codes " " ++ by_text t line.margin

@@ -1,0 +1,72 @@
+//! `margins` without a certificate: the least one is taken.
+
+ghost use Rattle.std.specs.Prelude.{◌≡◌, ◌≢◌, ℕ, List, ◌+◌, ◌^◌, ◌<◌, IfErr, IfOk, Some};
+ghost use Rattle.dc_answer.specs.Answer.{Any, LeavesSink, Raises, Reported};
+ghost use Rattle.dc_answer.specs.Judging.{Judged};
+ghost use Rattle.dc_device.specs.Device.{AsksUpTo};
+ghost use Rattle.dc_toml.specs.declared.read.TheConstants.{TEXT_LIMIT};
+ghost use Rattle.dc_advice.specs.Margins.{AnswersRows, AnswersTablesAlone, ReportsLeast};
+
+use crate::margins::judge;
+use dc_answer::{Exit, Failure, Outcome, Unloaded, load, report, say};
+use dc_app::{keep_obstacle, keep_unreadable};
+use dc_device::{LineWriter, Sink, Source};
+use dc_find::find;
+use dc_tables::Tables;
+use std::alloc::Global;
+
+// Finds the least certificate for tables, and keeps its verdict and the lines of its margins.
+fn judge_least(alloc: Global, tables: &Tables, text: &mut Vec<u8>) -> Result<Outcome, Failure>
+    ensures answer { Judged (AnswersRows tables.now) text.new.items result }
+    ensures memory { IfErr result (λ e. e ≡ Failure.Memory) }
+{
+    match find(alloc, tables) {
+        Ok(certificate) => judge(alloc, tables, &certificate, text),
+        Err(fault) => keep_obstacle(tables, fault, text),
+    }
+}
+
+// Judges the least certificate for the tables that a source gives.
+fn judge_alone<T: Source>(
+    alloc: Global,
+    tables: &mut T,
+    text: &mut Vec<u8>,
+) -> Result<Outcome, Failure>
+    requires { T.failed tables.old + 1 < 2 ^ 64 }
+    ensures answer { (rows : List ℕ) → T.remaining tables.old ≡ Some rows → Judged (AnswersTablesAlone rows) text.new.items result }
+    ensures source { Raises (T.failed tables.old) (T.failed tables.new) result }
+    ensures asks { AsksUpTo TEXT_LIMIT (T.asked tables.old) (T.asked tables.new) (T.dry tables.old) (T.dry tables.new) }
+    ensures sink { IfErr result (λ e. e ≢ Failure.Sink) }
+{
+    match load(alloc, tables) {
+        Ok(tables) => judge_least(alloc, &tables, text),
+        Err(Unloaded::Refused(fault)) => keep_unreadable(fault, text),
+        Err(Unloaded::Failed(failure)) => Err(failure),
+    }
+}
+
+/// Writes what `run_margins` writes of the least certificate for tables, which are read whole from their source, onto a
+/// sink; where none is accepted, one line that says what stands first in the way of every certificate.
+///
+/// It ends `Done` where a certificate was found, `Refused` where none is accepted, `Unreadable` where the tables can't
+/// be read; `Failed` where a device failed or memory was refused: then `failed device` or `failed memory` was written,
+/// and nothing else. A push or flush that failed is the last call of the sink, and at most one pull of the source gives
+/// no byte.
+pub fn run_margins_least<T: Source, K: Sink>(alloc: Global, tables: &mut T, sink: &mut K) -> Exit
+    requires tables { T.failed tables.old + 1 < 2 ^ 64 }
+    requires sink { K.failed sink.old + 1 < 2 ^ 64 }
+    ensures reports { (rows : List ℕ) → T.remaining tables.old ≡ Some rows
+        → ReportsLeast rows (K.contents sink.old) (K.contents sink.new) (T.failed tables.old) (T.failed tables.new)
+        (K.failed sink.old) (K.failed sink.new) result }
+    ensures reported { Reported Any (K.contents sink.old) (K.contents sink.new) (T.failed tables.old) (T.failed tables.new)
+        (K.failed sink.old) (K.failed sink.new) result }
+    ensures asks { AsksUpTo TEXT_LIMIT (T.asked tables.old) (T.asked tables.new) (T.dry tables.old) (T.dry tables.new) }
+    ensures left { LeavesSink (K.failed sink.old) (K.failed sink.new) (K.last_failed sink.new) (K.hidden sink.new) }
+    ensures quiet { result ≢ Exit.Failed → T.failed tables.new + K.failed sink.new ≡ T.failed tables.old + K.failed sink.old }
+{
+    let mut text = Vec::new(alloc);
+    let judged = judge_alone(alloc, tables, &mut text);
+    let mut writer = LineWriter::new();
+    let ended = say(judged, text.as_slice(), &mut writer, sink);
+    report(ended, &mut writer, sink)
+}

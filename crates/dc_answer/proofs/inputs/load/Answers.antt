@@ -1,0 +1,10 @@
+use Rattle.dc_toml.specs.Reading.{tables_of}
+use Rattle.dc_answer.specs.Inputs.{Loads}
+use Rattle.dc_answer.specs.lemmas.Loading.{read_text, refused_loads}
+use Rattle.dc_answer.proofs.inputs.load.Goals as goal
+
+pub returns-in-Err-clause-tables : goal.returns-in-Err-clause-tables
+returns-in-Err-clause-tables g c = refused_loads _ _ c.in-Err.ensures.text
+
+pub returns-in-Ok-clause-tables : goal.returns-in-Ok-clause-tables
+returns-in-Ok-clause-tables g c = read_text _ _ _ (λ text. Loads (tables_of text) c.build.result) c.as_slice.ensures.value c.in-Ok.ensures.text c.build.ensures.tables

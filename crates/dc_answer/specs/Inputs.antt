@@ -1,0 +1,65 @@
+-- Tables and certificates from a source.
+use Rattle.std.specs.Prelude.{◌≡◌, ◌⊎◌, ℕ, ◌<◌, List, length, Result, Ok, Err}
+use Rattle.std.specs.Global.{Vec}
+use Rattle.dc_cert.specs.NamedRows.{NamedRows, named_rows}
+use Rattle.dc_cert.specs.Reading.{Reading as CertificateReading}
+use Rattle.dc_cert.specs.declared.certificate.Certificate.{Certificate}
+use Rattle.dc_cert.specs.declared.fault.CertRule.TheVariants.{NotJson}
+use Rattle.dc_cert.specs.declared.fault.Fault.{Fault}
+use Rattle.dc_cert.specs.declared.fault.TextPlace.TheVariants.{Top as TopPlace}
+use Rattle.dc_parts.specs.FaultText.{table_fault_text}
+use Rattle.dc_parts.specs.declared.fault.BuildError.TheVariants.{Refused as RefusedTables}
+use Rattle.dc_parts.specs.declared.fault.TableRule.TheVariants.{NotToml}
+use Rattle.dc_parts.specs.declared.fault.Section.TheVariants.{Top}
+use Rattle.dc_parts.specs.declared.fault.TableFault.{TableFault}
+use Rattle.dc_tables.specs.TableRows.{TableRows}
+use Rattle.dc_toml.specs.Faults.{Reading}
+use Rattle.dc_toml.specs.Reported.{AreTablesOf, TellsTables}
+use Rattle.dc_toml.specs.Written.{Written}
+use Rattle.dc_toml.specs.declared.read.TheConstants.{TEXT_LIMIT}
+use Rattle.dc_answer.specs.Answer.{Answer, unreadable}
+use Rattle.dc_answer.specs.declared.answer.Failure.TheVariants.{Source, Sink, Memory}
+use Rattle.dc_answer.specs.declared.inputs.Unloaded.{Unloaded}
+use Rattle.dc_answer.specs.declared.inputs.Unloaded.TheVariants.{Refused, Failed}
+
+-- the fault of a text that is too long, not UTF-8 or no TOML document
+abbrev pub no_document : TableFault
+no_document = record { rule = NotToml; section = Top; index = 0 }
+
+-- the fault of a text that is too long, not UTF-8 or no JSON document
+abbrev pub no_json : Fault
+no_json = record { rule = NotJson; place = TopPlace }
+
+-- the whole text, or this fault where it is longer than a text may be; something else may fail with any text
+abbrev pub ReadsText : {F : Type 0} → F → List ℕ → Result (Vec ℕ) (Unloaded F) → Type 0
+ReadsText too_long text (Ok bytes) = bytes.items ≡ text
+ReadsText too_long text (Err (Refused fault)) = (TEXT_LIMIT < length text) × (fault ≡ too_long)
+ReadsText too_long text (Err (Failed failure)) = Unit {0}
+
+-- the tables of a text that reads so, or its first fault; something else may fail with any text
+abbrev pub Loads : Reading Written → Result TableRows (Unloaded TableFault) → Type 0
+Loads reading (Ok rows) = TellsTables reading (Ok rows)
+Loads reading (Err (Refused fault)) = TellsTables reading (Err (RefusedTables fault))
+Loads reading (Err (Failed failure)) = Unit {0}
+
+-- the answer to the first fault of the tables
+abbrev pub tables_end : TableFault → Answer
+tables_end f = unreadable (table_fault_text f)
+
+-- the certificate of a text that reads so, or its first fault; something else may fail with any text
+abbrev pub LoadsCertificate : CertificateReading NamedRows → Result Certificate (Unloaded Fault) → Type 0
+LoadsCertificate reading (Ok certificate) = reading ≡ Ok (named_rows certificate)
+LoadsCertificate reading (Err (Refused fault)) = reading ≡ Err fault
+LoadsCertificate reading (Err (Failed failure)) = Unit {0}
+
+-- how many failures of the source a result counts
+abbrev pub failed_in : {T F : Type 0} → Result T (Unloaded F) → ℕ
+failed_in (Ok x) = 0
+failed_in (Err (Refused fault)) = 0
+failed_in (Err (Failed Source)) = 1
+failed_in (Err (Failed Sink)) = 0
+failed_in (Err (Failed Memory)) = 0
+
+-- what comes after the tables is asked for only where their text, that reads so, is that of tables; else it is untouched
+abbrev pub OnlyBehind : Reading Written → Type 0 → Type 0
+OnlyBehind reading untouched = ((rows : TableRows) × AreTablesOf reading rows) ⊎ untouched

@@ -1,0 +1,197 @@
+//! What the engines that start threads do alike: a certificate is judged for tables that threads share.
+ghost use Rattle.std.specs.Prelude.{◌≡◌, ◌≢◌, ◌⊎◌, ℕ, List, [], ◌+◌, ◌^◌, ◌<◌, IfErr, IfOk, IfSome, MatchResult, Some};
+ghost use Rattle.std.specs.Thread.{IsSync};
+ghost use Rattle.std.specs.Arc.{arc_value};
+ghost use Rattle.dc_answer.specs.Answer.{Answer, Any, LeavesSink, Raises, Reported, WholeOrNone};
+ghost use Rattle.dc_answer.specs.Exits.{is_answered};
+ghost use Rattle.dc_answer.specs.Inputs.{OnlyBehind};
+ghost use Rattle.dc_answer.specs.Judging.{Judged};
+ghost use Rattle.dc_app.specs.Texts.{AnswersClaims, AnswersTexts};
+ghost use Rattle.dc_app.specs.Threads.{ReportsThreads};
+ghost use Rattle.dc_cert.specs.NamedRows.{NamedRows, named_rows};
+ghost use Rattle.dc_cert.specs.Reading.{certificate_of};
+ghost use Rattle.dc_device.specs.Device.{AsksUpTo};
+ghost use Rattle.dc_tables.specs.TableRows.{TableRows};
+ghost use Rattle.dc_toml.specs.Reading.{tables_of};
+ghost use Rattle.dc_toml.specs.declared.read.TheConstants.{TEXT_LIMIT};
+
+use dc_answer::{Exit, Failure, Outcome, Unloaded, end_with, load, load_certificate, report, say};
+use dc_cert::Certificate;
+use dc_device::{LineWriter, Sink, Source};
+use dc_print::{Text, print_cert_fault, print_table_fault};
+use dc_tables::Tables;
+use std::alloc::Global;
+use std::marker::Sync;
+use std::sync::{Arc, Wait};
+use std::thread::Threads;
+
+/// A thread could not be started.
+#[derive(Clone, Copy, Debug, PartialEq, Eq)]
+pub struct NoThread;
+
+/// What judges a certificate for tables that threads share.
+pub trait Judge {
+    // that it may be asked to
+    ghost may_judge: { Self → Type 0 };
+
+    // what it answers to a certificate, for tables
+    ghost answers: { Self → TableRows → NamedRows → Answer → Type 0 };
+
+    /// Judges a certificate, and prints the answer.
+    ///
+    /// # Errors
+    /// `NoThread` where a thread could not be started; within, `Memory` where memory was refused.
+    fn judge<R: Threads + Wait + Sync>(
+        &self,
+        rt: &R,
+        alloc: Global,
+        tables: &Arc<Tables>,
+        certificate: Certificate,
+        text: &mut Text,
+    ) -> Result<Result<Outcome, Failure>, NoThread>
+        requires may { may_judge self.now }
+        requires sync { IsSync R.row }
+        ensures answer { IfOk result (Judged (answers self.now (arc_value tables.now) (named_rows certificate)) text.new.items) }
+        ensures memory { IfOk result (λ judged. IfErr judged (λ e. e ≡ Failure.Memory)) };
+}
+
+// Judges the text of a certificate that a source gives.
+fn judge_source<J: Judge, C: Source, R: Threads + Wait + Sync>(
+    rt: &R,
+    alloc: Global,
+    judge: &J,
+    tables: &Arc<Tables>,
+    certificate: &mut C,
+    text: &mut Text,
+) -> Result<Result<Outcome, Failure>, NoThread>
+    requires may { J.may_judge judge.now }
+    requires certificate { C.failed certificate.old + 1 < 2 ^ 64 }
+    ensures answer { IfOk result (λ judged. IfSome (C.remaining certificate.old) (λ claims. Judged (AnswersClaims (J.answers judge.now) (arc_value tables.now) (certificate_of claims)) text.new.items judged)) }
+    ensures source { MatchResult result (Raises (C.failed certificate.old) (C.failed certificate.new)) (λ _. C.failed certificate.new ≡ C.failed certificate.old) }
+    ensures asks { AsksUpTo TEXT_LIMIT (C.asked certificate.old) (C.asked certificate.new) (C.dry certificate.old) (C.dry certificate.new) }
+    ensures sink { IfOk result (λ judged. IfErr judged (λ e. e ≢ Failure.Sink)) }
+{
+    match load_certificate(alloc, certificate) {
+        Ok(certificate) => judge.judge(rt, alloc, tables, certificate, text),
+        Err(Unloaded::Refused(fault)) => {
+            print_cert_fault(text, fault);
+            Ok(Ok(Outcome::Unreadable))
+        }
+        Err(Unloaded::Failed(failure)) => Ok(Err(failure)),
+    }
+}
+
+// The same, for tables that the threads are to share.
+fn judge_for<J: Judge, C: Source, R: Threads + Wait + Sync>(
+    rt: &R,
+    alloc: Global,
+    judge: &J,
+    tables: Tables,
+    certificate: &mut C,
+    text: &mut Text,
+) -> Result<Result<Outcome, Failure>, NoThread>
+    requires may { J.may_judge judge.now }
+    requires certificate { C.failed certificate.old + 1 < 2 ^ 64 }
+    ensures answer { IfOk result (λ judged. IfSome (C.remaining certificate.old) (λ claims. Judged (AnswersClaims (J.answers judge.now) tables (certificate_of claims)) text.new.items judged)) }
+    ensures source { MatchResult result (Raises (C.failed certificate.old) (C.failed certificate.new)) (λ _. C.failed certificate.new ≡ C.failed certificate.old) }
+    ensures asks { AsksUpTo TEXT_LIMIT (C.asked certificate.old) (C.asked certificate.new) (C.dry certificate.old) (C.dry certificate.new) }
+    ensures sink { IfOk result (λ judged. IfErr judged (λ e. e ≢ Failure.Sink)) }
+{
+    match Arc::new(alloc, tables) {
+        Ok(tables) => judge_source(rt, alloc, judge, &tables, certificate, text),
+        Err(_) => Ok(Err(Failure::Memory)),
+    }
+}
+
+// Judges the texts of tables and of a certificate, the tables' first.
+fn judge_sources<J: Judge, T: Source, C: Source, R: Threads + Wait + Sync>(
+    rt: &R,
+    alloc: Global,
+    judge: &J,
+    tables: &mut T,
+    certificate: &mut C,
+    text: &mut Text,
+) -> Result<Result<Outcome, Failure>, NoThread>
+    requires may { J.may_judge judge.now }
+    requires tables { T.failed tables.old + 1 < 2 ^ 64 }
+    requires certificate { C.failed certificate.old + 1 < 2 ^ 64 }
+    ensures answer { IfOk result (λ judged. (rows claims : List ℕ) → T.remaining tables.old ≡ Some rows → C.remaining certificate.old ≡ Some claims
+        → Judged (AnswersTexts (J.answers judge.now) rows claims) text.new.items judged) }
+    ensures source { MatchResult result (Raises (T.failed tables.old + C.failed certificate.old) (T.failed tables.new + C.failed certificate.new))
+        (λ _. T.failed tables.new + C.failed certificate.new ≡ T.failed tables.old + C.failed certificate.old) }
+    ensures asks_tables { AsksUpTo TEXT_LIMIT (T.asked tables.old) (T.asked tables.new) (T.dry tables.old) (T.dry tables.new) }
+    ensures asks_certificate { AsksUpTo TEXT_LIMIT (C.asked certificate.old) (C.asked certificate.new) (C.dry certificate.old) (C.dry certificate.new) }
+    ensures order { IfSome (T.remaining tables.old) (λ rows. OnlyBehind (tables_of rows) (certificate.new ≡ certificate.old)) }
+    ensures sink { IfOk result (λ judged. IfErr judged (λ e. e ≢ Failure.Sink)) }
+{
+    match load(alloc, tables) {
+        Ok(tables) => judge_for(rt, alloc, judge, tables, certificate, text),
+        Err(Unloaded::Refused(fault)) => {
+            print_table_fault(text, fault);
+            Ok(Ok(Outcome::Unreadable))
+        }
+        Err(Unloaded::Failed(failure)) => Ok(Err(failure)),
+    }
+}
+
+// Writes that a thread could not be started.
+fn end_without_thread<K: Sink>(writer: &mut LineWriter, sink: &mut K) -> Exit
+    requires new { writer.old ≡ [] }
+    requires sink { K.failed sink.old + 1 < 2 ^ 64 }
+    ensures reports { (sources sources' : ℕ) → sources' ≡ sources
+        → ReportsThreads (K.contents sink.old) (K.contents sink.new) sources sources' (K.failed sink.old) (K.failed sink.new) result }
+    ensures left { LeavesSink (K.failed sink.old) (K.failed sink.new) (K.last_failed sink.new) (K.hidden sink.new) }
+    ensures exit { result ≡ Exit.Failed }
+{
+    let _ = end_with(writer, sink, b"failed threads");
+    Exit::Failed
+}
+
+/// Judges the texts of tables and of a certificate, both read whole from their sources, the tables first, for tables that
+/// threads share, and writes the answer onto a sink.
+///
+/// It ends as was judged; as `Unreadable` where a text can't be read; `Failed` where a device failed, memory was refused or
+/// a thread could not be started: then `failed device`, `failed memory` or `failed threads` was written, and nothing else.
+/// A push or flush that failed is the last call of the sink, and at most one pull of each source gives no byte.
+pub fn run_in_threads<J: Judge, T: Source, C: Source, K: Sink, R: Threads + Wait + Sync>(
+    rt: &R,
+    alloc: Global,
+    judge: &J,
+    tables: &mut T,
+    certificate: &mut C,
+    sink: &mut K,
+) -> Exit
+    requires may { J.may_judge judge.now }
+    requires tables { T.failed tables.old + 1 < 2 ^ 64 }
+    requires certificate { C.failed certificate.old + 1 < 2 ^ 64 }
+    requires sink { K.failed sink.old + 1 < 2 ^ 64 }
+    ensures reports { (rows claims : List ℕ) → T.remaining tables.old ≡ Some rows → C.remaining certificate.old ≡ Some claims
+        → Reported (WholeOrNone (AnswersTexts (J.answers judge.now) rows claims) (is_answered result)) (K.contents sink.old) (K.contents sink.new)
+        (T.failed tables.old + C.failed certificate.old) (T.failed tables.new + C.failed certificate.new)
+        (K.failed sink.old) (K.failed sink.new) result
+        ⊎ ReportsThreads (K.contents sink.old) (K.contents sink.new)
+        (T.failed tables.old + C.failed certificate.old) (T.failed tables.new + C.failed certificate.new)
+        (K.failed sink.old) (K.failed sink.new) result }
+    ensures reported { Reported Any (K.contents sink.old) (K.contents sink.new)
+        (T.failed tables.old + C.failed certificate.old) (T.failed tables.new + C.failed certificate.new)
+        (K.failed sink.old) (K.failed sink.new) result
+        ⊎ ReportsThreads (K.contents sink.old) (K.contents sink.new)
+        (T.failed tables.old + C.failed certificate.old) (T.failed tables.new + C.failed certificate.new)
+        (K.failed sink.old) (K.failed sink.new) result }
+    ensures asks_tables { AsksUpTo TEXT_LIMIT (T.asked tables.old) (T.asked tables.new) (T.dry tables.old) (T.dry tables.new) }
+    ensures asks_certificate { AsksUpTo TEXT_LIMIT (C.asked certificate.old) (C.asked certificate.new) (C.dry certificate.old) (C.dry certificate.new) }
+    ensures order { IfSome (T.remaining tables.old) (λ rows. OnlyBehind (tables_of rows) (certificate.new ≡ certificate.old)) }
+    ensures left { LeavesSink (K.failed sink.old) (K.failed sink.new) (K.last_failed sink.new) (K.hidden sink.new) }
+    ensures quiet { result ≢ Exit.Failed → T.failed tables.new + C.failed certificate.new + K.failed sink.new
+        ≡ T.failed tables.old + C.failed certificate.old + K.failed sink.old }
+{
+    let mut text = Text::new();
+    let mut writer = LineWriter::new();
+    match judge_sources(rt, alloc, judge, tables, certificate, &mut text) {
+        Ok(judged) => {
+            let ended = say(judged, text.as_slice(), &mut writer, sink);
+            report(ended, &mut writer, sink)
+        }
+        Err(NoThread) => end_without_thread(&mut writer, sink),
+    }
+}

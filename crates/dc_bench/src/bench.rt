@@ -1,0 +1,118 @@
+//! `bench`: a hub over certified tables is seen running.
+ghost use Rattle.std.specs.Prelude.{◌≡◌, ◌≢◌, ◌⊎◌, ℕ, List, ◌+◌, ◌^◌, ◌<◌, ◌≤◌, IfErr, IfOk, IfSome, Some};
+ghost use Rattle.std.specs.Arc.{arc_value};
+ghost use Rattle.dc_answer.specs.Answer.{Any, LeavesSink, Reported};
+ghost use Rattle.dc_answer.specs.Inputs.{OnlyBehind};
+ghost use Rattle.dc_answer.specs.Judging.{Judged};
+ghost use Rattle.dc_app.specs.Threads.{ReportsThreads};
+ghost use Rattle.dc_bench.specs.Bench.{AnswersCertificate, ReportsBench};
+ghost use Rattle.dc_cert.specs.NamedRows.{named_rows};
+ghost use Rattle.dc_device.specs.Device.{AsksUpTo};
+ghost use Rattle.dc_toml.specs.Reading.{tables_of};
+ghost use Rattle.dc_script.specs.declared.limits.TheConstants.{LONGEST_SCRIPT};
+ghost use Rattle.dc_toml.specs.declared.read.TheConstants.{TEXT_LIMIT};
+
+use crate::driven::run_certified;
+use dc_answer::{Exit, Failure, Outcome};
+use dc_app::{Judge, NoThread, run_in_threads};
+use dc_cert::Certificate;
+use dc_check::check;
+use dc_device::{Sink, Source};
+use dc_print::{Text, print_refused};
+use dc_tables::Tables;
+use std::alloc::Global;
+use std::marker::Sync;
+use std::sync::{Arc, Wait};
+use std::thread::Threads;
+
+// Judges a certificate, and where it is accepted runs a hub.
+fn bench_certificate<R: Threads + Wait + Sync>(
+    rt: &R,
+    alloc: Global,
+    ticks: u16,
+    tables: &Arc<Tables>,
+    certificate: Certificate,
+    text: &mut Text,
+) -> Result<Result<Outcome, Failure>, NoThread>
+    requires { (1 ≤ ticks) × (ticks ≤ LONGEST_SCRIPT) }
+    ensures answer { IfOk result (Judged (AnswersCertificate ticks (arc_value tables.now) (named_rows certificate)) text.new.items) }
+    ensures memory { IfOk result (λ judged. IfErr judged (λ e. e ≡ Failure.Memory)) }
+{
+    let Ok(shared) = Arc::try_clone(tables) else {
+        return Ok(Err(Failure::Memory));
+    };
+    match check(shared, certificate) {
+        Ok(certified) => run_certified(rt, alloc, u64::from(ticks), tables, certified, text),
+        Err(fault) => {
+            print_refused(text, tables, fault);
+            Ok(Ok(Outcome::Refused))
+        }
+    }
+}
+
+// A bench, and for how many ticks, 1 to 1,000, its hub runs.
+#[derive(Clone, Copy, Debug, PartialEq, Eq)]
+struct Bench {
+    ticks: u16,
+}
+
+impl Judge for Bench {
+    ghost may_judge = { λ b. (1 ≤ b.ticks) × (b.ticks ≤ LONGEST_SCRIPT) };
+
+    ghost answers = { λ b. AnswersCertificate b.ticks };
+
+    fn judge<R: Threads + Wait + Sync>(
+        &self,
+        rt: &R,
+        alloc: Global,
+        tables: &Arc<Tables>,
+        certificate: Certificate,
+        text: &mut Text,
+    ) -> Result<Result<Outcome, Failure>, NoThread> {
+        bench_certificate(rt, alloc, self.ticks, tables, certificate, text)
+    }
+}
+
+/// Judges a certificate for tables, and where it is accepted runs a hub over them for so many ticks, 1 to 1,000, with a
+/// thread for each actor but the clock; then closes it, and writes what is seen of its book: a line each for the ticks,
+/// the entries, the overruns, and the claims by the certificate's ages.
+///
+/// It ends `Done` where the claims hold; `Refused` where one fails, the certificate is refused or the hub refused; as
+/// `Unreadable` where a text can't be read; `Failed` where a device failed, memory was refused or a thread could not be
+/// started: then `failed device`, `failed memory` or `failed threads` was written, and nothing else. A push or flush that
+/// failed is the last call of the sink, and at most one pull of each source gives no byte.
+pub fn run_bench<T: Source, C: Source, K: Sink, R: Threads + Wait + Sync>(
+    rt: &R,
+    alloc: Global,
+    ticks: u16,
+    tables: &mut T,
+    certificate: &mut C,
+    sink: &mut K,
+) -> Exit
+    requires ticks { (1 ≤ ticks) × (ticks ≤ LONGEST_SCRIPT) }
+    requires tables { T.failed tables.old + 1 < 2 ^ 64 }
+    requires certificate { C.failed certificate.old + 1 < 2 ^ 64 }
+    requires sink { K.failed sink.old + 1 < 2 ^ 64 }
+    ensures reports { (rows claims : List ℕ) → T.remaining tables.old ≡ Some rows → C.remaining certificate.old ≡ Some claims
+        → ReportsBench rows claims ticks (K.contents sink.old) (K.contents sink.new)
+        (T.failed tables.old + C.failed certificate.old) (T.failed tables.new + C.failed certificate.new)
+        (K.failed sink.old) (K.failed sink.new) result
+        ⊎ ReportsThreads (K.contents sink.old) (K.contents sink.new)
+        (T.failed tables.old + C.failed certificate.old) (T.failed tables.new + C.failed certificate.new)
+        (K.failed sink.old) (K.failed sink.new) result }
+    ensures reported { Reported Any (K.contents sink.old) (K.contents sink.new)
+        (T.failed tables.old + C.failed certificate.old) (T.failed tables.new + C.failed certificate.new)
+        (K.failed sink.old) (K.failed sink.new) result
+        ⊎ ReportsThreads (K.contents sink.old) (K.contents sink.new)
+        (T.failed tables.old + C.failed certificate.old) (T.failed tables.new + C.failed certificate.new)
+        (K.failed sink.old) (K.failed sink.new) result }
+    ensures asks_tables { AsksUpTo TEXT_LIMIT (T.asked tables.old) (T.asked tables.new) (T.dry tables.old) (T.dry tables.new) }
+    ensures asks_certificate { AsksUpTo TEXT_LIMIT (C.asked certificate.old) (C.asked certificate.new) (C.dry certificate.old) (C.dry certificate.new) }
+    ensures order { IfSome (T.remaining tables.old) (λ rows. OnlyBehind (tables_of rows) (certificate.new ≡ certificate.old)) }
+    ensures left { LeavesSink (K.failed sink.old) (K.failed sink.new) (K.last_failed sink.new) (K.hidden sink.new) }
+    ensures quiet { result ≢ Exit.Failed → T.failed tables.new + C.failed certificate.new + K.failed sink.new
+        ≡ T.failed tables.old + C.failed certificate.old + K.failed sink.old }
+{
+    let bench = Bench { ticks };
+    run_in_threads(rt, alloc, &bench, tables, certificate, sink)
+}

@@ -1,0 +1,245 @@
+//! A hub over certified tables that runs and closes, and what is seen of its book.
+ghost use Rattle.std.specs.Prelude.{◌≡◌, ℕ, List, [], ◌∷◌, ◌++◌, ◌+◌, ◌<◌, ◌≤◌, IfErr, IfOk, IsSome, codes, decimal, length};
+ghost use Rattle.arrayvec.specs.ArrayVec.{array_vec_len};
+ghost use Rattle.dc_answer.specs.Judging.{Judged};
+ghost use Rattle.dc_bench.specs.Bench.{AnswersRun, IsSeen, answer_seen, count_text, seen_lines};
+ghost use Rattle.dc_device.specs.Lines.{spelled};
+ghost use Rattle.dc_drive.specs.Played.{AreOfHub};
+ghost use Rattle.dc_hub.specs.Entries.{events as events_in};
+ghost use Rattle.dc_script.specs.declared.limits.TheConstants.{LONGEST_SCRIPT};
+
+use dc_answer::{Failure, Outcome};
+use dc_app::{NoThread, append_claims};
+use dc_check::Certified;
+use dc_checkpar::Open;
+use dc_drive::{DriveFault, drive};
+use dc_event::{Claim, Event};
+use dc_hub::{Closed, Entry, Hub, HubFault, MOST_ACTORS, OpenFault, Seats};
+use dc_oracle::claims;
+use dc_print::{Text, append, append_number};
+use dc_script::Script;
+use dc_tables::Tables;
+use std::alloc::{AllocError, Global};
+use std::marker::{Brand, Sync};
+use std::sync::Wait;
+use std::sync::ledger::{Blank, Ledger};
+use std::thread::Threads;
+
+/// How many entries a book holds at most.
+const TRACE_LIMIT: usize = 16_777_216;
+
+/// What is seen of a hub that ran and closed.
+#[derive(Clone, Copy, Debug, PartialEq, Eq)]
+pub struct Seen {
+    /// For how many ticks it ran.
+    pub ticks: u64,
+    /// How many entries its book has.
+    pub entries: usize,
+    /// How many of them are overruns.
+    pub overruns: u64,
+    /// The least claim that fails at the first entry at which any does, by places that count from 1.
+    pub claims: Option<(Claim, usize)>,
+}
+
+// The events of entries.
+fn events_of(alloc: Global, entries: &[Entry]) -> Result<Vec<Event>, AllocError>
+    ensures { IfOk result (λ events. events.items ≡ events_in entries.now) }
+{
+    let mut events = Vec::new(alloc);
+    for k in 0..entries.len() {
+        events.push(entries[k].event)?;
+    }
+    Ok(events)
+}
+
+// What is seen of a book.
+fn seen_of(alloc: Global, ticks: u64, closed: &Closed) -> Result<Seen, AllocError>
+    ensures { IfOk result (IsSeen ticks closed.now) }
+{
+    closed.legal();
+    let certified = closed.certified();
+    let events = events_of(alloc, closed.entries())?;
+    let claims = claims(
+        alloc,
+        certified.tables(),
+        certified.certificate(),
+        events.as_slice(),
+    )?;
+    Ok(Seen {
+        ticks,
+        entries: closed.entries().len(),
+        overruns: closed.overruns(),
+        claims,
+    })
+}
+
+// Puts a line of a count at the end.
+fn append_count(text: &mut Text, subject: &[u8], count: u64)
+    requires { array_vec_len text.old + length subject.now + 21 ≤ 144 }
+    ensures items { text.new.items ≡ text.old.items ++ (count_text subject.now count ++ 10 ∷ []) }
+    ensures len { array_vec_len text.new ≤ array_vec_len text.old + length subject.now + 21 }
+{
+    append(text, subject);
+    append_number(text, count);
+    append(text, b"\n");
+}
+
+// The lines of what was seen.
+fn print_seen(text: &mut Text, seen: Seen)
+    ensures { text.new.items ++ 10 ∷ [] ≡ spelled (seen_lines seen) }
+{
+    text.clear();
+    append_count(text, b"ticks ", seen.ticks);
+    append_count(text, b"entries ", seen.entries as u64);
+    append_count(text, b"overruns ", seen.overruns);
+    append_claims(text, seen.claims);
+}
+
+// What ends a bench with what was seen.
+fn outcome_of(seen: Seen) -> Outcome
+    ensures { result ≡ (answer_seen seen).outcome }
+{
+    if seen.claims.is_none() {
+        Outcome::Done
+    } else {
+        Outcome::Refused
+    }
+}
+
+// Prints what is seen of a book.
+fn judge_book(
+    alloc: Global,
+    ticks: u64,
+    closed: &Closed,
+    text: &mut Text,
+) -> Result<Outcome, Failure>
+    ensures answer { Judged (AnswersRun ticks) text.new.items result }
+    ensures memory { IfErr result (λ e. e ≡ Failure.Memory) }
+{
+    match seen_of(alloc, ticks, closed) {
+        Ok(seen) => {
+            print_seen(text, seen);
+            Ok(outcome_of(seen))
+        }
+        Err(_) => Err(Failure::Memory),
+    }
+}
+
+// Prints that the hub refused a step, or did not close.
+fn refuse_hub(ticks: u64, text: &mut Text) -> Result<Outcome, Failure>
+    ensures answer { Judged (AnswersRun ticks) text.new.items result }
+    ensures memory { IfErr result (λ e. e ≡ Failure.Memory) }
+{
+    let _ticks = ticks;
+    text.clear();
+    append(text, b"refused hub");
+    Ok(Outcome::Refused)
+}
+
+// Closes a hub, and prints what is seen of its book.
+fn close_hub<L: Ledger>(
+    alloc: Global,
+    ticks: u64,
+    hub: Hub<L>,
+    seats: Seats<L>,
+    text: &mut Text,
+) -> Result<Outcome, Failure>
+    ensures answer { Judged (AnswersRun ticks) text.new.items result }
+    ensures memory { IfErr result (λ e. e ≡ Failure.Memory) }
+{
+    match hub.close(seats) {
+        Ok(closed) => judge_book(alloc, ticks, &closed, text),
+        Err(_) => refuse_hub(ticks, text),
+    }
+}
+
+// What a drive that was not answered Ok ends with.
+fn end_of(
+    fault: DriveFault,
+    ticks: u64,
+    text: &mut Text,
+) -> Result<Result<Outcome, Failure>, NoThread>
+    ensures answer { IfOk result (Judged (AnswersRun ticks) text.new.items) }
+    ensures memory { IfOk result (λ judged. IfErr judged (λ e. e ≡ Failure.Memory)) }
+{
+    match fault {
+        DriveFault::Memory => Ok(Err(Failure::Memory)),
+        DriveFault::Spawn => Err(NoThread),
+        DriveFault::GateStuck => Err(NoThread),
+        DriveFault::Hub(HubFault::Memory) => Ok(Err(Failure::Memory)),
+        DriveFault::Hub(_) => Ok(refuse_hub(ticks, text)),
+        DriveFault::Astray => Ok(refuse_hub(ticks, text)),
+    }
+}
+
+// Drives a hub and closes it.
+fn drive_hub<L: Ledger + Send + Sync, R: Threads + Wait + Sync>(
+    rt: &R,
+    alloc: Global,
+    tables: &Tables,
+    script: &Script,
+    hub: Hub<L>,
+    mut seats: Seats<L>,
+    text: &mut Text,
+) -> Result<Result<Outcome, Failure>, NoThread>
+    requires of_hub { AreOfHub hub seats.wires.items }
+    requires clock { IsSome seats.clock }
+    ensures answer { IfOk result (Judged (AnswersRun script.now.ticks) text.new.items) }
+    ensures memory { IfOk result (λ judged. IfErr judged (λ e. e ≡ Failure.Memory)) }
+{
+    match drive(rt, alloc, tables, &hub, &mut seats, script, &Open) {
+        Ok(()) => Ok(close_hub(alloc, script.ticks(), hub, seats, text)),
+        Err(fault) => end_of(fault, script.ticks(), text),
+    }
+}
+
+// Opens a hub, drives it and closes it.
+fn run_hub<L: Ledger + Send + Sync, R: Threads + Wait + Sync>(
+    rt: &R,
+    alloc: Global,
+    blank: Blank,
+    tables: &Tables,
+    script: &Script,
+    certified: Certified,
+    text: &mut Text,
+) -> Result<Result<Outcome, Failure>, NoThread>
+    requires name { blank.name ≡ L.name }
+    requires parts { blank.parts ≡ L.parts }
+    requires enough { 161 ≤ blank.parts }
+    ensures answer { IfOk result (Judged (AnswersRun script.now.ticks) text.new.items) }
+    ensures memory { IfOk result (λ judged. IfErr judged (λ e. e ≡ Failure.Memory)) }
+{
+    match Hub::<L>::open(alloc, blank, certified, TRACE_LIMIT) {
+        Ok((hub, seats)) => drive_hub(rt, alloc, tables, script, hub, seats, text),
+        Err(OpenFault::Memory) => Ok(Err(Failure::Memory)),
+        Err(OpenFault::TraceLimit) => unreachable!(),
+    }
+}
+
+/// Runs a hub over certified tables for so many ticks by the script of a bench, closes it, and prints what is seen of its
+/// book.
+pub fn run_certified<R: Threads + Wait + Sync>(
+    rt: &R,
+    alloc: Global,
+    ticks: u64,
+    tables: &Tables,
+    certified: Certified,
+    text: &mut Text,
+) -> Result<Result<Outcome, Failure>, NoThread>
+    requires { (1 ≤ ticks) × (ticks ≤ LONGEST_SCRIPT) }
+    ensures answer { IfOk result (Judged (AnswersRun ticks) text.new.items) }
+    ensures memory { IfOk result (λ judged. IfErr judged (λ e. e ≡ Failure.Memory)) }
+{
+    match Script::bench(alloc, tables, ticks) {
+        Ok(script) => run_hub::<Brand, R>(
+            rt,
+            alloc,
+            Blank::new(MOST_ACTORS),
+            tables,
+            &script,
+            certified,
+            text,
+        ),
+        Err(_) => Ok(Err(Failure::Memory)),
+    }
+}

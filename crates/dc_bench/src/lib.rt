@@ -1,0 +1,7 @@
+//! The engine of `bench`: a certified concentrator is seen running in threads.
+#![tactic(auto)]
+
+mod bench;
+mod driven;
+
+pub use bench::run_bench;

@@ -1,0 +1,25 @@
+//! The limits within which bounds and floors are proved. All are this project's own numbers.
+
+/// The greatest span, in ticks, for which a bound or a floor is asked.
+pub const LONGEST_SPAN: u32 = 1_000_000;
+
+/// The longest frame of a [`Cyclic`](crate::Cyclic) bound, in ticks.
+pub const LONGEST_FRAME: u32 = 100_000;
+
+/// The longest tick of a [`Wire`](crate::Wire), in microseconds.
+pub const LONGEST_TICK: u32 = 10_000;
+
+/// The greatest jitter of a [`Jittered`](crate::Jittered) bound, in ticks.
+pub const GREATEST_JITTER: u32 = 1_000_000_000;
+
+/// The most sources of an [`Alike`](crate::Alike) bound.
+pub const MOST_SOURCES: u32 = 1024;
+
+/// The most offsets of a [`Cyclic`](crate::Cyclic) bound.
+pub const MOST_OFFSETS: usize = 1024;
+
+/// The most places of a [`Visits`](crate::Visits) floor.
+pub const MOST_PLACES: usize = 256;
+
+/// The most entries that a bound may let come in [`LONGEST_SPAN`] ticks.
+pub const GREATEST_CAP: u64 = 1_099_511_627_776;

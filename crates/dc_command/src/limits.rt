@@ -1,0 +1,11 @@
+//! The ranges of the numbers on a command line. The engines have limits of their own: what the program hands them is
+//! proved to lie within these.
+
+/// The most workers of a check.
+pub const MOST_WORKERS: u8 = 64;
+
+/// The most ticks of a bench.
+pub const MOST_TICKS: u16 = 1000;
+
+/// The ticks of a bench where none are said.
+pub const USUAL_TICKS: u16 = 200;

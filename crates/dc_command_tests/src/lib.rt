@@ -1,0 +1,5 @@
+//! Command lines, and what they ask.
+#![tactic(auto)]
+
+#[cfg(test)]
+mod lines;

@@ -1,0 +1,5 @@
+use Rattle.dc_drive.specs.Played.{IsSameSeat}
+use Rattle.dc_drive.proofs.player.play.Given as goal
+
+abbrev pub invariant-loop : goal.invariant-loop
+invariant-loop g l = IsSameSeat (g.S.Player.seat l.fn.seat) (g.S.Player.seat l.seat) × g.S.Player.is_of l.hub l.seat

@@ -1,0 +1,12 @@
+//! A hub that runs: a thread for each actor, the wires by a script.
+#![tactic(auto)]
+
+mod compare;
+mod driving;
+mod fault;
+mod pace;
+mod player;
+mod threads;
+
+pub use driving::drive;
+pub use fault::DriveFault;

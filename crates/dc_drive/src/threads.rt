@@ -1,0 +1,328 @@
+//! A thread for each seat, and the clock in the calling one.
+
+ghost use Rattle.std.specs.Prelude.{◌≡◌, ◌+◌, ◌≤◌, ◌++◌, All, IfOk, IfErr, map, vec_len, vec_capacity};
+ghost use Rattle.dc_drive.specs.Played.{AreOfHub, AreSame, IsSameSeat, itself, out_with, seat_of_wire};
+
+use crate::fault::Halt;
+use crate::player::{Player, Stage, play, tick};
+use dc_checkpar::Gate;
+use dc_hub::{ClockSeat, Hub, OutputSeat, RouterSeat, WireSeat};
+use std::snapshot::Snapshot;
+use std::sync::Wait;
+use std::sync::ledger::Ledger;
+use std::thread;
+use std::thread::{Promise, PromisedHandle, Scope, Threads};
+
+/// A seat that comes back from its thread, and how its thread ended.
+#[derive(Drop)]
+pub(crate) struct Done<S> {
+    pub seat: S,
+    pub end: Result<(), Halt>,
+}
+
+/// That the seat which comes back is the one that was handed in, with more receipts behind its own, and still of the hub.
+#[derive(Drop)]
+pub(crate) struct Returns<L: Ledger, S> {
+    pub seat: Snapshot<S>,
+    pub hub: Snapshot<Hub<L>>,
+}
+
+impl<L: Ledger, S: Player<L>> Promise<Done<S>> for Returns<L, S> {
+    ghost kept_by = { λ p r. IsSameSeat (S.seat p.seat.value) (S.seat r.seat) × S.is_of p.hub.value r.seat };
+}
+
+pub(crate) type Child<L, S> = PromisedHandle<Done<S>, Returns<L, S>>;
+
+/// Plays a seat's actor tick by tick. Where it gives up, all threads stop.
+fn run<L: Ledger, S: Player<L> + Drop, R: Wait, G: Gate>(
+    rt: &R,
+    hub: &Hub<L>,
+    stage: &Stage<'_, G>,
+    number: u64,
+    mut seat: S,
+) -> Done<S>
+    requires { S.is_of hub.now seat }
+    ensures same { IsSameSeat (S.seat seat) (S.seat result.seat) }
+    ensures of_hub { S.is_of hub.now result.seat }
+{
+    let start = seat.plain().receipts().len();
+    if stage.meter.stops(rt) {
+        return Done { seat, end: Ok(()) };
+    }
+    for tick in 0..stage.script.ticks() {
+        let played = play(rt, hub, stage, number, start, tick, &mut seat);
+        if played.is_err() {
+            stage.meter.stop(rt);
+            return Done { seat, end: played };
+        }
+        if !stage.meter.end_tick(rt, tick, stage.actors) {
+            break;
+        }
+    }
+    Done { seat, end: Ok(()) }
+}
+
+/// Where all threads have started, ticks once all actors have made their steps of the tick. Where the clock gives up, all threads stop.
+fn run_clock<L: Ledger, R: Wait, G: Gate>(
+    rt: &R,
+    hub: &Hub<L>,
+    stage: &Stage<'_, G>,
+    started: Result<(), Halt>,
+    mut clock: ClockSeat<L>,
+) -> Done<ClockSeat<L>>
+    ensures { IsSameSeat clock result.seat }
+{
+    if started.is_err() {
+        return Done {
+            seat: clock,
+            end: started,
+        };
+    }
+    for _ in 0..stage.script.ticks() {
+        if !stage.meter.wait_for_all(rt, stage.actors) {
+            break;
+        }
+        let ticked = tick(rt, hub, stage.gate, stage.actors, &mut clock);
+        if ticked.is_err() {
+            stage.meter.stop(rt);
+            return Done {
+                seat: clock,
+                end: ticked,
+            };
+        }
+        stage.meter.next_tick(rt);
+    }
+    Done {
+        seat: clock,
+        end: Ok(()),
+    }
+}
+
+/// Starts a seat's thread. Where none can be made, the drive stops and the seat comes back.
+fn start<
+    's,
+    E,
+    L: Ledger + Send + Sync + 's,
+    S: Player<L> + Drop + Send + 's,
+    R: Wait + Sync,
+    G: Gate + 's,
+>(
+    scope: &Scope<'s, E>,
+    rt: &'s R,
+    hub: &'s Hub<L>,
+    stage: &'s Stage<'s, G>,
+    number: u64,
+    seat: S,
+) -> Result<Child<L, S>, S>
+    requires { S.is_of hub.now seat }
+    ensures ok { IfOk result (λ h. (h.promise.seat.value ≡ seat) × (h.promise.hub.value ≡ hub.now)) }
+    ensures err { IfErr result (λ s. IsSameSeat (S.seat seat) (S.seat s) × S.is_of hub.now s) }
+{
+    let promise = Returns {
+        seat: Snapshot::of(&seat),
+        hub: Snapshot::of(hub),
+    };
+    let spawned = scope.spawn_with(
+        promise,
+        move || -> Done<S>
+            requires { S.is_of hub.now seat }
+            ensures { IsSameSeat (S.seat seat) (S.seat result.seat) × S.is_of hub.entry.now result.seat }
+        { run(rt, hub, stage, number, seat) },
+    );
+    match spawned {
+        Ok(child) => Ok(child),
+        Err(refused) => {
+            stage.meter.stop(rt);
+            let Done { seat, end: _ } = (refused.value)();
+            Err(seat)
+        }
+    }
+}
+
+/// Starts a thread for each seat, the last first, where all went well before. The first has the number `base` at the gate.
+fn start_all<
+    's,
+    E,
+    L: Ledger + Send + Sync + 's,
+    S: Player<L> + Drop + Send + 's,
+    R: Wait + Sync,
+    G: Gate + 's,
+>(
+    scope: &Scope<'s, E>,
+    rt: &'s R,
+    hub: &'s Hub<L>,
+    stage: &'s Stage<'s, G>,
+    started: Result<(), Halt>,
+    base: usize,
+    seats: &mut Vec<S>,
+    children: &mut Vec<Child<L, S>>,
+) -> Result<(), Halt>
+    requires of_hub { All (S.is_of hub.now) seats.old.items }
+    requires room { (vec_len children.old ≡ 0) × (vec_len seats.old ≤ vec_capacity children.old) }
+    ensures same { AreSame S.seat seats.old.items (seats.new.items ++ out_with (λ h. h.promise.seat.value) children.new.items) }
+    ensures of_hub { All (S.is_of hub.now) seats.new.items }
+    ensures hubs { All (λ h. h.promise.hub.value ≡ hub.now) children.new.items }
+    ensures room { (vec_capacity seats.new ≡ vec_capacity seats.old) × (vec_len seats.new + vec_len children.new ≡ vec_len seats.old) }
+{
+    started?;
+    while let Some(seat) = seats.pop() {
+        let number = base.saturating_add(seats.len()) as u64;
+        match start(scope, rt, hub, stage, number, seat) {
+            Ok(child) => children.push_reserved(child),
+            Err(seat) => {
+                seats.push_reserved(seat);
+                return Err(Halt::Spawn);
+            }
+        }
+    }
+    Ok(())
+}
+
+/// Joins the threads. Their seats go behind the others.
+fn join_all<L: Ledger, S: Player<L> + Drop, R: Threads>(
+    rt: &R,
+    hub: &Hub<L>,
+    children: &mut Vec<Child<L, S>>,
+    seats: &mut Vec<S>,
+) -> Result<(), Halt>
+    requires of_hub { All (S.is_of hub.now) seats.old.items }
+    requires hubs { All (λ h. h.promise.hub.value ≡ hub.now) children.old.items }
+    requires room { vec_len seats.old + vec_len children.old ≤ vec_capacity seats.old }
+    ensures same { AreSame S.seat (seats.old.items ++ out_with (λ h. h.promise.seat.value) children.old.items) seats.new.items }
+    ensures of_hub { All (S.is_of hub.now) seats.new.items }
+{
+    let _hub = hub;
+    let mut end = Ok(());
+    while let Some(child) = children.pop() {
+        let Done { seat, end: theirs } = child.join(rt);
+        seats.push_reserved(seat);
+        end = first(end, theirs);
+    }
+    end
+}
+
+/// The first of two ends that is a fault.
+pub(crate) fn first(one: Result<(), Halt>, other: Result<(), Halt>) -> Result<(), Halt> {
+    one?;
+    other
+}
+
+/// The seats of a drive, and how it ended.
+#[derive(Drop)]
+pub(crate) struct Cast<L: Ledger> {
+    pub wires: Vec<WireSeat<L>>,
+    pub routers: Vec<RouterSeat<L>>,
+    pub outputs: Vec<OutputSeat<L>>,
+    pub clock: ClockSeat<L>,
+    pub end: Result<(), Halt>,
+}
+
+/// Room for the handles of all threads.
+#[derive(Drop)]
+pub(crate) struct Rooms<L: Ledger> {
+    pub wires: Vec<Child<L, WireSeat<L>>>,
+    pub routers: Vec<Child<L, RouterSeat<L>>>,
+    pub outputs: Vec<Child<L, OutputSeat<L>>>,
+}
+
+/// Starts all threads, ticks, and joins them.
+fn run_all<'s, E, L: Ledger + Send + Sync + 's, R: Threads + Wait + Sync, G: Gate + 's>(
+    scope: &Scope<'s, E>,
+    rt: &'s R,
+    hub: &'s Hub<L>,
+    stage: &'s Stage<'s, G>,
+    cast: Cast<L>,
+    rooms: Rooms<L>,
+) -> Cast<L>
+    requires of_hub { AreOfHub hub.now cast.wires.items }
+    requires room_wires { (vec_len rooms.wires ≡ 0) × (vec_len cast.wires ≤ vec_capacity rooms.wires) }
+    requires room_routers { (vec_len rooms.routers ≡ 0) × (vec_len cast.routers ≤ vec_capacity rooms.routers) }
+    requires room_outputs { (vec_len rooms.outputs ≡ 0) × (vec_len cast.outputs ≤ vec_capacity rooms.outputs) }
+    ensures wires { AreSame seat_of_wire cast.wires.items result.wires.items }
+    ensures routers { AreSame itself cast.routers.items result.routers.items }
+    ensures outputs { AreSame itself cast.outputs.items result.outputs.items }
+    ensures clock { IsSameSeat cast.clock result.clock }
+    ensures of_hub { AreOfHub hub.now result.wires.items }
+{
+    let Cast {
+        mut wires,
+        mut routers,
+        mut outputs,
+        clock,
+        end: _,
+    } = cast;
+    let Rooms {
+        wires: mut of_wires,
+        routers: mut of_routers,
+        outputs: mut of_outputs,
+    } = rooms;
+    let buses = wires.len();
+    let visitors = buses.saturating_add(routers.len());
+    let started = start_all(scope, rt, hub, stage, Ok(()), 0, &mut wires, &mut of_wires);
+    let started = start_all(
+        scope,
+        rt,
+        hub,
+        stage,
+        started,
+        buses,
+        &mut routers,
+        &mut of_routers,
+    );
+    let started = start_all(
+        scope,
+        rt,
+        hub,
+        stage,
+        started,
+        visitors,
+        &mut outputs,
+        &mut of_outputs,
+    );
+    let Done { seat: clock, end } = run_clock(rt, hub, stage, started, clock);
+    let end = first(join_all(rt, hub, &mut of_wires, &mut wires), end);
+    let end = first(join_all(rt, hub, &mut of_routers, &mut routers), end);
+    let end = first(join_all(rt, hub, &mut of_outputs, &mut outputs), end);
+    Cast {
+        wires,
+        routers,
+        outputs,
+        clock,
+        end,
+    }
+}
+
+/// Plays the script. All threads have returned when this returns.
+pub(crate) fn in_threads<L: Ledger + Send + Sync, R: Threads + Wait + Sync, G: Gate>(
+    rt: &R,
+    hub: &Hub<L>,
+    stage: &Stage<'_, G>,
+    cast: Cast<L>,
+    rooms: Rooms<L>,
+) -> Cast<L>
+    requires of_hub { AreOfHub hub.now cast.wires.items }
+    requires room_wires { (vec_len rooms.wires ≡ 0) × (vec_len cast.wires ≤ vec_capacity rooms.wires) }
+    requires room_routers { (vec_len rooms.routers ≡ 0) × (vec_len cast.routers ≤ vec_capacity rooms.routers) }
+    requires room_outputs { (vec_len rooms.outputs ≡ 0) × (vec_len cast.outputs ≤ vec_capacity rooms.outputs) }
+    ensures wires { AreSame seat_of_wire cast.wires.items result.wires.items }
+    ensures routers { AreSame itself cast.routers.items result.routers.items }
+    ensures outputs { AreSame itself cast.outputs.items result.outputs.items }
+    ensures clock { IsSameSeat cast.clock result.clock }
+    ensures of_hub { AreOfHub hub.now result.wires.items }
+{
+    thread::scope(
+        thread::scope_env(),
+        rt,
+        |scope| -> Cast<L>
+            requires of_hub { AreOfHub hub.now cast.wires.items }
+            requires room_wires { (vec_len rooms.wires ≡ 0) × (vec_len cast.wires ≤ vec_capacity rooms.wires) }
+            requires room_routers { (vec_len rooms.routers ≡ 0) × (vec_len cast.routers ≤ vec_capacity rooms.routers) }
+            requires room_outputs { (vec_len rooms.outputs ≡ 0) × (vec_len cast.outputs ≤ vec_capacity rooms.outputs) }
+            ensures wires { AreSame seat_of_wire cast.wires.items result.wires.items }
+            ensures routers { AreSame itself cast.routers.items result.routers.items }
+            ensures outputs { AreSame itself cast.outputs.items result.outputs.items }
+            ensures clock { IsSameSeat cast.clock result.clock }
+            ensures of_hub { AreOfHub hub.entry.now result.wires.items }
+        { run_all(scope, rt, hub, stage, cast, rooms) },
+    )
+}

@@ -1,0 +1,189 @@
+//! A monitor beside a hub that is driven, and hubs of random tables that are driven two at a time.
+
+ghost use Rattle.std.specs.Prelude.{◌≡◌, ◌≤◌, IsSome};
+ghost use Rattle.dc_board.specs.Marks.{IsSeatOf};
+ghost use Rattle.dc_drive.specs.Played.{AreOfHub};
+
+use crate::drives::{judge_closed, opened, runs};
+use crate::fixture::{Plan, equal_plan, random_plan};
+use dc_checkpar::Open;
+use dc_drive::{DriveFault, drive};
+use dc_hub::{Hub, MOST_ACTORS, Seats, Watch};
+use dc_script::Script;
+use dc_tables::Tables;
+use dc_trials::Chance;
+use std::alloc::Global;
+use std::marker::Brand;
+use std::process::Abort;
+use std::rt::HostRuntime;
+use std::sync::Wait;
+use std::sync::atomic::{AtomicBool, Ordering};
+use std::sync::ledger::{Blank, Ledger};
+use std::test::Fail;
+use std::thread;
+use std::thread::Threads;
+
+/// How often the monitor reads all buses.
+const ROUNDS: u32 = 400;
+
+/// How many hubs of random tables are driven, and for how many ticks each.
+const DRIVES: u32 = 100;
+
+const TICKS: u64 = 60;
+
+/// How often a busy thread draws numbers at most.
+const TURNS: u64 = 100_000_000;
+
+/// Reads of all buses: whether an answer fell.
+fn monitor<L: Ledger>(hub: &Hub<L>, mut watch: Watch) -> bool
+    requires { IsSeatOf hub.now watch }
+{
+    let mut seen = [0u64; 64];
+    let mut fell = false;
+    for _ in 0..ROUNDS {
+        for bus in 0..64 {
+            let mark = hub.read(&mut watch, bus);
+            fell = fell || mark < seen[bus];
+            seen[bus] = mark;
+        }
+        thread::yield_now();
+    }
+    fell
+}
+
+/// Drives the hub, and hands the seats back.
+fn drive_seats<L: Ledger + Send + Sync, R: Threads + Wait + Sync>(
+    rt: &R,
+    alloc: Global,
+    tables: &Tables,
+    hub: &Hub<L>,
+    mut seats: Seats<L>,
+    script: &Script,
+) -> (Seats<L>, Result<(), DriveFault>)
+    requires of_hub { AreOfHub hub.now seats.wires.items }
+    requires clock { IsSome seats.clock }
+{
+    let answer = drive(rt, alloc, tables, hub, &mut seats, script, &Open);
+    (seats, answer)
+}
+
+/// A monitor reads while the hub is driven: the seats, what the drive answers, and whether what was read fell.
+fn watched<L: Ledger + Send + Sync, R: Threads + Wait + Sync>(
+    rt: &R,
+    alloc: Global,
+    tables: &Tables,
+    hub: &Hub<L>,
+    mut seats: Seats<L>,
+    script: &Script,
+) -> (Seats<L>, Result<(), DriveFault>, bool)
+    requires of_hub { AreOfHub hub.now seats.wires.items }
+    requires clock { IsSome seats.clock }
+    requires watch { IsSeatOf hub.now seats.watch }
+{
+    let watch = hub.split(&mut seats.watch);
+    let (driven, fell) = thread::join(
+        rt,
+        move || -> (Seats<L>, Result<(), DriveFault>)
+            requires of_hub { AreOfHub hub.now seats.wires.items }
+            requires clock { IsSome seats.clock }
+        { drive_seats(rt, alloc, tables, hub, seats, script) },
+        move || monitor(hub, watch),
+    );
+    let (seats, answer) = driven;
+    (seats, answer, fell)
+}
+
+/// A hub over these tables is driven beside a monitor. What it reads never falls, and the hub closes.
+fn watches<L: Ledger + Send + Sync, R: Threads + Wait + Abort + Sync>(
+    rt: &R,
+    alloc: Global,
+    blank: Blank,
+    plan: Plan,
+) -> Result<(), Fail>
+    requires name { blank.name ≡ L.name }
+    requires parts { blank.parts ≡ L.parts }
+    requires enough { 161 ≤ blank.parts }
+{
+    let Plan { tables, certified } = plan;
+    let script = Script::bench(alloc, &tables, TICKS)?;
+    let (hub, seats) = opened::<L>(alloc, blank, certified)?;
+    let (seats, answer, fell) = watched(rt, alloc, &tables, &hub, seats, &script);
+    assert_eq!(rt; answer, Ok(()));
+    assert!(rt; !fell);
+    judge_closed(rt, alloc, hub.close(seats), &script, None)
+}
+
+#[test]
+fn a_monitor_reads_beside(rt: HostRuntime) -> Result<(), Fail> {
+    let plan = equal_plan(rt.alloc(), 64, false).ok_or("no tables")?;
+    watches::<Brand, HostRuntime>(&rt, rt.alloc(), Blank::new(MOST_ACTORS), plan)
+}
+
+/// Draws tables until their certificate is found, and drives a hub over them: whether there were such tables.
+fn draws<R: Threads + Wait + Abort + Sync>(
+    rt: &R,
+    alloc: Global,
+    chance: &mut Chance,
+) -> Result<bool, Fail> {
+    for _draw in 0..100 {
+        if let Some(plan) = random_plan(alloc, chance)? {
+            runs(rt, alloc, plan, TICKS, &Open, Ok(None))?;
+            return Ok(true);
+        }
+    }
+    Ok(false)
+}
+
+/// Hubs over random tables, one after another: how many.
+fn draws_all<R: Threads + Wait + Abort + Sync>(rt: &R, alloc: Global) -> Result<u32, Fail> {
+    let mut chance = Chance::new(1);
+    let mut count: u32 = 0;
+    for _drive in 0..DRIVES {
+        if draws(rt, alloc, &mut chance)? {
+            count = count.wrapping_add(1);
+        }
+    }
+    Ok(count)
+}
+
+/// Draws numbers, and lets others run, until all is over: the last number.
+fn busy(over: &AtomicBool, seed: u64) -> u32 {
+    let mut chance = Chance::new(seed);
+    for _turn in 0..TURNS {
+        if over.load(Ordering::SeqCst) {
+            break;
+        }
+        for _word in 0..1000 {
+            chance.word();
+        }
+        thread::yield_now();
+    }
+    chance.word()
+}
+
+/// Two threads that are busy until all is over.
+fn two_busy<R: Threads>(rt: &R, over: &AtomicBool, seed: u64) -> (u32, u32) {
+    thread::join(rt, || busy(over, seed), || busy(over, seed))
+}
+
+/// Hubs over random tables beside four threads that are busy: how many.
+fn draws_under_load<R: Threads + Wait + Abort + Sync>(rt: &R, alloc: Global) -> Result<u32, Fail> {
+    let over = AtomicBool::new(false);
+    let (count, _) = thread::join(
+        rt,
+        || {
+            let count = draws_all(rt, alloc);
+            over.store(true, Ordering::SeqCst);
+            count
+        },
+        || thread::join(rt, || two_busy(rt, &over, 2), || two_busy(rt, &over, 3)),
+    );
+    count
+}
+
+#[test]
+fn hubs_of_random_tables_run(rt: HostRuntime) -> Result<(), Fail> {
+    let count = draws_under_load(&rt, rt.alloc())?;
+    assert_eq!(&rt; count, DRIVES);
+    Ok(())
+}

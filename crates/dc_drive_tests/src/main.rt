@@ -1,0 +1,19 @@
+//! Trials of hubs that are driven, over small tables, over tables of 64 buses and over random ones. The program drives a
+//! hub, and another one where memory was refused to the first.
+#![tactic(auto)]
+
+#[cfg(test)]
+mod beside;
+#[cfg(test)]
+mod drives;
+mod fixture;
+mod refused;
+#[cfg(test)]
+mod scripts;
+
+use crate::refused::run_again;
+use std::io;
+
+fn main(rt: HostRuntime) -> io::Result<()> {
+    run_again(&rt, rt.alloc())
+}

@@ -1,0 +1,100 @@
+//! A hub that is driven, and another one where memory or a thread was refused to the first. What each says is a line of
+//! the output.
+
+ghost use Rattle.std.specs.Prelude.{◌≡◌, ◌≤◌, IsSome};
+ghost use Rattle.dc_drive.specs.Played.{AreOfHub};
+
+use crate::fixture::{Plan, equal_plan};
+use dc_checkpar::Open;
+use dc_drive::{DriveFault, drive};
+use dc_hub::{Hub, HubFault, MOST_ACTORS, OpenFault, Seats};
+use dc_script::Script;
+use dc_tables::Tables;
+use std::alloc::Global;
+use std::io;
+use std::marker::Brand;
+use std::sync::Wait;
+use std::sync::ledger::{Blank, Ledger};
+use std::thread::Threads;
+
+/// How many ticks the script has.
+const TICKS: u64 = 30;
+
+/// What a drive answers.
+fn name_of(answer: Result<(), DriveFault>) -> &'static str {
+    match answer {
+        Ok(()) => "ok",
+        Err(DriveFault::Memory) => "memory",
+        Err(DriveFault::Spawn) => "spawn",
+        Err(DriveFault::GateStuck) => "stuck",
+        Err(DriveFault::Hub(HubFault::Memory)) => "memory of the hub",
+        Err(DriveFault::Hub(_)) => "refused",
+        Err(DriveFault::Astray) => "astray",
+    }
+}
+
+/// Drives a hub and closes it: whether the drive was answered Ok.
+fn drive_once<L: Ledger + Send + Sync, R: Threads + Wait + Sync + Print>(
+    rt: &R,
+    alloc: Global,
+    tables: &Tables,
+    hub: Hub<L>,
+    mut seats: Seats<L>,
+    script: &Script,
+) -> io::Result<bool>
+    requires of_hub { AreOfHub hub seats.wires.items }
+    requires clock { IsSome seats.clock }
+{
+    let answer = drive(rt, alloc, tables, &hub, &mut seats, script, &Open);
+    let closed = hub.close(seats).is_ok();
+    println!(rt; "drive: {}", name_of(answer))?;
+    println!(rt; "close: {}", if closed { "ok" } else { "refused" })?;
+    Ok(answer.is_ok())
+}
+
+/// Opens a hub and drives it: whether all was answered Ok.
+fn open_once<L: Ledger + Send + Sync, R: Threads + Wait + Sync + Print>(
+    rt: &R,
+    alloc: Global,
+    blank: Blank,
+    plan: Plan,
+    script: &Script,
+) -> io::Result<bool>
+    requires name { blank.name ≡ L.name }
+    requires parts { blank.parts ≡ L.parts }
+    requires enough { 161 ≤ blank.parts }
+{
+    let Plan { tables, certified } = plan;
+    match Hub::<L>::open(alloc, blank, certified, 1000) {
+        Ok((hub, seats)) => drive_once(rt, alloc, &tables, hub, seats, script),
+        Err(OpenFault::Memory) => {
+            println!(rt; "open: memory")?;
+            Ok(false)
+        }
+        Err(OpenFault::TraceLimit) => {
+            println!(rt; "open: limit")?;
+            Ok(false)
+        }
+    }
+}
+
+/// Writes a script for the small tables, opens a hub over them and drives it: whether all was answered Ok.
+fn run_once<R: Threads + Wait + Sync + Print>(rt: &R, alloc: Global) -> io::Result<bool> {
+    let Some(plan) = equal_plan(alloc, 1, false) else {
+        println!(rt; "tables: memory")?;
+        return Ok(false);
+    };
+    let Ok(script) = Script::bench(alloc, &plan.tables, TICKS) else {
+        println!(rt; "script: memory")?;
+        return Ok(false);
+    };
+    open_once::<Brand, R>(rt, alloc, Blank::new(MOST_ACTORS), plan, &script)
+}
+
+/// Drives a hub, and another one where something was refused to the first.
+pub fn run_again<R: Threads + Wait + Sync + Print>(rt: &R, alloc: Global) -> io::Result<()> {
+    if !run_once(rt, alloc)? {
+        run_once(rt, alloc)?;
+    }
+    Ok(())
+}

@@ -1,0 +1,2 @@
+-- What `report` answers.
+pub mod Paper

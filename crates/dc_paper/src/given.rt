@@ -1,0 +1,126 @@
+//! `report` with a certificate.
+ghost use Rattle.std.specs.Prelude.{◌≡◌, ◌≢◌, ℕ, List, ◌++◌, ◌+◌, ◌^◌, ◌<◌, codes, IfErr, IfOk, IfSome, Some};
+ghost use Rattle.dc_cert.specs.Faults.{fault_text};
+ghost use Rattle.dc_cert.specs.NamedRows.{named_rows};
+ghost use Rattle.dc_cert.specs.Reading.{certificate_of};
+ghost use Rattle.dc_check.specs.Verdict.{verdict_of};
+ghost use Rattle.dc_device.specs.Device.{AsksUpTo};
+ghost use Rattle.dc_toml.specs.Reading.{tables_of};
+ghost use Rattle.dc_answer.specs.Answer.{Any, LeavesSink, Raises, Reported};
+ghost use Rattle.dc_answer.specs.Inputs.{OnlyBehind};
+ghost use Rattle.dc_answer.specs.Judging.{Judged};
+ghost use Rattle.dc_paper.specs.Paper.{AnswersClaims, AnswersReport, ReportsPage, outcome_of};
+
+use crate::pages::{judge, keep_page};
+use dc_answer::{Exit, Failure, Outcome, Unloaded, load, load_certificate, report, say};
+use dc_app::{keep, keep_unreadable};
+use dc_cert::{Certificate, Fault};
+use dc_device::{LineWriter, Sink, Source};
+use dc_print::{Text, print_cert_fault};
+use dc_tables::Tables;
+use std::alloc::Global;
+
+// Keeps the page on a certificate with the outcome of its verdict.
+fn keep_judged(
+    alloc: Global,
+    tables: &Tables,
+    certificate: &Certificate,
+    text: &mut Vec<u8>,
+) -> Result<Outcome, Failure>
+    ensures outcome { IfOk result (λ o. o ≡ outcome_of (verdict_of tables.now (named_rows certificate.now))) }
+    ensures memory { IfErr result (λ e. e ≡ Failure.Memory) }
+{
+    let outcome = judge(tables, certificate);
+    keep_page(alloc, tables, certificate, outcome, text)
+}
+
+// Keeps the first fault of the certificate's text.
+fn keep_fault(fault: Fault, text: &mut Vec<u8>) -> Result<Outcome, Failure>
+    ensures kept { IfOk result (λ _. text.new.items ≡ codes "unreadable " ++ fault_text fault) }
+    ensures outcome { IfOk result (λ o. o ≡ Outcome.Unreadable) }
+    ensures memory { IfErr result (λ e. e ≡ Failure.Memory) }
+{
+    let mut line = Text::new();
+    print_cert_fault(&mut line, fault);
+    keep(line.as_slice(), Outcome::Unreadable, text)
+}
+
+// Makes the page on the certificate that a source gives.
+fn judge_source<C: Source>(
+    alloc: Global,
+    tables: &Tables,
+    certificate: &mut C,
+    text: &mut Vec<u8>,
+) -> Result<Outcome, Failure>
+    requires { C.failed certificate.old + 1 < 2 ^ 64 }
+    ensures answer { (given : List ℕ) → C.remaining certificate.old ≡ Some given → Judged (λ answer. AnswersClaims tables.now answer (certificate_of given)) text.new.items result }
+    ensures source { Raises (C.failed certificate.old) (C.failed certificate.new) result }
+    ensures asks { AsksUpTo 1048576 (C.asked certificate.old) (C.asked certificate.new) (C.dry certificate.old) (C.dry certificate.new) }
+    ensures sink { IfErr result (λ e. e ≢ Failure.Sink) }
+{
+    match load_certificate(alloc, certificate) {
+        Ok(certificate) => keep_judged(alloc, tables, &certificate, text),
+        Err(Unloaded::Refused(fault)) => keep_fault(fault, text),
+        Err(Unloaded::Failed(failure)) => Err(failure),
+    }
+}
+
+// Makes the page of the texts of tables and of a certificate, the tables' first.
+fn judge_sources<T: Source, C: Source>(
+    alloc: Global,
+    tables: &mut T,
+    certificate: &mut C,
+    text: &mut Vec<u8>,
+) -> Result<Outcome, Failure>
+    requires tables { T.failed tables.old + 1 < 2 ^ 64 }
+    requires certificate { C.failed certificate.old + 1 < 2 ^ 64 }
+    ensures answer { (rows given : List ℕ) → T.remaining tables.old ≡ Some rows → C.remaining certificate.old ≡ Some given
+        → Judged (AnswersReport rows given) text.new.items result }
+    ensures source { Raises (T.failed tables.old + C.failed certificate.old) (T.failed tables.new + C.failed certificate.new) result }
+    ensures asks_tables { AsksUpTo 1048576 (T.asked tables.old) (T.asked tables.new) (T.dry tables.old) (T.dry tables.new) }
+    ensures asks_certificate { AsksUpTo 1048576 (C.asked certificate.old) (C.asked certificate.new) (C.dry certificate.old) (C.dry certificate.new) }
+    ensures order { IfSome (T.remaining tables.old) (λ rows. OnlyBehind (tables_of rows) (certificate.new ≡ certificate.old)) }
+    ensures sink { IfErr result (λ e. e ≢ Failure.Sink) }
+{
+    match load(alloc, tables) {
+        Ok(tables) => judge_source(alloc, &tables, certificate, text),
+        Err(Unloaded::Refused(fault)) => keep_unreadable(fault, text),
+        Err(Unloaded::Failed(failure)) => Err(failure),
+    }
+}
+
+/// Writes the page on a certificate for tables onto a sink, both read whole from their sources, the tables first; where one
+/// of them can't be read, its line.
+///
+/// It ends `Done` where the certificate is accepted, `Refused` where it is refused, `Unreadable` where a text can't be read,
+/// `Failed` where a device failed or memory was refused: then `failed device` or `failed memory` was written, behind nothing
+/// or whole lines of what was to be written. No clause says what stands in the page.
+pub fn run_report<T: Source, C: Source, K: Sink>(
+    alloc: Global,
+    tables: &mut T,
+    certificate: &mut C,
+    sink: &mut K,
+) -> Exit
+    requires tables { T.failed tables.old + 1 < 2 ^ 64 }
+    requires certificate { C.failed certificate.old + 1 < 2 ^ 64 }
+    requires sink { K.failed sink.old + 1 < 2 ^ 64 }
+    ensures reports { (rows given : List ℕ) → T.remaining tables.old ≡ Some rows → C.remaining certificate.old ≡ Some given
+        → ReportsPage rows given (K.contents sink.old) (K.contents sink.new)
+        (T.failed tables.old + C.failed certificate.old) (T.failed tables.new + C.failed certificate.new)
+        (K.failed sink.old) (K.failed sink.new) result }
+    ensures reported { Reported Any (K.contents sink.old) (K.contents sink.new)
+        (T.failed tables.old + C.failed certificate.old) (T.failed tables.new + C.failed certificate.new)
+        (K.failed sink.old) (K.failed sink.new) result }
+    ensures asks_tables { AsksUpTo 1048576 (T.asked tables.old) (T.asked tables.new) (T.dry tables.old) (T.dry tables.new) }
+    ensures asks_certificate { AsksUpTo 1048576 (C.asked certificate.old) (C.asked certificate.new) (C.dry certificate.old) (C.dry certificate.new) }
+    ensures order { IfSome (T.remaining tables.old) (λ rows. OnlyBehind (tables_of rows) (certificate.new ≡ certificate.old)) }
+    ensures left { LeavesSink (K.failed sink.old) (K.failed sink.new) (K.last_failed sink.new) (K.hidden sink.new) }
+    ensures quiet { result ≢ Exit.Failed → T.failed tables.new + C.failed certificate.new + K.failed sink.new
+        ≡ T.failed tables.old + C.failed certificate.old + K.failed sink.old }
+{
+    let mut text = Vec::new(alloc);
+    let judged = judge_sources(alloc, tables, certificate, &mut text);
+    let mut writer = LineWriter::new();
+    let ended = say(judged, text.as_slice(), &mut writer, sink);
+    report(ended, &mut writer, sink)
+}

@@ -1,0 +1,114 @@
+//! The whole page.
+
+ghost use Rattle.std.specs.Prelude.{◌≡◌, length};
+ghost use Rattle.dc_cert.specs.Bounds.{certificate_rows};
+ghost use Rattle.dc_check.specs.Verdict.{IsSized};
+
+use crate::claims::push_claims;
+use crate::input::push_input;
+use crate::known::{inputs_known, outputs_known};
+use crate::output::push_output;
+use crate::style::{FOOT, HEAD};
+use crate::summary::push_summary;
+use crate::verdict::{push_accepted, push_refused};
+use dc_cert::Certificate;
+use dc_check::{misnamed, verdict};
+use dc_margin::{InputMargins, OutputMargins};
+use dc_tables::Tables;
+use std::alloc::{AllocError, Global};
+
+/// Adds the margins and the drawings of all parts, given the margins of the inputs and outputs.
+fn push_parts(
+    text: &mut String,
+    tables: &Tables,
+    certificate: &Certificate,
+    inputs: &[InputMargins],
+    outputs: &[OutputMargins],
+) -> Result<(), AllocError>
+    requires sized { IsSized tables.now (certificate_rows certificate.now) }
+    requires inputs { length inputs.now ≡ length tables.now.buses }
+    requires outputs { length outputs.now ≡ length tables.now.outputs }
+{
+    push_summary(text, tables, certificate, inputs, outputs)?;
+    text.push_str("<h2>Inputs</h2>\n")?;
+    for bus in 0..tables.bus_count() {
+        push_input(text, tables, certificate, bus, &inputs[bus])?;
+    }
+    text.push_str("<h2>Outputs</h2>\n")?;
+    for output in 0..tables.output_count() {
+        push_output(text, tables, certificate, output, &outputs[output])?;
+    }
+    Ok(())
+}
+
+/// Adds what is promised, where that is something, and all parts.
+fn push_named(
+    alloc: Global,
+    text: &mut String,
+    tables: &Tables,
+    certificate: &Certificate,
+    is_accepted: bool,
+) -> Result<(), AllocError>
+    requires sized { IsSized tables.now (certificate_rows certificate.now) }
+{
+    if is_accepted {
+        push_claims(text, tables, certificate)?;
+    }
+    let inputs = inputs_known(alloc, tables, certificate)?;
+    let outputs = outputs_known(alloc, tables, certificate)?;
+    push_parts(
+        text,
+        tables,
+        certificate,
+        inputs.as_slice(),
+        outputs.as_slice(),
+    )
+}
+
+/// Adds the verdict. The answer is whether the certificate is accepted.
+fn push_verdict(
+    text: &mut String,
+    tables: &Tables,
+    certificate: &Certificate,
+) -> Result<bool, AllocError> {
+    match verdict(tables, certificate) {
+        Ok(()) => {
+            push_accepted(text, tables)?;
+            Ok(true)
+        }
+        Err(fault) => {
+            push_refused(text, tables, fault)?;
+            Ok(false)
+        }
+    }
+}
+
+/// Adds all of the page.
+fn push_page(
+    alloc: Global,
+    text: &mut String,
+    tables: &Tables,
+    certificate: &Certificate,
+) -> Result<(), AllocError> {
+    text.push_str(HEAD)?;
+    let is_accepted = push_verdict(text, tables, certificate)?;
+    if misnamed(tables, certificate).is_none() {
+        push_named(alloc, text, tables, certificate, is_accepted)?;
+    }
+    text.push_str(FOOT)
+}
+
+/// The page on a certificate for tables: HTML that is whole in itself and well-formed as XML. A certificate whose names
+/// are not those of the tables has its verdict alone.
+///
+/// # Errors
+/// `AllocError` where an allocation failed.
+pub fn page(
+    alloc: Global,
+    tables: &Tables,
+    certificate: &Certificate,
+) -> Result<String, AllocError> {
+    let mut text = String::new(alloc);
+    push_page(alloc, &mut text, tables, certificate)?;
+    Ok(text)
+}

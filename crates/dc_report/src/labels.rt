@@ -1,0 +1,149 @@
+//! The part of a label.
+
+ghost use Rattle.std.specs.Prelude.{◌<◌, length};
+ghost use Rattle.dc_cert.specs.Bounds.{certificate_rows};
+ghost use Rattle.dc_check.specs.Verdict.{IsSized};
+
+use crate::amount::{Amount, Grouped, Unit, ticks};
+use crate::escape::Escaped;
+use crate::facts::{LabelFacts, label_facts, source_at, source_facts};
+use crate::frame::{push_age, push_interval, push_strip};
+use crate::rules::{Row, label_rows, remedy};
+use dc_cert::Certificate;
+use dc_tables::Tables;
+use std::alloc::AllocError;
+
+/// Adds the margin of a condition, and what to do where it fails.
+fn push_margin(text: &mut String, row: Row) -> Result<(), AllocError> {
+    let code = row.condition.code();
+    if !row.fails() {
+        return write!(text, "<br/>{code}: {row}");
+    }
+    let remedy = remedy(row.condition);
+    write!(
+        text,
+        "<br/><b class='no'>&#10007; {code}: {row}</b><br/><span class='todo'>What to do: {remedy}</span>"
+    )
+}
+
+/// Adds where the label stands in its frame.
+fn push_due(text: &mut String, tables: &Tables, label: usize) -> Result<(), AllocError>
+    requires { label < length tables.now.labels }
+{
+    tables.valid();
+    let output = tables.output(tables.label(label).output);
+    text.push_str("<div>")?;
+    push_strip(text, output.entries.as_slice(), output.frame, Some(label))?;
+    let times = tables.label_offsets(label).len();
+    let due = Amount {
+        count: times as u64,
+        unit: Unit::Entries,
+    };
+    let frame = ticks(output.frame);
+    write!(text, "{due} in {frame}</div>\n")
+}
+
+/// Adds the label's interval, with its margins.
+fn push_gaps(text: &mut String, facts: &LabelFacts, rows: &[Row; 5]) -> Result<(), AllocError> {
+    text.push_str("<div>")?;
+    push_interval(text, facts)?;
+    let minimum = Grouped(u64::from(facts.minimum));
+    let maximum = ticks(facts.maximum);
+    let least = Grouped(facts.least_gap);
+    let greatest = Grouped(facts.greatest_gap);
+    let delay = Grouped(u64::from(facts.output_delay));
+    write!(
+        text,
+        "wanted {minimum} to {maximum}; gaps {least} to {greatest}, &#177; {delay}"
+    )?;
+    let [soon, late, _, _, _] = *rows;
+    push_margin(text, soon)?;
+    push_margin(text, late)?;
+    text.push_str("</div>\n")
+}
+
+/// Adds the label's age, with its margins.
+fn push_ages(text: &mut String, facts: &LabelFacts, rows: &[Row; 5]) -> Result<(), AllocError> {
+    text.push_str("<div>")?;
+    push_age(text, facts)?;
+    let stale = Grouped(u64::from(facts.stale));
+    let delay = Grouped(u64::from(facts.slowest));
+    let age = Grouped(u64::from(facts.age));
+    let limit = Grouped(u64::from(facts.age_limit));
+    write!(
+        text,
+        "stale {stale} + delay {delay}; age {age}, limit {limit}"
+    )?;
+    let [_, _, age_row, limit_row, _] = *rows;
+    push_margin(text, age_row)?;
+    push_margin(text, limit_row)?;
+    text.push_str("</div>\n")
+}
+
+/// Adds a source: the longest time between two of its words as they are taken, of the time for which it is fresh.
+fn push_source(
+    text: &mut String,
+    tables: &Tables,
+    certificate: &Certificate,
+    stale: u32,
+    stream: usize,
+) -> Result<(), AllocError>
+    requires sized { IsSized tables.now (certificate_rows certificate.now) }
+    requires there { stream < length tables.now.streams }
+{
+    let facts = source_facts(tables, certificate, stream);
+    let name = Escaped(facts.name.text());
+    let bus = Escaped(facts.bus.text());
+    let delay = facts.delay;
+    let maximum = facts.maximum;
+    let slack = i64::from(stale)
+        .saturating_sub(i64::from(delay))
+        .saturating_sub(i64::from(maximum));
+    write!(
+        text,
+        "<br/>{name} ({bus}): {delay} + {maximum}, slack {slack}"
+    )
+}
+
+/// Adds the label's sources, with the margin of C12.
+fn push_sources(
+    text: &mut String,
+    tables: &Tables,
+    certificate: &Certificate,
+    facts: &LabelFacts,
+    label: usize,
+) -> Result<(), AllocError>
+    requires sized { IsSized tables.now (certificate_rows certificate.now) }
+    requires there { label < length tables.now.labels }
+{
+    let stale = Grouped(u64::from(facts.stale));
+    write!(text, "<div>delay + longest interval, of {stale}")?;
+    for place in 0..tables.label(label).sources.len() {
+        let stream = source_at(tables, label, place);
+        push_source(text, tables, certificate, facts.stale, stream)?;
+    }
+    let [_, _, _, _, fresh] = label_rows(&facts.margins);
+    push_margin(text, fresh)?;
+    text.push_str("</div>\n")
+}
+
+/// Adds the part of the label of this number.
+pub fn push_label(
+    text: &mut String,
+    tables: &Tables,
+    certificate: &Certificate,
+    label: usize,
+) -> Result<(), AllocError>
+    requires sized { IsSized tables.now (certificate_rows certificate.now) }
+    requires there { label < length tables.now.labels }
+{
+    let facts = label_facts(tables, certificate, label);
+    let rows = label_rows(&facts.margins);
+    let name = Escaped(facts.name.text());
+    write!(text, "<div class='l'><h4>Label {name}</h4><div class='g'>")?;
+    push_due(text, tables, label)?;
+    push_gaps(text, &facts, &rows)?;
+    push_ages(text, &facts, &rows)?;
+    push_sources(text, tables, certificate, &facts, label)?;
+    text.push_str("</div></div>\n")
+}

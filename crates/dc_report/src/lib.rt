@@ -1,0 +1,22 @@
+//! The report on a certificate: one page of HTML that holds all of itself, with its plots as inline SVG.
+#![tactic(auto)]
+
+mod amount;
+mod claims;
+mod escape;
+mod facts;
+mod frame;
+mod html;
+mod input;
+mod known;
+mod labels;
+pub mod laws;
+mod output;
+mod plot;
+mod rules;
+mod shares;
+mod style;
+mod summary;
+mod verdict;
+
+pub use html::page;
