@@ -71,7 +71,7 @@ fn copy(alloc: Global, text: &[u8], piece: usize, limit: u64) -> Result<MemSink,
             }
             None => {
                 writer.flush(&mut sink)?;
-                if !reader.fill(&mut source, &writer, &sink)? {
+                if !reader.fill(&mut source, &writer, &mut sink)? {
                     break;
                 }
             }
