@@ -202,9 +202,9 @@ fn judge_sources<T: Source, C: Source>(
 /// that. A certificate with other names than the tables' has the verdict alone.
 ///
 /// It ends `Done` where the certificate is accepted, `Refused` where it is refused, `Unreadable` where a text can't be
-/// read; `Failed` where a device failed or memory was refused: then `failed device` or `failed memory` was written, and
-/// nothing else. A push or flush that failed is the last call of the sink, and at most one pull of each source gives no
-/// byte.
+/// read; `Failed` where a device failed or memory was refused: `failed memory` alone was written, or `failed device` behind
+/// whole lines of a front of the answer; where a push or flush failed, a front of one of these or of the answer. That
+/// call is the last of the sink, and at most one pull of each source gives no byte.
 pub fn run_margins<T: Source, C: Source, K: Sink>(
     alloc: Global,
     tables: &mut T,

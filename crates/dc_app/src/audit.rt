@@ -245,10 +245,10 @@ fn audit_sources<T: Source, C: Source, S: Source>(
 /// the three is reported in a line, with the first place at which it fails.
 ///
 /// It ends `Done` where all three hold, `Refused` where one fails or the certificate is refused, `Unreadable` where a
-/// text can't be read, `Failed` where a device failed or memory was refused: then `failed device` or `failed memory`
-/// was written, and nothing else. The certificate is asked for only where the tables are in order, and the trace only
-/// where the certificate is accepted for them. A push or flush that failed is the last call of the sink, and at most
-/// one pull of each source gives no byte.
+/// text can't be read, `Failed` where a device failed or memory was refused: `failed memory` alone was written, or
+/// `failed device` behind whole lines of a front of the answer; where a push or flush failed, a front of one of these or
+/// of the answer. That call is the last of the sink, and at most one pull of each source gives no byte. The certificate
+/// is asked for only where the tables are in order, and the trace only where the certificate is accepted for them.
 pub fn run_audit<T: Source, C: Source, S: Source, K: Sink>(
     alloc: Global,
     tables: &mut T,

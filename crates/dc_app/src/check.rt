@@ -91,8 +91,9 @@ fn judge_sources<T: Source, C: Source>(
 ///
 /// It ends `Done` where the certificate is accepted, and then it keeps its claims in every admissible run of the
 /// tables; `Refused` where it is refused; `Unreadable` where a text can't be read; `Failed` where a device failed or
-/// memory was refused: then `failed device` or `failed memory` was written, and nothing else. A push or flush that
-/// failed is the last call of the sink, and at most one pull of each source gives no byte.
+/// memory was refused: `failed memory` alone was written, or `failed device` behind the line or nothing; where a push or
+/// flush failed, a front of one of these or of the line. That call is the last of the sink, and at most one pull of each
+/// source gives no byte.
 pub fn run_check<T: Source, C: Source, K: Sink>(
     alloc: Global,
     tables: &mut T,

@@ -115,12 +115,13 @@ fn answer<S: Source, K: Sink>(
     }
 }
 
-/// Decodes the words on a source, one a line, onto a sink, with no memory but two fixed buffers.
+/// Decodes the words on a source, one a line, onto a sink, with no memory but fixed buffers.
 ///
-/// It ends `Done` at the end of the text; `Unreadable` at the first faulty line, whose fault was written after the lines
-/// before it; `Failed` where a device failed. After a failed pull whole lines of the answer and then
-/// `failed device` were written; a push or flush that failed is the last call of the sink, and at most one pull of the
-/// source gives no byte. Where a pull found the end of the text, the lines of all its whole lines had been seen before it.
+/// It ends `Done` at the end of the text; `Unreadable` at the first faulty line, whose fault was written after the
+/// lines before it; `Failed` where a device failed. Where a pull alone failed, whole lines of a front of the answer and
+/// then `failed device` were written; a push or flush that failed is the last call of the sink, and at most one pull of
+/// the source gives no byte. Where a pull found the end of the text, the lines of all its whole lines had been seen
+/// before it.
 pub fn run_decode<S: Source, K: Sink>(format: Format, source: &mut S, sink: &mut K) -> Exit
     requires source { S.failed source.old + 1 < 2 ^ 64 }
     requires sink { K.failed sink.old + 1 < 2 ^ 64 }

@@ -121,8 +121,9 @@ fn judge_source<T: Source>(
 ///
 /// It ends `Done` where a certificate was found, and then it keeps its claims in every admissible run of the tables;
 /// `Refused` where none is accepted; `Unreadable` where the tables can't be read; `Failed` where a device failed or
-/// memory was refused: then `failed device` or `failed memory` was written, and nothing else. A push or flush that
-/// failed is the last call of the sink, and at most one pull of the source gives no byte.
+/// memory was refused: `failed memory` alone was written, or `failed device` behind the line or nothing; where a push or
+/// flush failed, a front of one of these or of the line. That call is the last of the sink, and at most one pull of the
+/// source gives no byte.
 pub fn run_find<T: Source, K: Sink>(alloc: Global, tables: &mut T, sink: &mut K) -> Exit
     requires tables { T.failed tables.old + 1 < 2 ^ 64 }
     requires sink { K.failed sink.old + 1 < 2 ^ 64 }

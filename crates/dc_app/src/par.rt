@@ -107,9 +107,9 @@ impl Judge for Workers {
 ///
 /// It ends `Done` where the certificate is accepted, and then it keeps its claims in every admissible run of the
 /// tables; `Refused` where it is refused; `Unreadable` where a text can't be read; `Failed` where a device failed,
-/// memory was refused or a thread could not be started: then `failed device`, `failed memory` or `failed threads` was
-/// written, and nothing else. A push or flush that failed is the last call of the sink, and at most one pull of each
-/// source gives no byte.
+/// memory was refused or a thread could not be started: `failed memory` or `failed threads` alone was written, or
+/// `failed device` behind the line or nothing; where a push or flush failed, a front of one of these or of the line.
+/// That call is the last of the sink, and at most one pull of each source gives no byte.
 pub fn run_check_par<T: Source, C: Source, K: Sink, R: Threads + Wait + Sync>(
     rt: &R,
     alloc: Global,

@@ -260,10 +260,10 @@ fn replay<T: Source, S: Source, K: Sink>(
 ///
 /// It ends `Done` at the end of the trace; `Refused` at the first event that may not follow, `Unreadable` at the first
 /// fault of the tables or of the trace, whose line was written after the lines before it; `Failed` where a device failed or
-/// memory was refused. After a failed pull whole lines of the answer and then `failed device` were written, and where
-/// memory was refused `failed memory` alone. A push or flush that failed is the last call of the sink, and at most
-/// one pull of each source gives no byte. Where a pull found the end of the trace, the lines of all its events that are
-/// printed had been seen before it.
+/// memory was refused. Where no push or flush failed, whole lines of a front of the answer and then `failed device` were
+/// written, or, where memory was refused, `failed memory` alone. A push or flush that failed is the last call of the
+/// sink, and at most one pull of each source gives no byte. Where a pull found the end of the trace, the lines of all its
+/// events that are printed had been seen before it.
 pub fn run_replay<T: Source, S: Source, K: Sink>(
     alloc: Global,
     all: bool,

@@ -151,8 +151,9 @@ fn end_without_thread<K: Sink>(writer: &mut LineWriter, sink: &mut K) -> Exit
 /// threads share, and writes the answer onto a sink.
 ///
 /// It ends as was judged; as `Unreadable` where a text can't be read; `Failed` where a device failed, memory was refused or
-/// a thread could not be started: then `failed device`, `failed memory` or `failed threads` was written, and nothing else.
-/// A push or flush that failed is the last call of the sink, and at most one pull of each source gives no byte.
+/// a thread could not be started: `failed memory` or `failed threads` alone was written, or `failed device` behind whole
+/// lines of a front of the answer; where a push or flush failed, a front of one of these or of the answer. That call is
+/// the last of the sink, and at most one pull of each source gives no byte.
 pub fn run_in_threads<J: Judge, T: Source, C: Source, K: Sink, R: Threads + Wait + Sync>(
     rt: &R,
     alloc: Global,

@@ -75,12 +75,13 @@ impl Judge for Bench {
 
 /// Judges a certificate for tables, and where it is accepted runs a hub over them for so many ticks, 1 to 1,000, with a
 /// thread for each actor but the clock; then closes it, and writes what is seen of its book: a line each for the ticks,
-/// the entries, the overruns, and the claims by the certificate's ages.
+/// the entries, the overruns, and the claims by the certificate's ages. No clause says that the book is that hub's.
 ///
-/// It ends `Done` where the claims hold; `Refused` where one fails, the certificate is refused or the hub refused; as
+/// It ends `Done` where the claims hold; `Refused` where one fails, the certificate is refused or the hub refused;
 /// `Unreadable` where a text can't be read; `Failed` where a device failed, memory was refused or a thread could not be
-/// started: then `failed device`, `failed memory` or `failed threads` was written, and nothing else. A push or flush that
-/// failed is the last call of the sink, and at most one pull of each source gives no byte.
+/// started: `failed memory` or `failed threads` alone was written, or `failed device` behind whole lines of a front of the
+/// answer; where a push or flush failed, a front of one of these or of the answer. That call is the last of the sink, and
+/// at most one pull of each source gives no byte.
 pub fn run_bench<T: Source, C: Source, K: Sink, R: Threads + Wait + Sync>(
     rt: &R,
     alloc: Global,

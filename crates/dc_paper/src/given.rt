@@ -93,8 +93,9 @@ fn judge_sources<T: Source, C: Source>(
 /// of them can't be read, its line.
 ///
 /// It ends `Done` where the certificate is accepted, `Refused` where it is refused, `Unreadable` where a text can't be read,
-/// `Failed` where a device failed or memory was refused: then `failed device` or `failed memory` was written, behind nothing
-/// or whole lines of what was to be written. No clause says what stands in the page.
+/// `Failed` where a device failed or memory was refused: `failed memory` alone was written, or `failed device` behind nothing
+/// or all that was to be written; where a push or flush failed, a front of one of these or of the latter. No clause says
+/// what stands in the page.
 pub fn run_report<T: Source, C: Source, K: Sink>(
     alloc: Global,
     tables: &mut T,
