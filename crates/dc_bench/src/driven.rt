@@ -31,7 +31,7 @@ const TRACE_LIMIT: usize = 16_777_216;
 /// What is seen of a hub that ran and closed.
 #[derive(Clone, Copy, Debug, PartialEq, Eq)]
 pub struct Seen {
-    /// For how many ticks it ran.
+    /// For how many ticks it was to run.
     pub ticks: u64,
     /// How many entries its book has.
     pub entries: usize,
