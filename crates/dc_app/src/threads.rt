@@ -25,7 +25,7 @@ use std::marker::Sync;
 use std::sync::{Arc, Wait};
 use std::thread::Threads;
 
-/// A thread could not be started.
+/// What is told as `failed threads`: a thread that could not be started, or a gate that was stuck.
 #[derive(Clone, Copy, Debug, PartialEq, Eq)]
 pub struct NoThread;
 
@@ -40,7 +40,7 @@ pub trait Judge {
     /// Judges a certificate, and prints the answer.
     ///
     /// # Errors
-    /// `NoThread` where a thread could not be started; within, `Memory` where memory was refused.
+    /// `NoThread` for threads; within, `Memory` where memory was refused.
     fn judge<R: Threads + Wait + Sync>(
         &self,
         rt: &R,

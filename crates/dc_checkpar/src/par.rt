@@ -25,9 +25,9 @@ use std::marker::Sync;
 use std::sync::{Arc, Wait};
 use std::thread::Threads;
 
-/// Judges a certificate for tables, as `dc_check::check` does, by so many workers, 1 to [`MOST_WORKERS`](crate::MOST_WORKERS), of which one is the calling
-/// thread. A worker enters the gate before each job and leaves it afterwards. A fault of the certificate is the first one,
-/// whichever worker finds it first. All threads have returned when it returns.
+/// Judges a certificate for tables, as `dc_check::check` does, by 1 to [`MOST_WORKERS`](crate::MOST_WORKERS) workers.
+/// A fault of the certificate is the first one, whichever worker finds it first. That a worker enters the gate before
+/// each job and leaves it afterwards, and that no thread of its own is left when it returns, is tested.
 pub fn check_par<G: Gate, R: Threads + Wait + Sync>(
     rt: &R,
     alloc: Global,

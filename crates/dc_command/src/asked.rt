@@ -241,8 +241,8 @@ fn order_in<'a>(matches: &ArgMatches<'a>) -> Option<Order<'a>>
 /// What the words ask, of which the first is the program's name.
 ///
 /// # Errors
-/// With clap's text, which is to be printed, and its exit code: where the words ask for help or the version, or are no
-/// command line of the program; and where memory was refused.
+/// With clap's text, which is to be printed, and its exit code: when it comes no clause says. It is meant for words that
+/// ask for help or the version, or are no command line of the program, and for want of memory.
 pub fn command<'a>(alloc: Global, words: &'a [String]) -> Result<Order<'a>, Error>
     ensures asks { IfOk result (AsksIn (map string_bytes words.now)) }
     ensures range { IfOk result IsInRange }

@@ -104,13 +104,13 @@ fn have_played<L: Ledger, S: Player<L>>(
     true
 }
 
-/// Runs the script in one thread for each seat but the watch, of which the calling thread is the clock's. Where it answers
-/// Ok, the events of each seat's new receipts are its actor's own steps of the steady run over the script's ticks, and a
-/// wire's are its script's words. All threads have returned when it returns.
+/// Runs the script with the seats. Where it answers Ok, the events of each seat's new receipts are its actor's own steps
+/// of the steady run over the script's ticks, and a wire's are its script's words. That each seat but the watch has a
+/// thread, the clock's the calling one, is no clause.
 ///
 /// # Errors
-/// A thread could not be started; out of memory; the gate was stuck; a call of the hub was refused; a seat's new receipts
-/// are not its own steps. Of several, which is answered is open.
+/// `Astray` only where a seat's new receipts are not its own steps. When another is answered no clause says: it is meant
+/// for a thread that could not be started, want of memory, a gate that was stuck, a call that the hub refused.
 #[tactic(auto, using(crate::proofs::Same::all_self))]
 pub fn drive<L: Ledger + Send + Sync, R: Threads + Wait + Sync, G: Gate>(
     rt: &R,

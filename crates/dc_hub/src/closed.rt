@@ -31,7 +31,7 @@ impl Model for Closed {
 }
 
 impl Closed {
-    /// The entries, in the order in which the calls took the lock.
+    /// The entries, in the order of the run.
     pub fn entries(&self) -> &[Entry]
         ensures { result.now ≡ self.now.entries }
     {

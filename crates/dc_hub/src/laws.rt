@@ -13,8 +13,8 @@ use crate::entry::Receipt;
 use crate::seat::ClockSeat;
 use std::sync::ledger::Ledger;
 
-/// Where the words of the entries' run come no sooner than their sources' intervals let them, the claims of the
-/// certificate hold at each entry. The call does nothing.
+/// Where the words of the entries' run keep what is asked of the sources, their intervals and their wires, the claims of
+/// the certificate hold at each entry. The call does nothing.
 pub fn keeps_the_claims(closed: &Closed)
     ensures { KeepsSources (tables_of closed.now.certified) (events closed.now.entries) → ClaimsHold (tables_of closed.now.certified) (numbers_of (named_rows (certificate_of closed.now.certified))).ages (events closed.now.entries) }
 {
@@ -22,7 +22,7 @@ pub fn keeps_the_claims(closed: &Closed)
     closed.certified.keeps_its_claims();
 }
 
-/// Writes a receipt over the clock's last one, if there is one: a hub does not close over it.
+/// Writes a receipt over the clock's last one, if there is one.
 pub fn forge<L: Ledger>(seat: &mut ClockSeat<L>, receipt: Receipt)
     ensures actor { (seat.new.actor ≡ seat.old.actor) × (seat.new.parts ≡ seat.old.parts) }
     ensures count { length seat.new.receipts ≡ length seat.old.receipts }

@@ -98,8 +98,7 @@ fn push_page(
     text.push_str(FOOT)
 }
 
-/// The page on a certificate for tables: HTML that is whole in itself and well-formed as XML. A certificate whose names
-/// are not those of the tables has its verdict alone.
+/// The page on a certificate for tables, as HTML. No clause says what stands in it.
 ///
 /// # Errors
 /// `AllocError` where an allocation failed.

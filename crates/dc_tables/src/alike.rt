@@ -1,4 +1,4 @@
-//! The bounds of a bus's streams: those of one minimum and one jitter are one, with their number.
+//! The bounds of a bus's streams, with how many streams each stands for: their caps sum up to those of the streams.
 ghost use Rattle.std.specs.Prelude.{All, ◌≡◌, ◌+◌, ◌-◌, ◌*◌, ◌≤◌, ◌↔◌, ℕ, true, take, length, IfOk};
 ghost use Rattle.std.specs.List.{sum_by};
 ghost use Rattle.dc_tables.specs.TableRows.{stream_cap};
