@@ -27,7 +27,7 @@ use std::thread::Threads;
 
 /// Judges a certificate for tables, as `dc_check::check` does, by 1 to [`MOST_WORKERS`](crate::MOST_WORKERS) workers.
 /// A fault of the certificate is the first one, whichever worker finds it first. That a worker enters the gate before
-/// each job and leaves it afterwards, and that no thread of its own is left when it returns, is tested.
+/// each job and leaves it afterwards is tested.
 pub fn check_par<G: Gate, R: Threads + Wait + Sync>(
     rt: &R,
     alloc: Global,
