@@ -28,7 +28,7 @@ name_field name = name ++ drop (length name) (codes "                ")
 abbrev pub number_field : List ℕ → List ℕ
 number_field number = drop (length number) (codes "       ") ++ number
 
--- the number of a margin: `-` where it is not told, `none` where no delay up to 100,000 passes
+-- the number of a margin: `-` where it is not told, `none` where no delay up to the longest passes
 abbrev pub room_text : Option ℤ → List ℕ
 room_text None = codes "none"
 room_text (Some slack) = signed_decimal slack

@@ -6,6 +6,8 @@ ghost use Rattle.dc_advice.specs.Lines.{by_text, decider_text, margin_text, meas
 ghost use Rattle.dc_check.specs.Placed.{part_count};
 ghost use Rattle.dc_margin.specs.Lines.{IsDeciderThere, IsLinePlaced};
 ghost use Rattle.dc_print.specs.Verdicts.{member_name};
+ghost use Rattle.dc_parts.specs.declared.limits.TheConstants.{NAME_LIMIT};
+ghost use Rattle.dc_print.specs.declared.text.TheConstants.{TEXT_CAPACITY};
 
 use dc_check::CertificateList;
 use dc_margin::{Decider, Margin, MarginLine, Measure};
@@ -41,7 +43,7 @@ fn part(part: CertificateList) -> &'static [u8]
 fn name(tables: &Tables, part: CertificateList, index: usize) -> &[u8]
     requires { index < part_count tables.now part }
     ensures text { result.now ≡ member_name tables.now part index }
-    ensures short { length result.now ≤ 16 }
+    ensures short { length result.now ≤ NAME_LIMIT }
 {
     match part {
         CertificateList::Inputs => tables.bus_name(index).text(),
@@ -53,7 +55,7 @@ fn name(tables: &Tables, part: CertificateList, index: usize) -> &[u8]
 // Puts a name and its blanks at the end.
 fn append_name(text: &mut Text, name: &[u8])
     requires room { array_vec_len text.old ≤ 60 }
-    requires short { length name.now ≤ 16 }
+    requires short { length name.now ≤ NAME_LIMIT }
     ensures items { text.new.items ≡ text.old.items ++ name_field name.now }
     ensures len { array_vec_len text.new ≤ array_vec_len text.old + 32 }
 {
@@ -104,7 +106,7 @@ fn measure(measure: Measure) -> &'static [u8]
 
 // Puts what decides a margin at the end.
 fn append_decider(text: &mut Text, tables: &Tables, decider: Decider)
-    requires room { array_vec_len text.old ≤ 110 }
+    requires room { array_vec_len text.old + 34 ≤ TEXT_CAPACITY }
     requires there { IsDeciderThere tables.now decider }
     ensures { text.new.items ≡ text.old.items ++ decider_text tables.now decider }
 {
@@ -127,7 +129,7 @@ fn append_decider(text: &mut Text, tables: &Tables, decider: Decider)
 
 // Puts what decides a margin at the end, where it is told.
 fn append_by(text: &mut Text, tables: &Tables, margin: Option<Margin>)
-    requires room { array_vec_len text.old ≤ 110 }
+    requires room { array_vec_len text.old + 34 ≤ TEXT_CAPACITY }
     requires there { IfSome margin (λ m. IsDeciderThere tables.now m.decider) }
     ensures { text.new.items ≡ text.old.items ++ by_text tables.now margin }
 {

@@ -38,13 +38,13 @@ abbrev pub unless_faulty : List Event → Option TraceFault → Result (List Eve
 unless_faulty events None = Ok events
 unless_faulty events (Some fault) = Err fault
 
--- the run that a trace tells, or its first fault: after 100,000 events a line is one too many
+-- the run that a trace tells, or its first fault: after the most events a line is one too many
 abbrev pub run_reported : Trace → Result (List Event) TraceFault
 run_reported trace =
     if nat_lt MOST_EVENTS (length trace.events) then Err (record { rule = LineTooLong; line = MOST_EVENTS + 1 })
     else unless_faulty trace.events trace.fault
 
--- the same of a text of at most 2^30 bytes
+-- the same of a text within the limit of a trace
 abbrev pub run_of : TableRows → List ℕ → Result (List Event) TraceFault
 run_of t text = run_reported (trace_of t TRACE_LIMIT text)
 

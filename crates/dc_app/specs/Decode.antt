@@ -9,6 +9,7 @@ use Rattle.dc_event.specs.declared.trace.LineRule.TheVariants.{LineTooLong, NotA
 use Rattle.dc_app.specs.declared.decode.TheConstants.{STREAM_LIMIT}
 use Rattle.dc_answer.specs.Answer.{Answer, after_all, fault, nothing}
 use Rattle.dc_print.specs.Words.{line_of}
+use Rattle.dc_device.specs.declared.reader.TheConstants.{LINE_LIMIT}
 
 -- the answer to a line with its number, where `rest` answers the lines after it
 abbrev pub answer_word : Format → ℕ → Option ℕ → Answer → Answer
@@ -22,7 +23,7 @@ answer_end number (b ∷ bs) = fault (line_rule_code LineNotEnded) number
 
 -- whether a line or the text is too long with so many bytes of the one and of the other
 abbrev pub too_long : ℕ → ℕ → ℕ → Bool
-too_long room line text = nat_lt 64 line || nat_lt room text
+too_long room line text = nat_lt LINE_LIMIT line || nat_lt room text
 
 -- the answer to what stands after the last line feed
 abbrev pub answer_rest : ℕ → ℕ → List ℕ → Answer
@@ -38,7 +39,7 @@ answer_lines format room number (l ∷ ls) rest =
 abbrev pub answer_text : Format → ℕ → ℕ → List ℕ → Answer
 answer_text format room number text = answer_lines format room number (lines_of text).0 (lines_of text).1
 
--- what `decode` writes for a text: its limit is 2^63 - 1 bytes
+-- what `decode` writes for a text: within its limit
 abbrev pub decode_text : Format → List ℕ → Answer
 decode_text format text = answer_text format STREAM_LIMIT 1 text
 

@@ -49,7 +49,7 @@ pub record Replays (t : TableRows) (all : Bool) (trace : Trace) (whole : Bool) (
   pub goes_on : GoesOn whole t done rest trace.fault last
   pub said : answer ≡ after_all (run_lines t all done) last
 
--- the answer to the text of a trace of at most 2^30 bytes, where the tables read so
+-- the answer to the text of a trace within its limit, where the tables read so
 abbrev pub AnswersTrace : Bool → List ℕ → Bool → Answer → Result TableRows BuildError → Type 0
 AnswersTrace all text whole answer (Ok t) = Replays t all (trace_of t TRACE_LIMIT text) whole answer
 AnswersTrace all text whole answer (Err (Refused f)) = answer ≡ tables_end f

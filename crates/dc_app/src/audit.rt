@@ -15,6 +15,7 @@ ghost use Rattle.dc_app.specs.Audit.{AnswersAudit, AnswersClaims, AnswersRun, Ar
 ghost use Rattle.dc_app.specs.Check.{Certifies};
 ghost use Rattle.dc_answer.specs.Inputs.{OnlyBehind};
 ghost use Rattle.dc_answer.specs.Judging.{Judged};
+ghost use Rattle.dc_print.specs.declared.text.TheConstants.{TEXT_CAPACITY};
 
 use crate::check::judge;
 use crate::recording::load_run;
@@ -62,7 +63,7 @@ fn findings_of(
 
 // Puts the line of the budgets or of the sources at the end.
 fn append_holds(text: &mut Text, subject: &[u8], place: Option<usize>)
-    requires { array_vec_len text.old + length subject.now + 30 ≤ 144 }
+    requires { array_vec_len text.old + length subject.now + 30 ≤ TEXT_CAPACITY }
     ensures items { text.new.items ≡ text.old.items ++ holds_text subject.now place }
     ensures len { array_vec_len text.new ≤ array_vec_len text.old + length subject.now + 29 }
 {
@@ -78,7 +79,7 @@ fn append_holds(text: &mut Text, subject: &[u8], place: Option<usize>)
 
 /// Puts the line of the claims at the end.
 pub fn append_claims(text: &mut Text, failure: Option<(Claim, usize)>)
-    requires { array_vec_len text.old ≤ 88 }
+    requires { array_vec_len text.old + 56 ≤ TEXT_CAPACITY }
     ensures { text.new.items ≡ text.old.items ++ claims_text failure }
 {
     match failure {

@@ -79,7 +79,7 @@ fn judge_by<R: Threads + Wait + Sync>(
     }
 }
 
-// The workers that judge, 1 to 64.
+// The workers that judge, 1 to the most workers.
 #[derive(Clone, Copy, Debug, PartialEq, Eq)]
 struct Workers {
     count: u8,
@@ -102,7 +102,7 @@ impl Judge for Workers {
     }
 }
 
-/// Judges a certificate for tables by so many workers, 1 to 64, as [`run_check`](crate::run_check) does by one thread:
+/// Judges a certificate for tables by so many workers, 1 to [`MOST_WORKERS`](dc_checkpar::MOST_WORKERS), as [`run_check`](crate::run_check) does by one thread:
 /// both texts are read whole from their sources, the tables first, and the verdict is written as one line onto a sink.
 ///
 /// It ends `Done` where the certificate is accepted, and then it keeps its claims in every admissible run of the

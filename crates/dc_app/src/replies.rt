@@ -4,6 +4,8 @@ ghost use Rattle.arrayvec.specs.ArrayVec.{array_vec_len};
 ghost use Rattle.dc_event.specs.ReplyText.{arrival_text, is_reported as is_reported_reply, name_at, reply_line, routing_text, sending_text};
 ghost use Rattle.dc_event.specs.WordText.{eight_hex};
 ghost use Rattle.dc_app.specs.Refusals.{actor_name, cause_text, culprit_text, refused_text};
+ghost use Rattle.dc_parts.specs.declared.limits.TheConstants.{NAME_LIMIT};
+ghost use Rattle.dc_print.specs.declared.text.TheConstants.{TEXT_CAPACITY};
 
 use crate::steps::{Refusal, Step};
 use dc_core::StepFault;
@@ -15,7 +17,7 @@ use dc_word::Word;
 // The text of a bus's name.
 fn bus_text(tables: &Tables, bus: usize) -> &[u8]
     ensures text { result.now ≡ name_at tables.now.keys.buses bus }
-    ensures short { length result.now ≤ 16 }
+    ensures short { length result.now ≤ NAME_LIMIT }
 {
     tables.keyed();
     if bus < tables.bus_count() {
@@ -28,7 +30,7 @@ fn bus_text(tables: &Tables, bus: usize) -> &[u8]
 // The text of a router's name.
 fn router_text(tables: &Tables, router: usize) -> &[u8]
     ensures text { result.now ≡ name_at tables.now.keys.routers router }
-    ensures short { length result.now ≤ 16 }
+    ensures short { length result.now ≤ NAME_LIMIT }
 {
     tables.keyed();
     if router < tables.router_count() {
@@ -41,7 +43,7 @@ fn router_text(tables: &Tables, router: usize) -> &[u8]
 // The text of an output's name.
 fn output_text(tables: &Tables, output: usize) -> &[u8]
     ensures text { result.now ≡ name_at tables.now.keys.outputs output }
-    ensures short { length result.now ≤ 16 }
+    ensures short { length result.now ≤ NAME_LIMIT }
 {
     tables.keyed();
     if output < tables.output_count() {
@@ -53,7 +55,7 @@ fn output_text(tables: &Tables, output: usize) -> &[u8]
 
 // Puts words and an ARINC word at the end.
 fn append_word(text: &mut Text, words: &[u8], word: Word)
-    requires { array_vec_len text.old + length words.now + 8 ≤ 96 }
+    requires { array_vec_len text.old + length words.now + 8 ≤ TEXT_CAPACITY }
     ensures { text.new.items ≡ text.old.items ++ words.now ++ eight_hex word }
 {
     append(text, words);
@@ -62,7 +64,7 @@ fn append_word(text: &mut Text, words: &[u8], word: Word)
 
 // Puts an arrival's reply at the end.
 fn append_arrival(text: &mut Text, word: Word, reply: Reply)
-    requires { array_vec_len text.old + 30 ≤ 96 }
+    requires { array_vec_len text.old + 30 ≤ TEXT_CAPACITY }
     ensures { text.new.items ≡ text.old.items ++ arrival_text word reply }
 {
     match reply {
@@ -81,7 +83,7 @@ fn append_arrival(text: &mut Text, word: Word, reply: Reply)
 
 // Puts a routing step's reply at the end.
 fn append_routing(text: &mut Text, tables: &Tables, reply: Reply)
-    requires { array_vec_len text.old + 40 ≤ 96 }
+    requires { array_vec_len text.old + 40 ≤ TEXT_CAPACITY }
     ensures { text.new.items ≡ text.old.items ++ routing_text tables.now reply }
 {
     match reply {
@@ -100,7 +102,7 @@ fn append_routing(text: &mut Text, tables: &Tables, reply: Reply)
 
 // Puts a send's reply at the end.
 fn append_sending(text: &mut Text, reply: Reply)
-    requires { array_vec_len text.old + 30 ≤ 96 }
+    requires { array_vec_len text.old + 30 ≤ TEXT_CAPACITY }
     ensures { text.new.items ≡ text.old.items ++ sending_text reply }
 {
     match reply {
@@ -159,7 +161,7 @@ pub fn is_printed(all: bool, reply: Reply) -> bool
 // The text of an actor's name.
 fn actor_text(tables: &Tables, actor: Actor) -> &[u8]
     ensures text { result.now ≡ actor_name tables.now actor }
-    ensures short { length result.now ≤ 16 }
+    ensures short { length result.now ≤ NAME_LIMIT }
 {
     match actor {
         Actor::Router(router) => router_text(tables, router),
@@ -170,7 +172,7 @@ fn actor_text(tables: &Tables, actor: Actor) -> &[u8]
 
 // Puts the actor that an event was refused for at the end.
 fn append_culprit(text: &mut Text, tables: &Tables, event: Event, fault: StepFault)
-    requires { array_vec_len text.old + 20 ≤ 96 }
+    requires { array_vec_len text.old + 20 ≤ TEXT_CAPACITY }
     ensures items { text.new.items ≡ text.old.items ++ culprit_text tables.now fault event }
     ensures len { array_vec_len text.new ≤ array_vec_len text.old + 17 }
 {
@@ -193,7 +195,7 @@ fn append_culprit(text: &mut Text, tables: &Tables, event: Event, fault: StepFau
 
 // Puts why an event was refused at the end.
 fn append_cause(text: &mut Text, tables: &Tables, event: Event, fault: StepFault)
-    requires { array_vec_len text.old + 30 ≤ 96 }
+    requires { array_vec_len text.old + 30 ≤ TEXT_CAPACITY }
     ensures items { text.new.items ≡ text.old.items ++ cause_text tables.now fault event }
     ensures len { array_vec_len text.new ≤ array_vec_len text.old + 24 }
 {

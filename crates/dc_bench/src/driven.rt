@@ -7,6 +7,7 @@ ghost use Rattle.dc_device.specs.Lines.{spelled};
 ghost use Rattle.dc_drive.specs.Played.{AreOfHub};
 ghost use Rattle.dc_hub.specs.Entries.{events as events_in};
 ghost use Rattle.dc_script.specs.declared.limits.TheConstants.{LONGEST_SCRIPT};
+ghost use Rattle.dc_print.specs.declared.text.TheConstants.{TEXT_CAPACITY};
 
 use dc_answer::{Failure, Outcome};
 use dc_app::{NoThread, append_claims};
@@ -75,7 +76,7 @@ fn seen_of(alloc: Global, ticks: u64, closed: &Closed) -> Result<Seen, AllocErro
 
 // Puts a line of a count at the end.
 fn append_count(text: &mut Text, subject: &[u8], count: u64)
-    requires { array_vec_len text.old + length subject.now + 21 ≤ 144 }
+    requires { array_vec_len text.old + length subject.now + 21 ≤ TEXT_CAPACITY }
     ensures items { text.new.items ≡ text.old.items ++ (count_text subject.now count ++ 10 ∷ []) }
     ensures len { array_vec_len text.new ≤ array_vec_len text.old + length subject.now + 21 }
 {

@@ -2,12 +2,13 @@
 use Rattle.std.specs.Prelude.{ℕ, ◌^◌, ◌<◌, ◌≤◌, length, All, IsTrue}
 use Rattle.dc_cert.specs.NamedRows.{NamedInput, NamedOutput, NamedLabel, NamedRows}
 use Rattle.dc_cert.specs.Names.{is_name}
+use Rattle.dc_cert.specs.declared.read.TheConstants.{LIST_LIMIT}
 
--- lists of at most 1,024 members, and names in their spelling
+-- lists within their limit, and names in their spelling
 pub record IsWithinLimits (claims : NamedRows) : Type 0 where
-  pub few_inputs : length claims.inputs ≤ 1024
-  pub few_outputs : length claims.outputs ≤ 1024
-  pub few_labels : length claims.labels ≤ 1024
+  pub few_inputs : length claims.inputs ≤ LIST_LIMIT
+  pub few_outputs : length claims.outputs ≤ LIST_LIMIT
+  pub few_labels : length claims.labels ≤ LIST_LIMIT
   pub input_names : All (λ claim. IsTrue (is_name claim.bus)) claims.inputs
   pub output_names : All (λ claim. IsTrue (is_name claim.output)) claims.outputs
   pub label_names : All (λ claim. IsTrue (is_name claim.label)) claims.labels

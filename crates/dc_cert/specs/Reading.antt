@@ -15,6 +15,8 @@ use Rattle.dc_cert.specs.declared.fault.TextPlace.TheVariants.{Top, Inputs, Outp
 use Rattle.dc_cert.specs.declared.fault.Fault.{Fault}
 use Rattle.dc_cert.specs.NamedRows.{NamedInput, NamedOutput, NamedLabel, NamedRows}
 use Rattle.dc_cert.specs.Names.{is_name}
+use Rattle.dc_cert.specs.declared.read.TheConstants.{LIST_LIMIT, TEXT_LIMIT}
+use Rattle.dc_cert.specs.declared.keys.TheConstants.{GREATEST_NUMBER}
 
 -- ---- a value or a fault, and the steps that were good so far
 
@@ -66,10 +68,10 @@ shape_of place keys ms = if not (only_keys keys ms) then refused KeyUnknown plac
 
 -- ---- the kinds of values
 
--- a whole number up to 4,294,967,295, else K5
+-- a whole number up to the greatest, else K5
 abbrev pub number_in : TextPlace → Option ℕ → Reading ℕ
 number_in place None = refused WrongKind place
-number_in place (Some n) = if nat_le n 4294967295 then Ok n else refused WrongKind place
+number_in place (Some n) = if nat_le n GREATEST_NUMBER then Ok n else refused WrongKind place
 
 -- the number at a key
 abbrev pub number_at : TextPlace → List ℕ → Members → Reading ℕ
@@ -84,10 +86,10 @@ name_in place (Some s) = if is_name s then Ok s else refused ListOrNameOutOfBoun
 abbrev pub name_at : TextPlace → List ℕ → Members → Reading (List ℕ)
 name_at place key ms = name_in place (option_and_then as_str (get_member key ms))
 
--- a list, else K5, of at most 1,024 members, else K6; both at the top
+-- a list, else K5, within its limit, else K6; both at the top
 abbrev pub list_in : Option Items → Reading Items
 list_in None = refused WrongKind Top
-list_in (Some ds) = if nat_le (items_len ds) 1024 then Ok ds else refused ListOrNameOutOfBounds Top
+list_in (Some ds) = if nat_le (items_len ds) LIST_LIMIT then Ok ds else refused ListOrNameOutOfBounds Top
 
 -- the list at a key of the top
 abbrev pub list_at : List ℕ → Members → Reading Items
@@ -166,9 +168,9 @@ claims_in d = do
   label_claims ← rows_of label_of 0 labels
   Ok (record { inputs = input_claims; outputs = output_claims; labels = label_claims })
 
--- the JSON value that a text is: within 1,048,576 bytes, in UTF-8, by the reading of `serde_json`, else K1
+-- the JSON value that a text is: within its limit, in UTF-8, by the reading of `serde_json`, else K1
 unfoldable pub document_of : List ℕ → Reading Data
-document_of text = if nat_le (length text) 1048576 && is_utf8 text then found (read text) NotJson Top else refused NotJson Top
+document_of text = if nat_le (length text) TEXT_LIMIT && is_utf8 text then found (read text) NotJson Top else refused NotJson Top
 
 -- the certificate of a text
 abbrev pub certificate_of : List ℕ → Reading NamedRows

@@ -3,6 +3,7 @@ ghost use Rattle.std.specs.Prelude.{◌≡◌, ◌+◌, ◌≤◌, ◌++◌, len
 ghost use Rattle.arrayvec.specs.ArrayVec.{array_vec_len};
 ghost use Rattle.dc_cert.specs.declared.fault.CertFault.TheVariants.{Memory, Unreadable};
 ghost use Rattle.dc_cert.specs.Faults.{rule_code, place_text, fault_text};
+ghost use Rattle.dc_cert.specs.declared.fault.TheConstants.{SHORT_TEXT};
 
 use arrayvec::ArrayVec;
 use itoa::Buffer;
@@ -28,17 +29,20 @@ pub enum CertRule {
     /// K5: a value is not of its kind, or a number is not a whole one from 0 to 4,294,967,295.
     #[error("a value is not of its kind, or a number is not a whole one from 0 to 4294967295")]
     WrongKind,
-    /// K6: a list has more than 1,024 members, or a name is not in its spelling.
+    /// K6: a list has more than [`LIST_LIMIT`](crate::LIST_LIMIT) members, or a name is not in its spelling.
     #[error("a list has more than 1024 members, or a name is not 1 to 16 of A-Z a-z 0-9 _ -")]
     ListOrNameOutOfBounds,
 }
 
+/// The room of a short text, in bytes.
+pub const SHORT_TEXT: usize = 64;
+
 /// A short text, as bytes.
-pub type ShortText = ArrayVec<u8, 64>;
+pub type ShortText = ArrayVec<u8, SHORT_TEXT>;
 
 // Puts bytes at the end.
 fn append(text: &mut ShortText, bytes: &[u8])
-    requires { array_vec_len text.old + length bytes.now ≤ 64 }
+    requires { array_vec_len text.old + length bytes.now ≤ SHORT_TEXT }
     ensures items { text.new.items ≡ text.old.items ++ bytes.now }
     ensures len { array_vec_len text.new ≡ array_vec_len text.old + length bytes.now }
 {

@@ -17,6 +17,9 @@ pub type Members = Map<String, Value>;
 // The longest name, in bytes.
 const NAME_LIMIT: usize = 16;
 
+// The greatest number: those of the program's rows have 32 bits.
+const GREATEST_NUMBER: u64 = 4_294_967_295;
+
 /// The members of a value that is an object.
 pub fn object(value: &Value, place: TextPlace) -> Result<&Members, Fault>
     ensures { seen (λ m. members_view m.now.entries) result ≡ object_of place (view value.now) }
@@ -113,7 +116,7 @@ pub fn number(members: &Members, key: &str, place: TextPlace) -> Result<u32, Fau
     let Some(n) = whole(members, key) else {
         return Err(refused);
     };
-    if n > u64::from(u32::MAX) {
+    if n > GREATEST_NUMBER {
         return Err(refused);
     }
     Ok(n as u32)

@@ -3,6 +3,7 @@ use Rattle.std.specs.Prelude.{◌≡◌, ◌≢◌, ℕ, ◌+◌, ◌==◌, ◌<
 use Rattle.std.specs.Io.KnownBytes.{Consumes, IsAtEnd, Keeps}
 use Rattle.dc_device.specs.declared.reader.LineEnd.{LineEnd}
 use Rattle.dc_device.specs.declared.reader.LineEnd.TheVariants.{Whole, Long}
+use Rattle.dc_device.specs.declared.reader.TheConstants.{LINE_LIMIT}
 
 -- the whole lines of a text, without their line feeds, and what stands after the last line feed
 abbrev pub Lines : Type 0
@@ -38,7 +39,7 @@ pub record Held : Type 0 where
 -- the held bytes begin with this line and its line feed, within the limits of a line and of the text
 abbrev pub HoldsLine : Held → List ℕ → Type 0
 HoldsLine held line =
-    (rest : List ℕ) × (held.bytes ≡ line ++ 10 ∷ rest) × NoFeed line × (length line ≤ 64) × (length line < held.room)
+    (rest : List ℕ) × (held.bytes ≡ line ++ 10 ∷ rest) × NoFeed line × (length line ≤ LINE_LIMIT) × (length line < held.room)
 
 -- they begin with no such line
 abbrev pub HasNoLine : Held → Type 0
@@ -54,7 +55,7 @@ ReadsOn old new line line' (Some Whole) =
     × (length front + 1 + new.room ≡ old.room)
 ReadsOn old new line line' (Some Long) =
     (front : List ℕ) × (b : ℕ) × (back : List ℕ) × (old.bytes ≡ front ++ b ∷ back) × (line' ≡ line ++ front) × NoFeed front
-    × ((length front ≡ old.room) ⊎ ((b ≢ 10) × (length line' ≡ 64)))
+    × ((length front ≡ old.room) ⊎ ((b ≢ 10) × (length line' ≡ LINE_LIMIT)))
 
 -- These bytes were pulled: one or more, or none at the end.
 abbrev pub Fills : {E : Type 0} → Option (List ℕ) → Option (List ℕ) → List ℕ → Result Bool E → Type 0

@@ -2,6 +2,7 @@
 ghost use Rattle.std.specs.Prelude.{◌≡◌, ◌∷◌, [], ◌+◌, ◌^◌, ◌<◌, ◌≤◌, MatchOption, drop, false, length, take};
 ghost use Rattle.dc_device.specs.Device.{IsSnapshot, count_on, failures_of, stops_in};
 ghost use Rattle.dc_device.specs.Lines.{Fills, HasNoLine, HoldsLine, NoFeed, ReadsOn};
+ghost use Rattle.dc_device.specs.declared.reader.TheConstants.{LINE_LIMIT};
 
 use crate::device::{Broken, Sink, Source};
 use crate::writer::LineWriter;
@@ -26,7 +27,7 @@ pub enum LineEnd {
     Long,
 }
 
-/// Reads the lines of a source, each of at most 64 bytes, within a limit on the bytes of the whole text.
+/// Reads the lines of a source, each of at most [`LINE_LIMIT`] bytes, within a limit on the bytes of the whole text.
 ///
 /// It reads on in the bytes that it holds, and pulls where its owner says so: who knows when the source is asked, and
 /// can first show what was answered so far.
@@ -38,10 +39,10 @@ pub struct LineReader {
     room: u64,
 }
 
-// Where the first line feed is among the first 65 bytes.
+// Where the first line feed is among the first bytes, one more than the longest line has.
 fn first_feed(bytes: &[u8]) -> Option<usize>
-    ensures { MatchOption result (NoFeed (take 65 bytes.now))
-        (λ i. (i < length bytes.now) × (i ≤ 64) × NoFeed (take i bytes.now) × (drop i bytes.now ≡ 10 ∷ drop (i + 1) bytes.now)) }
+    ensures { MatchOption result (NoFeed (take (LINE_LIMIT + 1) bytes.now))
+        (λ i. (i < length bytes.now) × (i ≤ LINE_LIMIT) × NoFeed (take i bytes.now) × (drop i bytes.now ≡ 10 ∷ drop (i + 1) bytes.now)) }
 {
     let most = bytes.len().min(LINE_LIMIT + 1);
     for i in 0..most {
@@ -55,12 +56,13 @@ fn first_feed(bytes: &[u8]) -> Option<usize>
 impl Model for LineReader {
     ghost use Rattle.std.specs.Prelude.{◌-◌, ◌≤◌, drop, take};
     ghost use Rattle.dc_device.specs.Lines.{Held};
+    ghost use Rattle.dc_device.specs.declared.reader.TheConstants.{BLOCK};
 
     ghost Value = { Held };
 
     ghost view = { λ r. record { bytes = take (r.end - r.at) (drop r.at r.block); room = r.room } };
 
-    ghost invariant = { λ r. (r.at ≤ r.end) × (r.end ≤ 32768) };
+    ghost invariant = { λ r. (r.at ≤ r.end) × (r.end ≤ BLOCK) };
 }
 
 impl LineReader {

@@ -9,7 +9,7 @@ mod ticks;
 
 pub use dictionary::Dictionary;
 pub use fault::DictFault;
-pub use parameter::{Equipment, Parameter};
+pub use parameter::{EQUIPMENT_CODES, Equipment, Parameter};
 pub use ticks::{
     Interval, in_maximum, in_minimum, in_ticks, jitter_ticks, out_maximum, out_minimum, out_ticks,
 };

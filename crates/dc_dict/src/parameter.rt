@@ -1,7 +1,11 @@
 ghost use Rattle.std.specs.Prelude.{◌≡◌, ℕ, ◌<◌, ◌↔◌, IsSome, IfSome};
+ghost use Rattle.dc_dict.specs.declared.parameter.TheConstants.{EQUIPMENT_CODES};
 
 use dc_word::{Format, Label};
 use std::marker::Model;
+
+/// How many equipment codes there are: three hexadecimal digits write 0 to 4,095.
+pub const EQUIPMENT_CODES: u16 = 4096;
 
 /// An equipment code of three hexadecimal digits, 0 to FFF.
 #[derive(Clone, Copy, Debug, PartialEq, Eq, PartialOrd, Ord, Hash)]
@@ -12,7 +16,7 @@ impl Model for Equipment {
 
     ghost view = { λ e. e.0 };
 
-    ghost invariant = { λ e. e.0 < 4096 };
+    ghost invariant = { λ e. e.0 < EQUIPMENT_CODES };
 
     ghost inverse = { λ n. record { 0 = n } };
 }
@@ -20,20 +24,20 @@ impl Model for Equipment {
 impl Equipment {
     /// The equipment code of this number, where it has at most three hexadecimal digits.
     pub fn new(code: u16) -> Option<Equipment>
-        ensures valid { IsSome result ↔ (code < 4096) }
+        ensures valid { IsSome result ↔ (code < EQUIPMENT_CODES) }
         ensures value { IfSome result (λ equipment. equipment ≡ code) }
     {
-        if code < 4096 {
+        if code < EQUIPMENT_CODES {
             Some(Equipment(code))
         } else {
             None
         }
     }
 
-    /// The code as a number, 0 to 4,095.
+    /// The code as a number, below [`EQUIPMENT_CODES`].
     pub fn code(self) -> u16
         ensures value { result ≡ self }
-        ensures within { self < 4096 }
+        ensures within { self < EQUIPMENT_CODES }
     {
         let Equipment(code) = self;
         code

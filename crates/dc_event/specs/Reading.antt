@@ -11,6 +11,7 @@ use Rattle.dc_event.specs.declared.trace.LineRule.TheVariants.{LineTooLong, Line
 use Rattle.dc_event.specs.declared.trace.TraceFault.{TraceFault}
 use Rattle.dc_event.specs.declared.trace.TraceStop.{TraceStop}
 use Rattle.dc_event.specs.declared.trace.TraceStop.TheVariants.{End, Fault, Broken}
+use Rattle.dc_device.specs.declared.reader.TheConstants.{LINE_LIMIT}
 
 -- The lines of a trace, as far as they were pulled: the bytes read of the running line, which has this number; the
 -- bytes held after them; how many more bytes the text may have after the running line's; and why the reader stopped.
@@ -81,7 +82,7 @@ abbrev pub ReadsNext : TableRows → Held → Held → List ℕ → List ℕ →
 ReadsNext t old new line line' None = ReadsOn old new line line' None
 ReadsNext t old new line line' (Some read) =
     (ReadsOn old new line line' (Some Long) × (read ≡ Err LineTooLong))
-    ⊎ ((whole : List ℕ) × ReadsOn old new line whole (Some Whole) × (length whole ≤ 64) × (read ≡ line_event t whole) × (line' ≡ []))
+    ⊎ ((whole : List ℕ) × ReadsOn old new line whole (Some Whole) × (length whole ≤ LINE_LIMIT) × (read ≡ line_event t whole) × (line' ≡ []))
 
 -- what a line tells: its event or its fault
 abbrev pub IsOfLine : Result Event TraceStop → Type 0

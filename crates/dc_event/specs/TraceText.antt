@@ -11,6 +11,7 @@ use Rattle.dc_event.specs.declared.event.Event.TheVariants.{Tick, Arrive, Route,
 use Rattle.dc_event.specs.declared.trace.LineRule.{LineRule}
 use Rattle.dc_event.specs.declared.trace.LineRule.TheVariants.{LineTooLong, KindUnknown, FieldCountWrong, NameUnknown, NotAWord, LineNotEnded}
 use Rattle.dc_event.specs.declared.trace.TraceFault.{TraceFault}
+use Rattle.dc_device.specs.declared.reader.TheConstants.{LINE_LIMIT}
 
 -- ---- a line
 
@@ -73,7 +74,7 @@ fields_event t (kind ∷ rest) =
     else if bytes_eq kind (codes "T") then tick_fields rest
     else Err KindUnknown
 
--- the event of a whole line of at most 64 bytes, or the code of its fault
+-- the event of a whole line within its limit, or the code of its fault
 unfoldable pub line_event : TableRows → List ℕ → Result Event LineRule
 line_event t line = fields_event t (fields_of line)
 
@@ -93,9 +94,9 @@ abbrev pub in_front : ℕ → Result Event LineRule → Trace → Trace
 in_front number (Ok e) rest = record { events = e ∷ rest.events; fault = rest.fault }
 in_front number (Err rule) rest = faulty rule number
 
--- whether a line has over 64 bytes, or the text passes its limit, with so many bytes of the one and of the other
+-- whether a line passes its limit, or the text passes its limit, with so many bytes of the one and of the other
 abbrev pub too_long : ℕ → ℕ → ℕ → Bool
-too_long room line text = nat_lt 64 line || nat_lt room text
+too_long room line text = nat_lt LINE_LIMIT line || nat_lt room text
 
 -- where the text ends after these bytes of a line
 abbrev pub ended_by : ℕ → List ℕ → Trace

@@ -134,7 +134,7 @@ fn read_tick(fields: &mut Fields) -> Result<Event, LineRule>
     Ok(Event::Tick)
 }
 
-/// The event of a line of at most 64 bytes, or the code of its fault.
+/// The event of a line of at most [`LINE_LIMIT`](dc_device::LINE_LIMIT) bytes, or the code of its fault.
 #[tactic(auto, unfolding(crate::specs::TraceText::line_event))]
 pub fn read_line(tables: &Tables, line: &[u8]) -> Result<Event, LineRule>
     ensures { result ≡ line_event tables.now line.now }

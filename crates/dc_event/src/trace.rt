@@ -8,7 +8,7 @@ use thiserror::Error;
 /// `LineNotEnded`, then the others in their order.
 #[derive(Clone, Copy, Debug, PartialEq, Eq, Error)]
 pub enum LineRule {
-    /// E1: the line has over 64 bytes, or the trace passes its limit.
+    /// E1: the line has over [`LINE_LIMIT`](dc_device::LINE_LIMIT) bytes, or the trace passes its limit.
     #[error("the line has over 64 bytes, or the trace passes its limit")]
     LineTooLong,
     /// E2: the first field is not A, R, S or T.

@@ -2,6 +2,7 @@
 ghost use Rattle.std.specs.Prelude.{◌≡◌, ◌≢◌, [], ◌+◌, ◌^◌, ◌<◌, ◌≤◌, Some, None, IfSome, option_map};
 ghost use Rattle.dc_event.specs.TraceText.{trace_of};
 ghost use Rattle.dc_event.specs.Reading.{AsksFor, Stays, Tells, ahead, at_start, failures_at, left, new_failures, stop_of};
+ghost use Rattle.dc_event.specs.declared.trace_reader.TheConstants.{TRACE_LIMIT};
 
 use crate::event::Event;
 use crate::trace::TraceStop;
@@ -45,10 +46,10 @@ fn pull_unwatched<S: Source>(lines: &mut TraceLines, source: &mut S)
 }
 
 impl<'t, S: Source + Drop> TraceReader<'t, S> {
-    /// Reads a trace of at most 1,073,741,824 bytes.
+    /// Reads a trace of at most [`TRACE_LIMIT`] bytes.
     pub fn new(tables: &'t Tables, source: S) -> Self
-        ensures start { result.lines ≡ at_start tables.now 1073741824 }
-        ensures trace { left result ≡ option_map (λ text. trace_of tables.now 1073741824 text) (S.remaining source) }
+        ensures start { result.lines ≡ at_start tables.now TRACE_LIMIT }
+        ensures trace { left result ≡ option_map (λ text. trace_of tables.now TRACE_LIMIT text) (S.remaining source) }
         ensures failed { result.failed ≡ S.failed source }
         ensures asked { result.asked ≡ S.asked source }
         ensures dry { result.dry ≡ S.dry source }

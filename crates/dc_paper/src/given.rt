@@ -10,6 +10,7 @@ ghost use Rattle.dc_answer.specs.Answer.{Any, LeavesSink, Raises, Reported};
 ghost use Rattle.dc_answer.specs.Inputs.{OnlyBehind};
 ghost use Rattle.dc_answer.specs.Judging.{Judged};
 ghost use Rattle.dc_paper.specs.Paper.{AnswersClaims, AnswersReport, ReportsPage, outcome_of};
+ghost use Rattle.dc_toml.specs.declared.read.TheConstants.{TEXT_LIMIT};
 
 use crate::pages::{judge, keep_page};
 use dc_answer::{Exit, Failure, Outcome, Unloaded, load, load_certificate, report, say};
@@ -55,7 +56,7 @@ fn judge_source<C: Source>(
     requires { C.failed certificate.old + 1 < 2 ^ 64 }
     ensures answer { (given : List ℕ) → C.remaining certificate.old ≡ Some given → Judged (λ answer. AnswersClaims tables.now answer (certificate_of given)) text.new.items result }
     ensures source { Raises (C.failed certificate.old) (C.failed certificate.new) result }
-    ensures asks { AsksUpTo 1048576 (C.asked certificate.old) (C.asked certificate.new) (C.dry certificate.old) (C.dry certificate.new) }
+    ensures asks { AsksUpTo TEXT_LIMIT (C.asked certificate.old) (C.asked certificate.new) (C.dry certificate.old) (C.dry certificate.new) }
     ensures sink { IfErr result (λ e. e ≢ Failure.Sink) }
 {
     match load_certificate(alloc, certificate) {
@@ -77,8 +78,8 @@ fn judge_sources<T: Source, C: Source>(
     ensures answer { (rows given : List ℕ) → T.remaining tables.old ≡ Some rows → C.remaining certificate.old ≡ Some given
         → Judged (AnswersReport rows given) text.new.items result }
     ensures source { Raises (T.failed tables.old + C.failed certificate.old) (T.failed tables.new + C.failed certificate.new) result }
-    ensures asks_tables { AsksUpTo 1048576 (T.asked tables.old) (T.asked tables.new) (T.dry tables.old) (T.dry tables.new) }
-    ensures asks_certificate { AsksUpTo 1048576 (C.asked certificate.old) (C.asked certificate.new) (C.dry certificate.old) (C.dry certificate.new) }
+    ensures asks_tables { AsksUpTo TEXT_LIMIT (T.asked tables.old) (T.asked tables.new) (T.dry tables.old) (T.dry tables.new) }
+    ensures asks_certificate { AsksUpTo TEXT_LIMIT (C.asked certificate.old) (C.asked certificate.new) (C.dry certificate.old) (C.dry certificate.new) }
     ensures order { IfSome (T.remaining tables.old) (λ rows. OnlyBehind (tables_of rows) (certificate.new ≡ certificate.old)) }
     ensures sink { IfErr result (λ e. e ≢ Failure.Sink) }
 {
@@ -112,8 +113,8 @@ pub fn run_report<T: Source, C: Source, K: Sink>(
     ensures reported { Reported Any (K.contents sink.old) (K.contents sink.new)
         (T.failed tables.old + C.failed certificate.old) (T.failed tables.new + C.failed certificate.new)
         (K.failed sink.old) (K.failed sink.new) result }
-    ensures asks_tables { AsksUpTo 1048576 (T.asked tables.old) (T.asked tables.new) (T.dry tables.old) (T.dry tables.new) }
-    ensures asks_certificate { AsksUpTo 1048576 (C.asked certificate.old) (C.asked certificate.new) (C.dry certificate.old) (C.dry certificate.new) }
+    ensures asks_tables { AsksUpTo TEXT_LIMIT (T.asked tables.old) (T.asked tables.new) (T.dry tables.old) (T.dry tables.new) }
+    ensures asks_certificate { AsksUpTo TEXT_LIMIT (C.asked certificate.old) (C.asked certificate.new) (C.dry certificate.old) (C.dry certificate.new) }
     ensures order { IfSome (T.remaining tables.old) (λ rows. OnlyBehind (tables_of rows) (certificate.new ≡ certificate.old)) }
     ensures left { LeavesSink (K.failed sink.old) (K.failed sink.new) (K.last_failed sink.new) (K.hidden sink.new) }
     ensures quiet { result ≢ Exit.Failed → T.failed tables.new + C.failed certificate.new + K.failed sink.new

@@ -4,6 +4,7 @@ ghost use Rattle.dc_device.specs.Device.{AsksUpTo};
 ghost use Rattle.dc_answer.specs.Answer.{Any, LeavesSink, Raises, Reported};
 ghost use Rattle.dc_answer.specs.Judging.{Judged};
 ghost use Rattle.dc_paper.specs.Paper.{AnswersLeast, AnswersRows, ReportsLeast};
+ghost use Rattle.dc_toml.specs.declared.read.TheConstants.{TEXT_LIMIT};
 
 use crate::pages::keep_page;
 use dc_answer::{Exit, Failure, Outcome, Unloaded, load, report, say};
@@ -33,7 +34,7 @@ fn judge_alone<T: Source>(
     requires { T.failed tables.old + 1 < 2 ^ 64 }
     ensures answer { (rows : List ℕ) → T.remaining tables.old ≡ Some rows → Judged (AnswersLeast rows) text.new.items result }
     ensures source { Raises (T.failed tables.old) (T.failed tables.new) result }
-    ensures asks { AsksUpTo 1048576 (T.asked tables.old) (T.asked tables.new) (T.dry tables.old) (T.dry tables.new) }
+    ensures asks { AsksUpTo TEXT_LIMIT (T.asked tables.old) (T.asked tables.new) (T.dry tables.old) (T.dry tables.new) }
     ensures sink { IfErr result (λ e. e ≢ Failure.Sink) }
 {
     match load(alloc, tables) {
@@ -56,7 +57,7 @@ pub fn run_report_least<T: Source, K: Sink>(alloc: Global, tables: &mut T, sink:
         (K.failed sink.old) (K.failed sink.new) result }
     ensures reported { Reported Any (K.contents sink.old) (K.contents sink.new) (T.failed tables.old) (T.failed tables.new)
         (K.failed sink.old) (K.failed sink.new) result }
-    ensures asks { AsksUpTo 1048576 (T.asked tables.old) (T.asked tables.new) (T.dry tables.old) (T.dry tables.new) }
+    ensures asks { AsksUpTo TEXT_LIMIT (T.asked tables.old) (T.asked tables.new) (T.dry tables.old) (T.dry tables.new) }
     ensures left { LeavesSink (K.failed sink.old) (K.failed sink.new) (K.last_failed sink.new) (K.hidden sink.new) }
     ensures quiet { result ≢ Exit.Failed → T.failed tables.new + K.failed sink.new ≡ T.failed tables.old + K.failed sink.old }
 {

@@ -4,12 +4,19 @@
 
 mod fault;
 mod keys;
+mod limits;
 mod name;
 mod parts;
 mod ticks;
 
 pub use fault::{BuildError, Section, TableFault, TableRule};
 pub use keys::ParameterKey;
+pub use limits::{
+    GREATEST_AGE, GREATEST_JITTER, GREATEST_JITTER_US, GREATEST_QUEUE, LAST_OFFSET, LONGEST_FRAME,
+    LONGEST_INTERVAL, LONGEST_INTERVAL_US, LONGEST_STALE, LONGEST_TICK, LONGEST_WITHIN, MOST_BUSES,
+    MOST_ENTRIES, MOST_LABELS, MOST_MEMBERS, MOST_OFFSETS, MOST_OUTPUTS, MOST_PARAMETERS,
+    MOST_ROUTERS, MOST_SOURCES, MOST_STEPS, MOST_STREAMS, MOST_VISITS, NAME_LIMIT, SHORTEST_TICK,
+};
 pub use name::{Name, Named};
 pub use parts::{BusPart, LabelPart, OutputPart, Parts, RouterPart, Speed, StreamPart, Version};
 pub use ticks::{input_spacing, output_gap};

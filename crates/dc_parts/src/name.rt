@@ -4,12 +4,13 @@ ghost use Rattle.std.specs.Cmp.Rules.{hashing};
 ghost use Rattle.std.proofs.Common.{rules};
 ghost use Rattle.dc_parts.specs.Names.{is_name_byte as is_spelling_byte, is_spelled as is_spelled_name, IsSpelled, name_of, text_of};
 
+use crate::limits::NAME_LIMIT;
 use std::hash::{Hash, Hasher};
 use std::marker::Model;
 
-/// The name of a bus, stream, router, output or label: 1 to 16 of the characters A-Z, a-z, 0-9, `_` and `-`.
+/// The name of a bus, stream, router, output or label: 1 to [`NAME_LIMIT`] of the characters A-Z, a-z, 0-9, `_` and `-`.
 #[derive(Clone, Copy, Debug, PartialEq, Eq)]
-pub struct Name([u8; 16]);
+pub struct Name([u8; NAME_LIMIT]);
 
 impl Model for Name {
     ghost use Rattle.std.specs.Prelude.{ℕ, List};
@@ -65,7 +66,7 @@ fn are_name_bytes(bytes: &[u8]) -> bool
 fn is_spelled(text: &[u8]) -> bool
     ensures { result ≡ is_spelled_name text.now }
 {
-    !text.is_empty() && text.len() <= 16 && are_name_bytes(text)
+    !text.is_empty() && text.len() <= NAME_LIMIT && are_name_bytes(text)
 }
 
 // How many bytes from the front on may stand in a name.
@@ -83,12 +84,12 @@ impl Name {
         if !is_spelled(text) {
             return None;
         }
-        let mut bytes = [0; 16];
+        let mut bytes = [0; NAME_LIMIT];
         bytes[..text.len()].copy_from_slice(text);
         Some(Name(bytes))
     }
 
-    /// The name's text, 1 to 16 bytes.
+    /// The name's text, 1 to [`NAME_LIMIT`] bytes.
     pub fn text(&self) -> &[u8]
         ensures text { result.now ≡ text_of self.now }
         ensures spelled { IsSpelled result.now }

@@ -5,7 +5,7 @@ mod text;
 mod verdicts;
 mod words;
 
-pub use text::{Text, append, append_number, digit_of, hex_8};
+pub use text::{TEXT_CAPACITY, Text, append, append_number, digit_of, hex_8};
 pub use verdicts::{
     append_member, print_accepted, print_cert_fault, print_refused, print_table_fault,
 };

@@ -3,16 +3,20 @@ ghost use Rattle.std.specs.Prelude.{◌≡◌, ◌++◌, ◌+◌, ◌<◌, ◌�
 ghost use Rattle.arrayvec.specs.ArrayVec.{array_vec_len};
 ghost use Rattle.dc_print.specs.Text.{five_decimal, five_hex, three_octal};
 ghost use Rattle.dc_event.specs.WordText.{digit, eight_hex};
+ghost use Rattle.dc_print.specs.declared.text.TheConstants.{TEXT_CAPACITY};
 
 use arrayvec::ArrayVec;
 use itoa::Buffer;
 
+/// The room of a [`Text`], in bytes.
+pub const TEXT_CAPACITY: usize = 144;
+
 /// A line that is written, or several that are parted by line feeds, without the last line feed.
-pub type Text = ArrayVec<u8, 144>;
+pub type Text = ArrayVec<u8, TEXT_CAPACITY>;
 
 /// Puts bytes at the end.
 pub fn append(text: &mut Text, bytes: &[u8])
-    requires { array_vec_len text.old + length bytes.now ≤ 144 }
+    requires { array_vec_len text.old + length bytes.now ≤ TEXT_CAPACITY }
     ensures items { text.new.items ≡ text.old.items ++ bytes.now }
     ensures len { array_vec_len text.new ≡ array_vec_len text.old + length bytes.now }
 {
@@ -21,7 +25,7 @@ pub fn append(text: &mut Text, bytes: &[u8])
 
 /// Puts a number in decimal at the end.
 pub fn append_number(text: &mut Text, number: u64)
-    requires { array_vec_len text.old + 20 ≤ 144 }
+    requires { array_vec_len text.old + 20 ≤ TEXT_CAPACITY }
     ensures items { text.new.items ≡ text.old.items ++ decimal number }
     ensures len { array_vec_len text.new ≤ array_vec_len text.old + 20 }
 {

@@ -6,6 +6,7 @@ ghost use Rattle.dc_parts.specs.FaultText.{table_fault_text};
 ghost use Rattle.dc_check.specs.Placed.{IsPlaced, part_count};
 ghost use Rattle.dc_print.specs.Verdicts.{accepted_text, is_of_a_list, list_text, member_name, member_text, names_window, place_text, refused_text, window_text};
 ghost use Rattle.std.specs.Prelude.{codes};
+ghost use Rattle.dc_parts.specs.declared.limits.TheConstants.{NAME_LIMIT};
 
 use crate::text::{Text, append, append_number};
 use dc_cert::Fault;
@@ -58,7 +59,7 @@ fn member(part: CertificateList) -> &'static [u8]
 fn name(tables: &Tables, part: CertificateList, index: usize) -> &[u8]
     requires { index < part_count tables.now part }
     ensures text { result.now ≡ member_name tables.now part index }
-    ensures short { length result.now ≤ 16 }
+    ensures short { length result.now ≤ NAME_LIMIT }
 {
     match part {
         CertificateList::Inputs => tables.bus_name(index).text(),

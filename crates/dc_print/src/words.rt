@@ -2,6 +2,7 @@
 ghost use Rattle.std.specs.Prelude.{◌≡◌, ◌++◌, ◌+◌, ◌≤◌, length, codes, decimal};
 ghost use Rattle.arrayvec.specs.ArrayVec.{array_vec_len};
 ghost use Rattle.dc_print.specs.Words.{data_text, line_of, parity_text, status_text};
+ghost use Rattle.dc_print.specs.declared.text.TheConstants.{TEXT_CAPACITY};
 
 use crate::text::{Text, append, decimal_5, digit_of, hex_5, hex_8, octal_3};
 use dc_word::{Format, Status, Word};
@@ -9,7 +10,7 @@ use itoa::Buffer;
 
 // Puts the data at the end.
 fn append_data(text: &mut Text, format: Format, word: Word)
-    requires { array_vec_len text.old + 40 ≤ 96 }
+    requires { array_vec_len text.old + 40 ≤ TEXT_CAPACITY }
     ensures items { text.new.items ≡ text.old.items ++ data_text format word }
     ensures len { array_vec_len text.new ≤ array_vec_len text.old + 11 }
 {

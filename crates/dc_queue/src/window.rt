@@ -1,13 +1,20 @@
 ghost use Rattle.std.specs.Prelude.{◌≡◌, ℕ, ◌+◌, ◌-◌, ◌<◌, ◌≤◌, IfOk};
 ghost use Rattle.dc_queue.specs.WindowData.{WindowData, empty_window, steps_of, added, turned, is_full_tick, lacks};
+ghost use Rattle.dc_queue.specs.declared.window.TheConstants.{GREATEST_ROOM, GREATEST_WIDTH};
 
 use circular_buffer::HeapCircularBuffer;
 use std::alloc::{AllocError, Global};
 use std::marker::Model;
 
+/// The greatest width of a window, in ticks: this project's own number.
+pub const GREATEST_WIDTH: u32 = 1000;
+
+/// The most steps for which a tick has room: this project's own number.
+pub const GREATEST_ROOM: u32 = 1000;
+
 /// How many steps an actor made in each of the last `width` ticks, the unfinished one included.
 ///
-/// A width is 1 to 1,000 ticks, and a tick has room for at most 1,000 steps.
+/// A width is 1 to [`GREATEST_WIDTH`] ticks, and a tick has room for at most [`GREATEST_ROOM`] steps.
 #[derive(Drop)]
 pub struct StepWindow {
     // the steps of each finished tick, the oldest first
@@ -24,12 +31,13 @@ impl Model for StepWindow {
     ghost use Rattle.std.specs.Prelude.{ℕ, ◌+◌, ◌≡◌, ◌≤◌, ◌<◌, length, sum};
     ghost use Rattle.std.specs.List.{All};
     ghost use Rattle.dc_queue.specs.WindowData.{WindowData};
+    ghost use Rattle.dc_queue.specs.declared.window.TheConstants.{GREATEST_ROOM, GREATEST_WIDTH};
 
     ghost Value = { WindowData };
 
     ghost view = { λ w. record { width = w.past.capacity + 1; room = w.room; past = w.past.items; count = w.count } };
 
-    ghost invariant = { λ w. (w.total ≡ sum w.past.items + w.count) × All (λ n. n ≤ w.room) w.past.items × (w.count ≤ w.room) × (length w.past.items ≤ w.past.capacity) × (w.past.capacity < 1000) × (w.room ≤ 1000) };
+    ghost invariant = { λ w. (w.total ≡ sum w.past.items + w.count) × All (λ n. n ≤ w.room) w.past.items × (w.count ≤ w.room) × (length w.past.items ≤ w.past.capacity) × (w.past.capacity < GREATEST_WIDTH) × (w.room ≤ GREATEST_ROOM) };
 }
 
 impl StepWindow {
@@ -39,8 +47,8 @@ impl StepWindow {
     /// Out of memory.
     pub fn new(alloc: Global, width: u32, room: u32) -> Result<StepWindow, AllocError>
         requires some_width { 1 ≤ width }
-        requires small_width { width ≤ 1000 }
-        requires small_room { room ≤ 1000 }
+        requires small_width { width ≤ GREATEST_WIDTH }
+        requires small_room { room ≤ GREATEST_ROOM }
         ensures { IfOk result (λ w. w ≡ empty_window width room) }
     {
         Ok(StepWindow {

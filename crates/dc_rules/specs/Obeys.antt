@@ -3,13 +3,14 @@ use Rattle.std.specs.Prelude.{◌≡◌, ℕ, false, nat_lt, None, option_map, l
 use Rattle.dc_parts.specs.Document.{Document, label_owners}
 use Rattle.dc_rules.specs.Rules.{outside, counts, doubled, parameter_out, first_bus_out, first_count_out, first_stream_out, first_router_out, first_visits_out, first_output_out, first_label_out, first_sources_out, first_offsets_out, entries_from, entry_owners, first_overfull, first_inverted, first_quick, first_narrow, doubled_name, bus_names, stream_names, router_names, output_names, label_names, first_unknown_stream, first_unknown_label, overlap, first_lost_router, first_lost_label, first_unserved, first_doubled_source, first_different, first_late, first_doubled_offset, first_doubled_label, first_unable_router, first_unable_output}
 use Rattle.dc_parts.specs.Keys.{same_parameter, parameter_key}
+use Rattle.dc_parts.specs.declared.limits.TheConstants.{LONGEST_TICK, MOST_BUSES, MOST_LABELS, MOST_OUTPUTS, MOST_ROUTERS, MOST_STREAMS, SHORTEST_TICK}
 
 -- the top's number and the lengths of its lists
 pub record TopObeys (d : Document) : Type 0 where
-  pub tick : outside 100 10000 d.tick_us ≡ false
-  pub buses : nat_lt 64 (length d.buses) ≡ false
-  pub routers : nat_lt 64 (length d.routers) ≡ false
-  pub outputs : nat_lt 32 (length d.outputs) ≡ false
+  pub tick : outside SHORTEST_TICK LONGEST_TICK d.tick_us ≡ false
+  pub buses : nat_lt MOST_BUSES (length d.buses) ≡ false
+  pub routers : nat_lt MOST_ROUTERS (length d.routers) ≡ false
+  pub outputs : nat_lt MOST_OUTPUTS (length d.outputs) ≡ false
 
 -- numbers in their ranges, lists in their limits
 pub record ShapeObeys (d : Document) : Type 0 where
@@ -27,8 +28,8 @@ pub record ShapeObeys (d : Document) : Type 0 where
 
 -- totals over the tables
 pub record TotalsObey (d : Document) : Type 0 where
-  pub streams : option_map (λ s. s.bus) (slice_get d.streams 1024) ≡ None
-  pub labels : option_map (λ x. x.output) (slice_get d.labels 1024) ≡ None
+  pub streams : option_map (λ s. s.bus) (slice_get d.streams MOST_STREAMS) ≡ None
+  pub labels : option_map (λ x. x.output) (slice_get d.labels MOST_LABELS) ≡ None
   pub entries : first_overfull (counts (entry_owners d.labels) (length d.outputs)) ≡ None
 
 -- parameters, and the intervals that they leave

@@ -28,6 +28,7 @@ use Rattle.dc_dict.specs.Ticks.{in_minimum, out_minimum, out_maximum}
 use Rattle.dc_parts.specs.Ticks.{output_gap}
 use Rattle.dc_parts.specs.Keys.{same_parameter, parameter_key, stream_key, label_key}
 use Rattle.dc_parts.specs.Names.{number_of}
+use Rattle.dc_parts.specs.declared.limits.TheConstants.{GREATEST_AGE, GREATEST_JITTER_US, GREATEST_QUEUE, LAST_OFFSET, LONGEST_FRAME, LONGEST_INTERVAL_US, LONGEST_STALE, LONGEST_TICK, LONGEST_WITHIN, MOST_BUSES, MOST_ENTRIES, MOST_LABELS, MOST_MEMBERS, MOST_OFFSETS, MOST_OUTPUTS, MOST_PARAMETERS, MOST_ROUTERS, MOST_SOURCES, MOST_STEPS, MOST_STREAMS, MOST_VISITS, SHORTEST_TICK}
 
 -- ---- what is reported
 
@@ -91,23 +92,23 @@ doubled R xs = doubled_from R [] 0 xs
 -- ---- shapes: numbers in their ranges, lists in their limits
 
 abbrev pub parameter_out : ParameterPart → Bool
-parameter_out p = outside 1 60000000 p.min_us || outside 1 60000000 p.max_us
+parameter_out p = outside 1 LONGEST_INTERVAL_US p.min_us || outside 1 LONGEST_INTERVAL_US p.max_us
 
 abbrev pub router_out : RouterPart → Bool
-router_out r = outside 1 1000 r.steps || outside 1 1000 r.within || outside 1 1000 r.most
+router_out r = outside 1 MOST_STEPS r.steps || outside 1 LONGEST_WITHIN r.within || outside 1 MOST_STEPS r.most
 
 abbrev pub output_out : OutputPart → Bool
-output_out o = outside 1 1000 o.steps || outside 1 1000 o.within || outside 1 100000 o.frame
+output_out o = outside 1 MOST_STEPS o.steps || outside 1 LONGEST_WITHIN o.within || outside 1 LONGEST_FRAME o.frame
 
 abbrev pub offsets_out : List ℕ → Bool
-offsets_out offsets = list_any (λ t. nat_lt 99999 t) offsets
+offsets_out offsets = list_any (λ t. nat_lt LAST_OFFSET t) offsets
 
 abbrev pub label_out : LabelPart → Bool
-label_out x = (outside 1 1000000 x.stale || outside 1 2000000 x.age) || offsets_out x.offsets.items
+label_out x = (outside 1 LONGEST_STALE x.stale || outside 1 GREATEST_AGE x.age) || offsets_out x.offsets.items
 
 -- the first with a number out of its range
 abbrev pub first_bus_out : List BusPart → Option ℕ
-first_bus_out buses = position (λ b. outside 1 4096 b.queue) buses
+first_bus_out buses = position (λ b. outside 1 GREATEST_QUEUE b.queue) buses
 
 abbrev pub first_router_out : List RouterPart → Option ℕ
 first_router_out routers = position router_out routers
@@ -120,20 +121,20 @@ first_label_out labels = position label_out labels
 
 -- the first with a list out of its limits
 abbrev pub first_count_out : List ℕ → Option ℕ
-first_count_out counts = position (λ n. outside 1 256 n) counts
+first_count_out counts = position (λ n. outside 1 MOST_MEMBERS n) counts
 
 abbrev pub first_visits_out : List RouterPart → Option ℕ
-first_visits_out routers = position (λ r. outside 1 256 (length r.visits.items)) routers
+first_visits_out routers = position (λ r. outside 1 MOST_VISITS (length r.visits.items)) routers
 
 abbrev pub first_sources_out : List LabelPart → Option ℕ
-first_sources_out labels = position (λ x. outside 1 8 (length x.sources.items)) labels
+first_sources_out labels = position (λ x. outside 1 MOST_SOURCES (length x.sources.items)) labels
 
 abbrev pub first_offsets_out : List LabelPart → Option ℕ
-first_offsets_out labels = position (λ x. outside 1 256 (length x.offsets.items)) labels
+first_offsets_out labels = position (λ x. outside 1 MOST_OFFSETS (length x.offsets.items)) labels
 
 -- the first with a jitter out of its range
 abbrev pub first_stream_out : List StreamPart → Option ℕ
-first_stream_out streams = position (λ s. nat_lt 60000000 s.jitter_us) streams
+first_stream_out streams = position (λ s. nat_lt GREATEST_JITTER_US s.jitter_us) streams
 
 -- the first out of shape
 abbrev pub bus_shapes : List BusPart → List ℕ → Option Breach
@@ -154,11 +155,11 @@ label_shapes labels =
 
 abbrev pub top_shape : Document → Verdict
 top_shape d =
-    then_reported (reported NumberOutOfRange Top (at_top (outside 100 10000 d.tick_us)))
-    (then_reported (reported CountOutOfRange Top (at_top (nat_lt 2048 (length d.parameters))))
-    (then_reported (reported CountOutOfRange Top (at_top (nat_lt 64 (length d.buses))))
-    (then_reported (reported CountOutOfRange Top (at_top (nat_lt 64 (length d.routers))))
-    (reported CountOutOfRange Top (at_top (nat_lt 32 (length d.outputs)))))))
+    then_reported (reported NumberOutOfRange Top (at_top (outside SHORTEST_TICK LONGEST_TICK d.tick_us)))
+    (then_reported (reported CountOutOfRange Top (at_top (nat_lt MOST_PARAMETERS (length d.parameters))))
+    (then_reported (reported CountOutOfRange Top (at_top (nat_lt MOST_BUSES (length d.buses))))
+    (then_reported (reported CountOutOfRange Top (at_top (nat_lt MOST_ROUTERS (length d.routers))))
+    (reported CountOutOfRange Top (at_top (nat_lt MOST_OUTPUTS (length d.outputs)))))))
 
 -- the top, each parameter, each bus followed by its streams, each router, each output followed by its labels
 abbrev pub shape : Document → Verdict
@@ -183,15 +184,15 @@ entries_from i (x ∷ xs) = label_entries i x ++ entries_from (suc i) xs
 abbrev pub entry_owners : List LabelPart → List ℕ
 entry_owners labels = map (λ e. e.output) (entries_from 0 labels)
 
--- an output with more than 1,024 entries
+-- an output with too many entries
 abbrev pub first_overfull : List ℕ → Option ℕ
-first_overfull counts = position (λ n. nat_lt 1024 n) counts
+first_overfull counts = position (λ n. nat_lt MOST_ENTRIES n) counts
 
 -- a total is passed at the owner of the first member past it
 abbrev pub totals : Document → Verdict
 totals d =
-    then_reported (reported CountOutOfRange Bus (option_map (λ s. s.bus) (slice_get d.streams 1024)))
-    (then_reported (reported CountOutOfRange Output (option_map (λ x. x.output) (slice_get d.labels 1024)))
+    then_reported (reported CountOutOfRange Bus (option_map (λ s. s.bus) (slice_get d.streams MOST_STREAMS)))
+    (then_reported (reported CountOutOfRange Output (option_map (λ x. x.output) (slice_get d.labels MOST_LABELS)))
     (reported CountOutOfRange Output (first_overfull (counts (entry_owners d.labels) (length d.outputs)))))
 
 -- ---- parameters

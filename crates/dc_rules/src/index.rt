@@ -5,6 +5,7 @@ ghost use Rattle.dc_rules.specs.Rules.{doubled, doubled_name, parameter_out, par
 ghost use Rattle.dc_parts.specs.Keys.{parameter_key, same_parameter};
 ghost use Rattle.dc_parts.specs.Names.{number_of};
 ghost use Rattle.dc_dict.specs.Rows.{refusal_of};
+ghost use Rattle.dc_parts.specs.declared.limits.TheConstants.{LONGEST_INTERVAL_US};
 
 use crate::breach::refuse;
 use dc_dict::{DictFault, Dictionary, Parameter};
@@ -104,12 +105,13 @@ pub struct Parameters {
 impl Model for Parameters {
     ghost use Rattle.std.specs.Prelude.{◌≤◌, All, List};
     ghost use Rattle.dc_dict.specs.declared.parameter.Parameter.{Parameter as ParameterRow};
+    ghost use Rattle.dc_parts.specs.declared.limits.TheConstants.{LONGEST_INTERVAL_US};
 
     ghost Value = { List ParameterRow };
 
     ghost view = { λ p. p.rows };
 
-    ghost invariant = { λ p. All (λ q. q.min_us ≤ 60000000) p.rows };
+    ghost invariant = { λ p. All (λ q. q.min_us ≤ LONGEST_INTERVAL_US) p.rows };
 }
 
 impl Parameters {
@@ -145,7 +147,7 @@ impl Parameters {
     /// The parameter of this key.
     pub fn find(&self, key: ParameterKey) -> Option<Parameter>
         ensures value { result ≡ parameter_of self.now key }
-        ensures small { IfSome result (λ p. p.min_us ≤ 60000000) }
+        ensures small { IfSome result (λ p. p.min_us ≤ LONGEST_INTERVAL_US) }
     {
         self.rows.row(key.label, key.equipment).copied()
     }

@@ -6,6 +6,7 @@ ghost use Rattle.dc_rules.specs.Rules.{first_inverted, first_quick, first_narrow
 ghost use Rattle.dc_rules.specs.Rules.{bus_names, stream_names, router_names, output_names, label_names, names, references, schedules, entries_from};
 ghost use Rattle.dc_rules.specs.Rules.{earlier, at_owner, breach_reported, first_overfull, entry_owners, first_doubled_offset, first_doubled_label};
 ghost use Rattle.dc_parts.specs.Document.{stream_owners, label_owners};
+ghost use Rattle.dc_parts.specs.declared.limits.TheConstants.{MOST_LABELS, MOST_STREAMS};
 
 use crate::breach::{Breach, earlier_of, refuse, refuse_breach};
 use crate::index::{NameIndex, Names, Parameters, distinct, first_doubled_parameter};
@@ -25,7 +26,10 @@ use crate::shape::{
     bus_shape, check_top, count_members, label_shape, output_shape, parameter_shape, router_shape,
     stream_owners, stream_shape,
 };
-use dc_parts::{BuildError, LabelPart, Parts, Section, StreamPart, TableRule};
+use dc_parts::{
+    BuildError, LabelPart, MOST_ENTRIES, MOST_LABELS, MOST_STREAMS, Parts, Section, StreamPart,
+    TableRule,
+};
 use std::alloc::{AllocError, Global};
 
 /// The owner of each label.
@@ -138,17 +142,17 @@ fn check_totals_of(parts: &Parts, entries: &[usize]) -> Result<(), BuildError>
 
 /// The bus by which the total of streams is passed.
 fn bus_past(streams: &[StreamPart]) -> Option<usize>
-    ensures { result ≡ option_map (λ s. s.bus) (slice_get streams.now 1024) }
+    ensures { result ≡ option_map (λ s. s.bus) (slice_get streams.now MOST_STREAMS) }
 {
-    let stream = streams.get(1024)?;
+    let stream = streams.get(MOST_STREAMS)?;
     Some(stream.bus)
 }
 
 /// The output by which the total of labels is passed.
 fn output_past(labels: &[LabelPart]) -> Option<usize>
-    ensures { result ≡ option_map (λ x. x.output) (slice_get labels.now 1024) }
+    ensures { result ≡ option_map (λ x. x.output) (slice_get labels.now MOST_LABELS) }
 {
-    let label = labels.get(1024)?;
+    let label = labels.get(MOST_LABELS)?;
     Some(label.output)
 }
 
@@ -156,7 +160,7 @@ fn output_past(labels: &[LabelPart]) -> Option<usize>
 fn first_overfull(counts: &[usize]) -> Option<usize>
     ensures { result ≡ first_overfull counts.now }
 {
-    counts.iter().position(|n| *n > 1024)
+    counts.iter().position(|n| *n > MOST_ENTRIES)
 }
 
 /// The intervals that the parameters leave to streams and labels.

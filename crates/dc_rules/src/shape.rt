@@ -10,7 +10,11 @@ ghost use Rattle.dc_parts.specs.Document.{stream_owners};
 use crate::breach::{Breach, breach_at, earlier_of, refuse};
 use dc_dict::Parameter;
 use dc_parts::{
-    BuildError, BusPart, LabelPart, OutputPart, Parts, RouterPart, Section, StreamPart, TableRule,
+    BuildError, BusPart, GREATEST_AGE, GREATEST_JITTER_US, GREATEST_QUEUE, LAST_OFFSET,
+    LONGEST_FRAME, LONGEST_INTERVAL_US, LONGEST_STALE, LONGEST_TICK, LONGEST_WITHIN, LabelPart,
+    MOST_BUSES, MOST_MEMBERS, MOST_OFFSETS, MOST_OUTPUTS, MOST_PARAMETERS, MOST_ROUTERS,
+    MOST_SOURCES, MOST_STEPS, MOST_VISITS, OutputPart, Parts, RouterPart, SHORTEST_TICK, Section,
+    StreamPart, TableRule,
 };
 use std::alloc::{AllocError, Global};
 
@@ -58,7 +62,8 @@ pub(crate) fn parameter_shape(parameters: &[Parameter]) -> Option<usize>
     ensures { result ≡ position parameter_out parameters.now }
 {
     parameters.iter().position(|p| {
-        is_outside(1, 60_000_000, p.min_us as usize) || is_outside(1, 60_000_000, p.max_us as usize)
+        is_outside(1, LONGEST_INTERVAL_US as usize, p.min_us as usize)
+            || is_outside(1, LONGEST_INTERVAL_US as usize, p.max_us as usize)
     })
 }
 
@@ -66,16 +71,14 @@ pub(crate) fn parameter_shape(parameters: &[Parameter]) -> Option<usize>
 fn first_count_out(counts: &[usize]) -> Option<usize>
     ensures { result ≡ first_count_out counts.now }
 {
-    counts.iter().position(|n| is_outside(1, 256, *n))
+    counts.iter().position(|n| is_outside(1, MOST_MEMBERS, *n))
 }
 
 /// The first bus with a number out of its range.
 fn first_bus_out(buses: &[BusPart]) -> Option<usize>
     ensures { result ≡ first_bus_out buses.now }
 {
-    buses
-        .iter()
-        .position(|b| is_outside(1, 4096, b.queue as usize))
+    buses.iter().position(|b| is_outside(1, GREATEST_QUEUE as usize, b.queue as usize))
 }
 
 /// The first bus out of shape; `counts` has the number of streams of each.
@@ -99,7 +102,9 @@ pub(crate) fn bus_shape(buses: &[BusPart], counts: &[usize]) -> Option<Breach>
 fn first_stream_out(streams: &[StreamPart]) -> Option<usize>
     ensures { result ≡ first_stream_out streams.now }
 {
-    streams.iter().position(|s| s.jitter_us > 60_000_000)
+    streams
+        .iter()
+        .position(|s| s.jitter_us > GREATEST_JITTER_US)
 }
 
 /// The first stream out of shape.
@@ -118,9 +123,9 @@ fn first_router_out(routers: &[RouterPart]) -> Option<usize>
     ensures { result ≡ first_router_out routers.now }
 {
     routers.iter().position(|r| {
-        is_outside(1, 1000, r.steps as usize)
-            || is_outside(1, 1000, r.within as usize)
-            || is_outside(1, 1000, r.most as usize)
+        is_outside(1, MOST_STEPS as usize, r.steps as usize)
+            || is_outside(1, LONGEST_WITHIN as usize, r.within as usize)
+            || is_outside(1, MOST_STEPS as usize, r.most as usize)
     })
 }
 
@@ -130,7 +135,7 @@ fn first_visits_out(routers: &[RouterPart]) -> Option<usize>
 {
     routers
         .iter()
-        .position(|r| is_outside(1, 256, r.visits.len()))
+        .position(|r| is_outside(1, MOST_VISITS, r.visits.len()))
 }
 
 /// The first router out of shape.
@@ -155,9 +160,9 @@ fn first_output_out(outputs: &[OutputPart]) -> Option<usize>
     ensures { result ≡ first_output_out outputs.now }
 {
     outputs.iter().position(|o| {
-        is_outside(1, 1000, o.steps as usize)
-            || is_outside(1, 1000, o.within as usize)
-            || is_outside(1, 100_000, o.frame as usize)
+        is_outside(1, MOST_STEPS as usize, o.steps as usize)
+            || is_outside(1, LONGEST_WITHIN as usize, o.within as usize)
+            || is_outside(1, LONGEST_FRAME as usize, o.frame as usize)
     })
 }
 
@@ -182,7 +187,7 @@ pub(crate) fn output_shape(outputs: &[OutputPart], counts: &[usize]) -> Option<B
 fn are_offsets_out(offsets: &[u32]) -> bool
     ensures { result ≡ offsets_out offsets.now }
 {
-    offsets.iter().any(|t| *t > 99_999)
+    offsets.iter().any(|t| *t > LAST_OFFSET)
 }
 
 /// The first label with a number out of its range.
@@ -190,8 +195,8 @@ fn first_label_out(labels: &[LabelPart]) -> Option<usize>
     ensures { result ≡ first_label_out labels.now }
 {
     labels.iter().position(|x| {
-        is_outside(1, 1_000_000, x.stale as usize)
-            || is_outside(1, 2_000_000, x.age as usize)
+        is_outside(1, LONGEST_STALE as usize, x.stale as usize)
+            || is_outside(1, GREATEST_AGE as usize, x.age as usize)
             || are_offsets_out(&x.offsets)
     })
 }
@@ -202,7 +207,7 @@ fn first_sources_out(labels: &[LabelPart]) -> Option<usize>
 {
     labels
         .iter()
-        .position(|x| is_outside(1, 8, x.sources.len()))
+        .position(|x| is_outside(1, MOST_SOURCES, x.sources.len()))
 }
 
 /// The first label with no offset or too many.
@@ -211,7 +216,7 @@ fn first_offsets_out(labels: &[LabelPart]) -> Option<usize>
 {
     labels
         .iter()
-        .position(|x| is_outside(1, 256, x.offsets.len()))
+        .position(|x| is_outside(1, MOST_OFFSETS, x.offsets.len()))
 }
 
 /// The first label out of shape.
@@ -243,26 +248,30 @@ pub(crate) fn check_top(parts: &Parts) -> Result<(), BuildError>
     refuse(
         TableRule::NumberOutOfRange,
         Section::Top,
-        top_if(is_outside(100, 10_000, parts.tick_us() as usize)),
+        top_if(is_outside(
+            SHORTEST_TICK as usize,
+            LONGEST_TICK as usize,
+            parts.tick_us() as usize,
+        )),
     )?;
     refuse(
         TableRule::CountOutOfRange,
         Section::Top,
-        top_if(parts.parameter_count() > 2048),
+        top_if(parts.parameter_count() > MOST_PARAMETERS),
     )?;
     refuse(
         TableRule::CountOutOfRange,
         Section::Top,
-        top_if(parts.bus_count() > 64),
+        top_if(parts.bus_count() > MOST_BUSES),
     )?;
     refuse(
         TableRule::CountOutOfRange,
         Section::Top,
-        top_if(parts.router_count() > 64),
+        top_if(parts.router_count() > MOST_ROUTERS),
     )?;
     refuse(
         TableRule::CountOutOfRange,
         Section::Top,
-        top_if(parts.output_count() > 32),
+        top_if(parts.output_count() > MOST_OUTPUTS),
     )
 }

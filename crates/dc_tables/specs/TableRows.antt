@@ -16,6 +16,7 @@ use Rattle.dc_word.specs.declared.format.Format.TheVariants.{Bnr}
 use Rattle.dc_dict.specs.declared.parameter.Parameter.{Parameter as ParameterPart}
 use Rattle.dc_rules.specs.Rules.{sdis_meet}
 use Rattle.dc_tables.specs.TableKeys.{TableKeys}
+use Rattle.dc_parts.specs.declared.limits.TheConstants.{GREATEST_AGE, GREATEST_JITTER, GREATEST_QUEUE, LONGEST_FRAME, LONGEST_INTERVAL, LONGEST_STALE, LONGEST_TICK, LONGEST_WITHIN, MOST_BUSES, MOST_ENTRIES, MOST_LABELS, MOST_OUTPUTS, MOST_ROUTERS, MOST_SOURCES, MOST_STEPS, MOST_STREAMS, MOST_VISITS, SHORTEST_TICK}
 
 pub record TableRows : Type 0 where
   pub tick_us : ℕ
@@ -64,16 +65,16 @@ visited t r n = slice_index_or (router_row t r).visits (n % length (router_row t
 -- what every Tables meets
 pub record AreValid (t : TableRows) : Type 0 where
   -- sizes
-  pub ticks_short : t.tick_us ≤ 10000
-  pub ticks_some : 100 ≤ t.tick_us
-  pub few_buses : length t.buses ≤ 64
-  pub few_routers : length t.routers ≤ 64
-  pub few_outputs : length t.outputs ≤ 32
-  pub few_streams : length t.streams ≤ 1024
-  pub few_labels : length t.labels ≤ 1024
+  pub ticks_short : t.tick_us ≤ LONGEST_TICK
+  pub ticks_some : SHORTEST_TICK ≤ t.tick_us
+  pub few_buses : length t.buses ≤ MOST_BUSES
+  pub few_routers : length t.routers ≤ MOST_ROUTERS
+  pub few_outputs : length t.outputs ≤ MOST_OUTPUTS
+  pub few_streams : length t.streams ≤ MOST_STREAMS
+  pub few_labels : length t.labels ≤ MOST_LABELS
   -- buses: a bus has its streams in one piece, and its router visits it, no other
   pub queues_some : (b : ℕ) → b < length t.buses → 1 ≤ (bus_row t b).queue
-  pub queues_small : (b : ℕ) → b < length t.buses → (bus_row t b).queue ≤ 4096
+  pub queues_small : (b : ℕ) → b < length t.buses → (bus_row t b).queue ≤ GREATEST_QUEUE
   pub spacings : (b : ℕ) → b < length t.buses → 1 ≤ (bus_row t b).spacing
   pub streams_there : (b : ℕ) → b < length t.buses → (bus_row t b).first + (bus_row t b).streams ≤ length t.streams
   pub streams_of_bus : (b s : ℕ) → b < length t.buses → s < length t.streams → (stream_row t s).bus ≡ b → ((bus_row t b).first ≤ s) × (s < (bus_row t b).first + (bus_row t b).streams)
@@ -85,31 +86,31 @@ pub record AreValid (t : TableRows) : Type 0 where
   pub streams_on_buses : (s : ℕ) → s < length t.streams → (stream_row t s).bus < length t.buses
   pub minimums : (s : ℕ) → s < length t.streams → 1 ≤ (stream_row t s).minimum
   pub maximums : (s : ℕ) → s < length t.streams → (stream_row t s).minimum ≤ (stream_row t s).maximum
-  pub maximums_small : (s : ℕ) → s < length t.streams → (stream_row t s).maximum ≤ 600000
-  pub jitters_small : (s : ℕ) → s < length t.streams → (stream_row t s).jitter ≤ 600000
+  pub maximums_small : (s : ℕ) → s < length t.streams → (stream_row t s).maximum ≤ LONGEST_INTERVAL
+  pub jitters_small : (s : ℕ) → s < length t.streams → (stream_row t s).jitter ≤ GREATEST_JITTER
   -- no two of one bus declare the same words
   pub streams_apart : (s u : ℕ) → u < s → s < length t.streams → (stream_row t s).bus ≡ (stream_row t u).bus → (stream_row t s).label ≡ (stream_row t u).label → sdis_meet (stream_row t s).sdi (stream_row t u).sdi ≡ false
   -- routers
   pub visits_there : (r : ℕ) → r < length t.routers → 0 < length (router_row t r).visits
-  pub few_visits : (r : ℕ) → r < length t.routers → length (router_row t r).visits ≤ 256
+  pub few_visits : (r : ℕ) → r < length t.routers → length (router_row t r).visits ≤ MOST_VISITS
   pub visits_on_buses : (r n : ℕ) → r < length t.routers → slice_index_or (router_row t r).visits n 0 < length t.buses
   pub routers_step : (r : ℕ) → r < length t.routers → (1 ≤ (router_row t r).steps) × (1 ≤ (router_row t r).most)
   pub routers_paced : (r : ℕ) → r < length t.routers → 1 ≤ (router_row t r).within
-  pub routers_small : (r : ℕ) → r < length t.routers → ((router_row t r).within ≤ 1000) × ((router_row t r).most ≤ 1000)
-  pub routers_steps_small : (r : ℕ) → r < length t.routers → (router_row t r).steps ≤ 1000
+  pub routers_small : (r : ℕ) → r < length t.routers → ((router_row t r).within ≤ LONGEST_WITHIN) × ((router_row t r).most ≤ MOST_STEPS)
+  pub routers_steps_small : (r : ℕ) → r < length t.routers → (router_row t r).steps ≤ MOST_STEPS
   pub routers_able : (r : ℕ) → r < length t.routers → (router_row t r).steps ≤ (router_row t r).most * (router_row t r).within
   -- outputs
   pub outputs_step : (o : ℕ) → o < length t.outputs → 1 ≤ (output_row t o).steps
-  pub outputs_steps_small : (o : ℕ) → o < length t.outputs → (output_row t o).steps ≤ 1000
+  pub outputs_steps_small : (o : ℕ) → o < length t.outputs → (output_row t o).steps ≤ MOST_STEPS
   pub outputs_paced : (o : ℕ) → o < length t.outputs → 1 ≤ (output_row t o).within
-  pub outputs_small : (o : ℕ) → o < length t.outputs → (output_row t o).within ≤ 1000
+  pub outputs_small : (o : ℕ) → o < length t.outputs → (output_row t o).within ≤ LONGEST_WITHIN
   pub gaps_some : (o : ℕ) → o < length t.outputs → 1 ≤ (output_row t o).gap
   pub outputs_able : (o : ℕ) → o < length t.outputs → (output_row t o).steps * (output_row t o).gap ≤ (output_row t o).within
   pub frames : (o : ℕ) → o < length t.outputs → 1 ≤ (output_row t o).frame
-  pub frames_short : (o : ℕ) → o < length t.outputs → (output_row t o).frame ≤ 100000
+  pub frames_short : (o : ℕ) → o < length t.outputs → (output_row t o).frame ≤ LONGEST_FRAME
   -- entries: in order of offset, and each label has one
   pub entries_some : (o : ℕ) → o < length t.outputs → 1 ≤ length (output_row t o).entries
-  pub few_entries : (o : ℕ) → o < length t.outputs → length (output_row t o).entries ≤ 1024
+  pub few_entries : (o : ℕ) → o < length t.outputs → length (output_row t o).entries ≤ MOST_ENTRIES
   pub entries_ascend : (o i j : ℕ) → o < length t.outputs → i < j → j < length (output_row t o).entries → (entry_row t o i).offset < (entry_row t o j).offset
   pub entries_in_frame : (o i : ℕ) → o < length t.outputs → i < length (output_row t o).entries → (entry_row t o i).offset < (output_row t o).frame
   pub entries_labelled : (o i : ℕ) → o < length t.outputs → i < length (output_row t o).entries → ((entry_row t o i).label < length t.labels) × ((label_row t (entry_row t o i).label).output ≡ o)
@@ -119,13 +120,13 @@ pub record AreValid (t : TableRows) : Type 0 where
   pub labels_in_frames : (x : ℕ) → x < length t.labels → (i : ℕ) × (i < length (output_row t (label_row t x).output).entries) × ((entry_row t (label_row t x).output i).label ≡ x)
   pub labels_fit : (x : ℕ) → x < length t.labels → ((label_row t x).label < 256) × ((label_row t x).sdi < 4)
   pub sources_some : (x : ℕ) → x < length t.labels → 1 ≤ length (label_row t x).sources
-  pub few_sources : (x : ℕ) → x < length t.labels → length (label_row t x).sources ≤ 8
+  pub few_sources : (x : ℕ) → x < length t.labels → length (label_row t x).sources ≤ MOST_SOURCES
   pub sources_once : (x i j : ℕ) → x < length t.labels → i < length (label_row t x).sources → j < length (label_row t x).sources → slice_index (label_row t x).sources i ≡ slice_index (label_row t x).sources j → i ≡ j
   pub sources_there : (x k : ℕ) → x < length t.labels → k < length (label_row t x).sources → slice_index (label_row t x).sources k < length t.streams
-  pub stales : (x : ℕ) → x < length t.labels → (1 ≤ (label_row t x).stale) × ((label_row t x).stale ≤ 1000000)
-  pub limits : (x : ℕ) → x < length t.labels → (1 ≤ (label_row t x).age_limit) × ((label_row t x).age_limit ≤ 2000000)
+  pub stales : (x : ℕ) → x < length t.labels → (1 ≤ (label_row t x).stale) × ((label_row t x).stale ≤ LONGEST_STALE)
+  pub limits : (x : ℕ) → x < length t.labels → (1 ≤ (label_row t x).age_limit) × ((label_row t x).age_limit ≤ GREATEST_AGE)
   pub intervals : (x : ℕ) → x < length t.labels → (label_row t x).minimum ≤ (label_row t x).maximum
-  pub intervals_small : (x : ℕ) → x < length t.labels → (label_row t x).maximum ≤ 600000
+  pub intervals_small : (x : ℕ) → x < length t.labels → (label_row t x).maximum ≤ LONGEST_INTERVAL
 
 -- ---- bounds of a bus and of an output
 

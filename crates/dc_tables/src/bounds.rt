@@ -3,6 +3,7 @@ ghost use Rattle.std.specs.Prelude.{◌≡◌, ◌+◌, ◌≤◌, ℕ, Some, No
 ghost use Rattle.dc_bound.specs.Window.{wire_cap};
 ghost use Rattle.dc_bound.specs.declared.arrival.Wire.{Wire as SpecWire};
 ghost use Rattle.dc_tables.specs.Bounds.{frame_offsets};
+ghost use Rattle.dc_parts.specs.declared.limits.TheConstants.{LONGEST_TICK, MOST_STREAMS};
 
 use crate::rows::{Bus, Entry, Output};
 use dc_bound::Wire;
@@ -51,7 +52,7 @@ impl FrameOffsets {
 /// The wire of a bus that is not policed.
 pub(crate) fn wire_of(tick_us: u32, bus: &Bus) -> Option<Wire>
     requires some_tick { 1 ≤ tick_us }
-    requires short_tick { tick_us ≤ 10000 }
+    requires short_tick { tick_us ≤ LONGEST_TICK }
     requires some_spacing { 1 ≤ bus.now.spacing }
     ensures policed { bus.now.police ≡ true → result ≡ None }
     ensures free { bus.now.police ≡ false → (w : SpecWire) × (result ≡ Some w) × ((d : ℕ) → wire_cap w.tick w.spacing d ≡ wire_cap tick_us bus.now.spacing d) }
@@ -79,7 +80,7 @@ pub(crate) fn output_offsets(
 /// So many of the items, from this one on.
 pub(crate) fn part<T>(items: &[T], first: usize, count: usize) -> &[T]
     requires inside { first + count ≤ length items.now }
-    requires small { length items.now ≤ 1024 }
+    requires small { length items.now ≤ MOST_STREAMS }
     ensures { result.now ≡ take count (drop first items.now) }
 {
     let rest = &items[first..];

@@ -5,6 +5,8 @@ ghost use Rattle.dc_tables.specs.Bounds.{AreBounds, frame_offsets, table_rows};
 ghost use Rattle.dc_rules.specs.Rules.{entries_from, bus_names, stream_names};
 ghost use Rattle.dc_parts.specs.Document.{stream_owners};
 ghost use Rattle.dc_rules.specs.Passed.{ArePassed};
+ghost use Rattle.dc_bound.specs.declared.limits.TheConstants.{GREATEST_JITTER};
+ghost use Rattle.dc_parts.specs.declared.limits.TheConstants.{MOST_STREAMS};
 
 use crate::alike::{BusBounds, bus_bounds};
 use crate::assemble::{bus_rows, label_rows, output_rows, router_rows, stream_rows};
@@ -115,8 +117,8 @@ pub(crate) fn make_rows(alloc: Global, parts: &Parts, passed: &Passed) -> Result
 
 /// What is kept beside these rows.
 pub(crate) fn make_kept(alloc: Global, parts: &Parts, rows: &Rows) -> Result<Kept, AllocError>
-    requires few { length rows.now.streams.items ≤ 1024 }
-    requires bounded { All (λ s. (1 ≤ s.minimum) × (s.jitter ≤ 1000000000)) rows.now.streams.items }
+    requires few { length rows.now.streams.items ≤ MOST_STREAMS }
+    requires bounded { All (λ s. (1 ≤ s.minimum) × (s.jitter ≤ GREATEST_JITTER)) rows.now.streams.items }
     requires there { All (λ b. b.first + b.streams ≤ length rows.now.streams.items) rows.now.buses.items }
     ensures bounds { IfOk result (λ k. AreBounds k.bounds.items rows.now.buses.items rows.now.streams.items) }
     ensures offsets { IfOk result (λ k. k.offsets.items ≡ frame_offsets rows.now.outputs.items) }

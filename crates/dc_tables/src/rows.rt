@@ -3,7 +3,7 @@ ghost use Rattle.std.specs.Prelude.{◌≡◌, ◌↔◌, [], length, IsTrue};
 use dc_word::{Format, Label, Sdi};
 use std::marker::Model;
 
-/// A receive bus: the capacity of its queue in words, 1 to 4,096; whether it refuses early words (`police`); `spacing`,
+/// A receive bus: the capacity of its queue in words; whether it refuses early words (`police`); `spacing`,
 /// the least time between two words on the wire, in microseconds; its streams, those from number `first` on, `streams` of
 /// them; and the router that visits it.
 #[derive(Clone, Copy, Debug, PartialEq)]
@@ -17,7 +17,7 @@ pub struct Bus {
 }
 
 /// A stream of words: the bus that brings it, what it declares (no SDI: any), its least and greatest interval, and how
-/// late of their rhythm its words may come (`jitter`, at most 600,000), in ticks.
+/// late of their rhythm its words may come (`jitter`), in ticks.
 #[derive(Clone, Copy, Debug, PartialEq)]
 pub struct Stream {
     pub bus: usize,

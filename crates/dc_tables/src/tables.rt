@@ -228,7 +228,7 @@ impl Tables {
         self.written.stream_equipment(stream)
     }
 
-    /// The jitter of a stream in microseconds, as it is written, 0 to 60,000,000.
+    /// The jitter of a stream in microseconds, as it is written, at most [`GREATEST_JITTER_US`](dc_parts::GREATEST_JITTER_US).
     pub fn stream_jitter(&self, stream: usize) -> u32
         requires { stream < length self.now.streams }
         ensures { result ≡ slice_index_or self.now.keys.written.stream_jitters stream 0 }
@@ -244,7 +244,7 @@ impl Tables {
         self.written.label_equipment(label)
     }
 
-    /// The ticks of the frame in which a label is due, in the order of the text, 0 to 99,999.
+    /// The ticks of the frame in which a label is due, in the order of the text, at most [`LAST_OFFSET`](dc_parts::LAST_OFFSET).
     pub fn label_offsets(&self, label: usize) -> &[u32]
         requires { label < length self.now.labels }
         ensures { result.now ≡ slice_index_or self.now.keys.written.label_offsets label [] }
@@ -266,7 +266,8 @@ impl Tables {
         let _ = &self.tick_us;
     }
 
-    /// The length of a tick in microseconds, 100 to 10,000.
+    /// The length of a tick in microseconds, [`SHORTEST_TICK`](dc_parts::SHORTEST_TICK) to
+    /// [`LONGEST_TICK`](dc_parts::LONGEST_TICK).
     pub fn tick_us(&self) -> u32
         ensures { result ≡ self.now.tick_us }
     {
@@ -343,7 +344,7 @@ impl Tables {
         &self.labels[label]
     }
 
-    /// The capacity of a bus's queue, 1 to 4,096.
+    /// The capacity of a bus's queue, 1 to [`GREATEST_QUEUE`](dc_parts::GREATEST_QUEUE).
     pub fn queue(&self, bus: usize) -> u32
         requires { bus < length self.now.buses }
         ensures { result ≡ (bus_row self.now bus).queue }

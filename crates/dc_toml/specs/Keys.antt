@@ -10,6 +10,7 @@ use Rattle.dc_parts.specs.declared.fault.TableRule.TheVariants.{KeyAbsent, KeyUn
 use Rattle.dc_parts.specs.Names.{name_of}
 use Rattle.dc_toml.specs.declared.place.TablePlace.{TablePlace}
 use Rattle.dc_toml.specs.Faults.{Reading, refused, ◌>>=◌, wanted, found}
+use Rattle.dc_parts.specs.declared.limits.TheConstants.{LAST_OFFSET}
 
 -- ---- tables and their keys
 
@@ -164,7 +165,7 @@ unfoldable pub offsets_at : TablePlace → List ℕ → (low high : ℕ) → Mem
 offsets_at p key low high ms = do
   ds ← array_at p key ms
   kinds ← wanted p WrongKind (all_items is_number ds)
-  offsets ← each_item (number_item p 0 99999) ds
+  offsets ← each_item (number_item p 0 LAST_OFFSET) ds
   length ← counted p low high ds
   Ok offsets
 

@@ -11,6 +11,8 @@ use Rattle.dc_toml.specs.declared.place.TablePlace.{TablePlace}
 use Rattle.dc_toml.specs.Faults.{Reading, place, refused, ◌>>=◌, wanted, found}
 use Rattle.dc_toml.specs.Written.{Written, nothing_written, and_parameter, and_bus, and_stream, and_router, and_output, and_label}
 use Rattle.dc_toml.specs.Keys.{table_of, known, present, keyed, bool_at, number_at, name_at, speed_at, format_at, label_at, equipment_at, sdi_at, stream_sdi_at, names_at, offsets_at, tables_at, optional_at}
+use Rattle.dc_parts.specs.declared.limits.TheConstants.{GREATEST_AGE, GREATEST_JITTER_US, GREATEST_QUEUE, LONGEST_FRAME, LONGEST_INTERVAL_US, LONGEST_STALE, LONGEST_TICK, LONGEST_WITHIN, MOST_BUSES, MOST_MEMBERS, MOST_OFFSETS, MOST_OUTPUTS, MOST_PARAMETERS, MOST_ROUTERS, MOST_SOURCES, MOST_STEPS, MOST_VISITS, SHORTEST_TICK}
+use Rattle.dc_toml.specs.declared.read.TheConstants.{TEXT_LIMIT}
 
 -- the tables of a list in order, each after what was read before it
 abbrev pub each_table : (Written → Data → Reading Written) → Written → Items → Reading Written
@@ -49,8 +51,8 @@ read_parameter d v = do
   label ← label_at (next_parameter d) (codes "label") ms
   equipment ← equipment_at (next_parameter d) (codes "equipment") ms
   format ← format_at (next_parameter d) (codes "format") ms
-  min_us ← number_at (next_parameter d) (codes "min_us") 1 60000000 ms
-  max_us ← number_at (next_parameter d) (codes "max_us") 1 60000000 ms
+  min_us ← number_at (next_parameter d) (codes "min_us") 1 LONGEST_INTERVAL_US ms
+  max_us ← number_at (next_parameter d) (codes "max_us") 1 LONGEST_INTERVAL_US ms
   Ok (and_parameter d (record { label = label; equipment = equipment; format = format; min_us = min_us; max_us = max_us }))
 
 -- ---- buses, each followed by its streams
@@ -62,7 +64,7 @@ stream_keys Two = codes "name" ∷ codes "label" ∷ codes "equipment" ∷ codes
 -- the jitter of a stream in microseconds; in version 1 there is none
 abbrev pub jitter_at : Version → TablePlace → Members → Reading ℕ
 jitter_at One p ms = Ok 0
-jitter_at Two p ms = number_at p (codes "jitter_us") 0 60000000 ms
+jitter_at Two p ms = number_at p (codes "jitter_us") 0 GREATEST_JITTER_US ms
 
 -- a stream of the last bus
 unfoldable pub read_stream : Written → Data → Reading Written
@@ -91,9 +93,9 @@ read_bus d v = do
   k ← keyed (next_bus d) (bus_keys d.version) ms
   name ← name_at (next_bus d) (codes "name") ms
   speed ← speed_at (next_bus d) (codes "speed") ms
-  queue ← number_at (next_bus d) (codes "queue") 1 4096 ms
+  queue ← number_at (next_bus d) (codes "queue") 1 GREATEST_QUEUE ms
   police ← police_at d.version (next_bus d) ms
-  streams ← tables_at (next_bus d) (codes "stream") 1 256 ms
+  streams ← tables_at (next_bus d) (codes "stream") 1 MOST_MEMBERS ms
   each_table read_stream (and_bus d (record { name = name; speed = speed; queue = queue; police = police })) streams
 
 -- ---- routers
@@ -106,10 +108,10 @@ read_router d v = do
   ms ← table_of (next_router d) v
   k ← keyed (next_router d) router_keys ms
   name ← name_at (next_router d) (codes "name") ms
-  steps ← number_at (next_router d) (codes "steps") 1 1000 ms
-  within ← number_at (next_router d) (codes "within") 1 1000 ms
-  most ← number_at (next_router d) (codes "most") 1 1000 ms
-  visits ← names_at (next_router d) (codes "visits") 1 256 ms
+  steps ← number_at (next_router d) (codes "steps") 1 MOST_STEPS ms
+  within ← number_at (next_router d) (codes "within") 1 LONGEST_WITHIN ms
+  most ← number_at (next_router d) (codes "most") 1 MOST_STEPS ms
+  visits ← names_at (next_router d) (codes "visits") 1 MOST_VISITS ms
   Ok (and_router d (record { name = name; steps = steps; within = within; most = most; visits = visits }))
 
 -- ---- outputs, each followed by its labels
@@ -126,10 +128,10 @@ read_label d v = do
   label ← label_at (next_label d) (codes "label") ms
   equipment ← equipment_at (next_label d) (codes "equipment") ms
   sdi ← sdi_at (next_label d) (codes "sdi") ms
-  sources ← names_at (next_label d) (codes "sources") 1 8 ms
-  stale ← number_at (next_label d) (codes "stale") 1 1000000 ms
-  age ← number_at (next_label d) (codes "age") 1 2000000 ms
-  offsets ← offsets_at (next_label d) (codes "offsets") 1 256 ms
+  sources ← names_at (next_label d) (codes "sources") 1 MOST_SOURCES ms
+  stale ← number_at (next_label d) (codes "stale") 1 LONGEST_STALE ms
+  age ← number_at (next_label d) (codes "age") 1 GREATEST_AGE ms
+  offsets ← offsets_at (next_label d) (codes "offsets") 1 MOST_OFFSETS ms
   Ok (and_label d (record { output = length d.outputs - 1; name = name; label = label; equipment = equipment; sdi = sdi; sources = sources; stale = stale; age = age; offsets = offsets }))
 
 abbrev pub output_keys : List (List ℕ)
@@ -141,10 +143,10 @@ read_output d v = do
   k ← keyed (next_output d) output_keys ms
   name ← name_at (next_output d) (codes "name") ms
   speed ← speed_at (next_output d) (codes "speed") ms
-  steps ← number_at (next_output d) (codes "steps") 1 1000 ms
-  within ← number_at (next_output d) (codes "within") 1 1000 ms
-  frame ← number_at (next_output d) (codes "frame") 1 100000 ms
-  labels ← tables_at (next_output d) (codes "label") 1 256 ms
+  steps ← number_at (next_output d) (codes "steps") 1 MOST_STEPS ms
+  within ← number_at (next_output d) (codes "within") 1 LONGEST_WITHIN ms
+  frame ← number_at (next_output d) (codes "frame") 1 LONGEST_FRAME ms
+  labels ← tables_at (next_output d) (codes "label") 1 MOST_MEMBERS ms
   each_table read_label (and_output d (record { name = name; speed = speed; steps = steps; within = within; frame = frame })) labels
 
 -- ---- the whole text
@@ -173,7 +175,7 @@ unfoldable pub tick_of : TablePlace → Members → Reading ℕ
 tick_of t ms = do
   k ← known t top_keys ms
   p ← present t wanted_keys ms
-  number_at t (codes "tick_us") 100 10000 ms
+  number_at t (codes "tick_us") SHORTEST_TICK LONGEST_TICK ms
 
 -- the lists of tables at the top
 pub record TopItems : Type 0 where
@@ -185,10 +187,10 @@ pub record TopItems : Type 0 where
 -- of at most so many tables, before these are looked at
 unfoldable pub lists_of : TablePlace → Members → Reading TopItems
 lists_of t ms = do
-  parameters ← optional_at t (codes "parameter") 2048 ms
-  buses ← optional_at t (codes "bus") 64 ms
-  routers ← optional_at t (codes "router") 64 ms
-  outputs ← optional_at t (codes "output") 32 ms
+  parameters ← optional_at t (codes "parameter") MOST_PARAMETERS ms
+  buses ← optional_at t (codes "bus") MOST_BUSES ms
+  routers ← optional_at t (codes "router") MOST_ROUTERS ms
+  outputs ← optional_at t (codes "output") MOST_OUTPUTS ms
   Ok (record { parameters = parameters; buses = buses; routers = routers; outputs = outputs })
 
 -- and then all of them
@@ -207,9 +209,9 @@ tables_in ms = do
   lists ← lists_of top ms
   members_of (nothing_written version tick_us) lists
 
--- the TOML document that a text is: within 1,048,576 bytes, in UTF-8, by the reading of `toml`, else T01
+-- the TOML document that a text is: within its limit, in UTF-8, by the reading of `toml`, else T01
 unfoldable pub document_of : List ℕ → Reading Members
-document_of text = if nat_le (length text) 1048576 && is_utf8 text then found top NotToml (parse_document text) else refused top NotToml
+document_of text = if nat_le (length text) TEXT_LIMIT && is_utf8 text then found top NotToml (parse_document text) else refused top NotToml
 
 -- the tables of a text
 abbrev pub tables_of : List ℕ → Reading Written

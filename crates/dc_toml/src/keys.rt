@@ -10,7 +10,7 @@ ghost use Rattle.dc_toml.specs.Reading.{version_of, bus_keys, stream_keys, polic
 use crate::place::TablePlace;
 use crate::spellings;
 use dc_dict::Equipment;
-use dc_parts::{Name, Speed, TableFault, TableRule, Version};
+use dc_parts::{GREATEST_JITTER_US, Name, Speed, TableFault, TableRule, Version};
 use dc_word::{Format, Label, Sdi};
 use toml::{Table, Value};
 
@@ -174,7 +174,7 @@ pub fn jitter(table: &Table, version: Version, place: TablePlace) -> Result<u32,
 {
     match version {
         Version::One => Ok(0),
-        Version::Two => number(table, "jitter_us", 0, 60_000_000, place),
+        Version::Two => number(table, "jitter_us", 0, GREATEST_JITTER_US, place),
     }
 }
 

@@ -5,10 +5,11 @@ ghost use Rattle.toml.specs.View.{view, items_view, table_view};
 ghost use Rattle.dc_parts.specs.declared.fault.TableRule.TheVariants.{WrongKind};
 ghost use Rattle.dc_toml.specs.Faults.{seen, Gives, wanted};
 ghost use Rattle.dc_toml.specs.Keys.{array_at, all_items, is_text, is_number, each_item, name_item as name_in_item, number_item, counted, items_len, names_at, offsets_at, tables_at, optional_at};
+ghost use Rattle.dc_parts.specs.declared.limits.TheConstants.{LAST_OFFSET};
 
 use crate::keys::{find, within};
 use crate::place::TablePlace;
-use dc_parts::{BuildError, Name, TableFault, TableRule};
+use dc_parts::{BuildError, LAST_OFFSET, Name, TableFault, TableRule};
 use std::alloc::{AllocError, Global};
 use toml::{Table, Value};
 
@@ -121,11 +122,11 @@ fn each_name(alloc: Global, values: &[Value], place: TablePlace) -> Result<Vec<N
 
 // The offsets that values are.
 fn each_offset(alloc: Global, values: &[Value], place: TablePlace) -> Result<Vec<u32>, BuildError>
-    ensures { Gives (λ v. v.items) result (each_item (number_item place 0 99999) (items_view values.now)) }
+    ensures { Gives (λ v. v.items) result (each_item (number_item place 0 LAST_OFFSET) (items_view values.now)) }
 {
     let mut offsets = Vec::new(alloc);
     for value in values {
-        match within(value.as_integer(), 0, 99_999, place) {
+        match within(value.as_integer(), 0, LAST_OFFSET, place) {
             Err(fault) => return Err(BuildError::Refused(fault)),
             Ok(offset) => match offsets.push(offset) {
                 Ok(()) => {}

@@ -12,7 +12,8 @@ use crate::place::TablePlace;
 use crate::sections::read_tables_of;
 use dc_dict::Parameter;
 use dc_parts::{
-    BuildError, BusPart, OutputPart, Parts, RouterPart, Section, TableFault, TableRule,
+    BuildError, BusPart, LONGEST_TICK, MOST_BUSES, MOST_OUTPUTS, MOST_PARAMETERS, MOST_ROUTERS,
+    OutputPart, Parts, RouterPart, SHORTEST_TICK, Section, TableFault, TableRule,
 };
 use dc_tables::Tables;
 use std::alloc::{AllocError, Global};
@@ -32,7 +33,7 @@ fn tick(document: &Table, top: TablePlace) -> Result<u32, TableFault>
         top,
     )?;
     present(document, &["version", "tick_us"], top)?;
-    number(document, "tick_us", 100, 10_000, top)
+    number(document, "tick_us", SHORTEST_TICK, LONGEST_TICK, top)
 }
 
 // The four lists of tables at the top.
@@ -49,10 +50,10 @@ struct TopLists<'a> {
 fn lists<'a>(document: &'a Table, top: TablePlace) -> Result<TopLists<'a>, TableFault>
     ensures { seen (λ l. record { parameters = items_view l.parameters.now; buses = items_view l.buses.now; routers = items_view l.routers.now; outputs = items_view l.outputs.now }) result ≡ lists_of top (table_view document.now) }
 {
-    let parameters = optional_tables(document, "parameter", 2048, top)?;
-    let buses = optional_tables(document, "bus", 64, top)?;
-    let routers = optional_tables(document, "router", 64, top)?;
-    let outputs = optional_tables(document, "output", 32, top)?;
+    let parameters = optional_tables(document, "parameter", MOST_PARAMETERS, top)?;
+    let buses = optional_tables(document, "bus", MOST_BUSES, top)?;
+    let routers = optional_tables(document, "router", MOST_ROUTERS, top)?;
+    let outputs = optional_tables(document, "output", MOST_OUTPUTS, top)?;
     Ok(TopLists {
         parameters,
         buses,
@@ -120,7 +121,7 @@ fn document(alloc: Global, text: &[u8]) -> Result<Table, BuildError>
     }
 }
 
-/// The parts that a text says: tables in TOML, of at most 1,048,576 bytes, whose rules are not tested yet.
+/// The parts that a text says: tables in TOML, of at most [`TEXT_LIMIT`] bytes, whose rules are not tested yet.
 ///
 /// # Errors
 ///
@@ -133,7 +134,7 @@ pub fn read_parts(alloc: Global, text: &[u8]) -> Result<Parts, BuildError>
     parts(alloc, &table)
 }
 
-/// The tables that a TOML text of at most 1,048,576 bytes says, valid by all rules.
+/// The tables that a TOML text of at most [`TEXT_LIMIT`] bytes says, valid by all rules.
 ///
 /// # Errors
 ///

@@ -15,7 +15,9 @@ use crate::lists::{names, offsets, tables};
 use crate::place::TablePlace;
 use dc_dict::Parameter;
 use dc_parts::{
-    BuildError, BusPart, LabelPart, OutputPart, Parts, RouterPart, Section, StreamPart,
+    BuildError, BusPart, GREATEST_AGE, GREATEST_QUEUE, LONGEST_FRAME, LONGEST_INTERVAL_US,
+    LONGEST_STALE, LONGEST_WITHIN, LabelPart, MOST_MEMBERS, MOST_OFFSETS, MOST_SOURCES, MOST_STEPS,
+    MOST_VISITS, OutputPart, Parts, RouterPart, Section, StreamPart,
 };
 use std::alloc::{AllocError, Global};
 use toml::Value;
@@ -88,8 +90,8 @@ impl TopTable for Parameter {
         let label = label(table, "label", place)?;
         let equipment = equipment(table, "equipment", place)?;
         let format = format(table, "format", place)?;
-        let min_us = number(table, "min_us", 1, 60_000_000, place)?;
-        let max_us = number(table, "max_us", 1, 60_000_000, place)?;
+        let min_us = number(table, "min_us", 1, LONGEST_INTERVAL_US, place)?;
+        let max_us = number(table, "max_us", 1, LONGEST_INTERVAL_US, place)?;
         parts.push_parameter(Parameter {
             label,
             equipment,
@@ -154,9 +156,9 @@ impl TopTable for BusPart {
         bus_keyed(table, version, place)?;
         let name = name(table, "name", place)?;
         let speed = speed(table, "speed", place)?;
-        let queue = number(table, "queue", 1, 4096, place)?;
+        let queue = number(table, "queue", 1, GREATEST_QUEUE, place)?;
         let police = police(table, version, place)?;
-        let streams = tables(table, "stream", 1, 256, place)?;
+        let streams = tables(table, "stream", 1, MOST_MEMBERS, place)?;
         parts.push_bus(BusPart {
             name,
             speed,
@@ -177,10 +179,10 @@ impl TopTable for RouterPart {
         let keys = &["name", "steps", "within", "most", "visits"];
         keyed(table, keys, place)?;
         let name = name(table, "name", place)?;
-        let steps = number(table, "steps", 1, 1000, place)?;
-        let within = number(table, "within", 1, 1000, place)?;
-        let most = number(table, "most", 1, 1000, place)?;
-        let visits = names(alloc, table, "visits", 1, 256, place)?;
+        let steps = number(table, "steps", 1, MOST_STEPS, place)?;
+        let within = number(table, "within", 1, LONGEST_WITHIN, place)?;
+        let most = number(table, "most", 1, MOST_STEPS, place)?;
+        let visits = names(alloc, table, "visits", 1, MOST_VISITS, place)?;
         add_router(
             parts,
             RouterPart {
@@ -220,10 +222,10 @@ fn read_label(alloc: Global, parts: &mut Parts, value: &Value) -> Result<(), Bui
     let label = label(table, "label", place)?;
     let equipment = equipment(table, "equipment", place)?;
     let sdi = sdi(table, "sdi", place)?;
-    let sources = names(alloc, table, "sources", 1, 8, place)?;
-    let stale = number(table, "stale", 1, 1_000_000, place)?;
-    let age = number(table, "age", 1, 2_000_000, place)?;
-    let offsets = offsets(alloc, table, "offsets", 1, 256, place)?;
+    let sources = names(alloc, table, "sources", 1, MOST_SOURCES, place)?;
+    let stale = number(table, "stale", 1, LONGEST_STALE, place)?;
+    let age = number(table, "age", 1, GREATEST_AGE, place)?;
+    let offsets = offsets(alloc, table, "offsets", 1, MOST_OFFSETS, place)?;
     add_label(
         parts,
         LabelPart {
@@ -266,10 +268,10 @@ impl TopTable for OutputPart {
         keyed(table, keys, place)?;
         let name = name(table, "name", place)?;
         let speed = speed(table, "speed", place)?;
-        let steps = number(table, "steps", 1, 1000, place)?;
-        let within = number(table, "within", 1, 1000, place)?;
-        let frame = number(table, "frame", 1, 100_000, place)?;
-        let labels = tables(table, "label", 1, 256, place)?;
+        let steps = number(table, "steps", 1, MOST_STEPS, place)?;
+        let within = number(table, "within", 1, LONGEST_WITHIN, place)?;
+        let frame = number(table, "frame", 1, LONGEST_FRAME, place)?;
+        let labels = tables(table, "label", 1, MOST_MEMBERS, place)?;
         parts.push_output(OutputPart {
             name,
             speed,

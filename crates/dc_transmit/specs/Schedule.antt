@@ -4,6 +4,7 @@ use Rattle.dc_bound.specs.Frame.{due_of_entry, due_by, IsFrame}
 use Rattle.dc_tables.specs.TableRows.{TableRows, output_row}
 use Rattle.dc_tables.specs.declared.rows.Entry.{Entry}
 use Rattle.dc_transmit.specs.Gaps.{gaps, least_gap, greatest_gap}
+use Rattle.dc_bound.specs.declared.limits.TheConstants.{LONGEST_FRAME, MOST_OFFSETS}
 
 -- what a clause sees of a schedule
 pub record ScheduleData : Type 0 where
@@ -47,8 +48,8 @@ least_label_gap s x = least_gap off (is_of x) s.frame s.entries
 abbrev pub greatest_label_gap : ScheduleData → ℕ → ℕ
 greatest_label_gap s x = greatest_gap off (is_of x) s.frame s.entries
 
--- offsets ascend below the frame; there are 1 to 1,024 entries, and the frame is at most 100,000 ticks
+-- offsets ascend below the frame; there is an entry, and entries and frame are within their limits
 pub record IsSchedule (frame : ℕ) (entries : List Entry) : Type 0 where
   pub framed : IsFrame off no_entry frame entries
-  pub few : length entries ≤ 1024
-  pub short : frame ≤ 100000
+  pub few : length entries ≤ MOST_OFFSETS
+  pub short : frame ≤ LONGEST_FRAME

@@ -2,6 +2,7 @@ ghost use Rattle.std.specs.Prelude.{◌≡◌, ℕ, ◌+◌, ◌<◌, ◌≤◌,
 ghost use Rattle.dc_tables.specs.TableRows.{TableRows, output_row};
 ghost use Rattle.dc_transmit.specs.Gaps.{first_off, least_gap, greatest_gap};
 ghost use Rattle.dc_transmit.specs.Schedule.{ScheduleData, schedule_of, label_at, due_tick, due_count, least_label_gap, greatest_label_gap, off, is_of};
+ghost use Rattle.dc_transmit.specs.declared.limits.TheConstants.{LAST_TICK, MOST_SENT};
 
 use dc_tables::{Entry, Tables};
 use std::marker::Model;
@@ -38,9 +39,9 @@ impl<'a> Schedule<'a> {
         }
     }
 
-    /// How many entries are due at the tick or before it.
+    /// How many entries are due at the tick, at most [`LAST_TICK`](crate::LAST_TICK), or before it.
     pub fn due_by(&self, tick: u64) -> u64
-        requires { tick ≤ 2 ^ 40 }
+        requires { tick ≤ LAST_TICK }
         ensures due { result ≡ due_count self.now tick }
         ensures few { result ≤ tick + 1 }
     {
@@ -52,9 +53,9 @@ impl<'a> Schedule<'a> {
         tick / frame * self.entries.len() as u64 + in_frame as u64
     }
 
-    /// The label of entry number `sent`, from 0, which is the oldest unsent one, and the tick in which it is due.
+    /// The label of entry number `sent`, 0 to [`MOST_SENT`](crate::MOST_SENT), which is the oldest unsent one, and the tick in which it is due.
     pub fn next(&self, sent: u64) -> (usize, u64)
-        requires { sent ≤ 2 ^ 41 }
+        requires { sent ≤ MOST_SENT }
         ensures label { result.0 ≡ label_at self.now sent }
         ensures due { result.1 ≡ due_tick self.now sent }
     {

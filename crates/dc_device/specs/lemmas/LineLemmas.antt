@@ -3,6 +3,7 @@ use Rattle.std.proofs.Common.{◌≡◌, ◌≢◌, ℕ, ◌+◌, ◌-◌, ◌==
 use Rattle.std.proofs.lemmas.Bool.Decides.{nat_tests}
 use Rattle.std.proofs.lemmas.List.{drop-drop, drop-take, take_min, take_more}
 use Rattle.dc_device.specs.Lines.{HasNoLine, Held, HoldsLine, NoFeed, lines_of, onto, onto_first, spelled}
+use Rattle.dc_device.specs.declared.reader.TheConstants.{LINE_LIMIT}
 
 -- the next byte of those that are left
 pub read_more : (all front rest new : List ℕ) (b : ℕ) → all ≡ front ++ rest → rest ≡ b ∷ new → all ≡ (front ++ b ∷ []) ++ new
@@ -87,14 +88,14 @@ feed_within (suc n) [] rest p plain = plain.0 refl
 feed_within (suc n) (b ∷ bs) rest p plain = feed_within n bs rest (omega arith) plain.1
 
 -- no line feed among the first bytes, or the text may not have it
-has_no_line : (held : Held) (n : ℕ) → NoFeed (take n held.bytes) → (64 < n) ⊎ (held.room ≤ n) → HasNoLine held
+has_no_line : (held : Held) (n : ℕ) → NoFeed (take n held.bytes) → (LINE_LIMIT < n) ⊎ (held.room ≤ n) → HasNoLine held
 has_no_line held n plain (inl p) line (rest, e, more, short, room) =
     feed_within n line rest (omega arith) (subst (λ l. NoFeed (take n l)) e plain)
 has_no_line held n plain (inr p) line (rest, e, more, short, room) =
     feed_within n line rest (omega arith) (subst (λ l. NoFeed (take n l)) e plain)
 
 -- a line feed after n bytes that are none
-holds_line : (held : Held) (n : ℕ) → n < length held.bytes → n ≤ 64 → NoFeed (take n held.bytes) → drop n held.bytes ≡ 10 ∷ drop (n + 1) held.bytes → n < held.room
+holds_line : (held : Held) (n : ℕ) → n < length held.bytes → n ≤ LINE_LIMIT → NoFeed (take n held.bytes) → drop n held.bytes ≡ 10 ∷ drop (n + 1) held.bytes → n < held.room
     → HoldsLine held (take n held.bytes)
 holds_line held n within short plain feed room = (
   drop (n + 1) held.bytes,
@@ -111,11 +112,11 @@ held_of block at end room = record { bytes = take (end - at) (drop at block); ro
 
 -- a line feed was found after n bytes
 abbrev pub IsFeed : List ℕ → ℕ → Type 0
-IsFeed bytes n = (n < length bytes) × (n ≤ 64) × NoFeed (take n bytes) × (drop n bytes ≡ 10 ∷ drop (n + 1) bytes)
+IsFeed bytes n = (n < length bytes) × (n ≤ LINE_LIMIT) × NoFeed (take n bytes) × (drop n bytes ≡ 10 ∷ drop (n + 1) bytes)
 
-pub held_no_feed : (held : Held) (block : List ℕ) (at end room : ℕ) → held_of block at end room ≡ held → NoFeed (take 65 (take (end - at) (drop at block)))
+pub held_no_feed : (held : Held) (block : List ℕ) (at end room : ℕ) → held_of block at end room ≡ held → NoFeed (take (LINE_LIMIT + 1) (take (end - at) (drop at block)))
     → HasNoLine held
-held_no_feed held block at end room view plain = subst HasNoLine view (has_no_line (held_of block at end room) 65 plain (inl (omega arith)))
+held_no_feed held block at end room view plain = subst HasNoLine view (has_no_line (held_of block at end room) (LINE_LIMIT + 1) plain (inl (omega arith)))
 
 pub held_no_room : (held : Held) (block : List ℕ) (at end room n : ℕ) → held_of block at end room ≡ held → IsFeed (take (end - at) (drop at block)) n
     → room ≤ n → HasNoLine held

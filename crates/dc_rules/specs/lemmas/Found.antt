@@ -11,6 +11,7 @@ use Rattle.dc_rules.specs.Rules.{outside, parameter_out, parameter_of, doubled, 
 use Rattle.dc_parts.specs.Keys.{parameter_key, same_parameter}
 use Rattle.dc_rules.specs.lemmas.Apart.{apart}
 use Rattle.dc_rules.specs.lemmas.Picks.{each_fails, not_outside, or_none}
+use Rattle.dc_parts.specs.declared.limits.TheConstants.{LONGEST_INTERVAL_US}
 
 found_step : (Q : ParameterPart → Type 0) (p : ParameterPart → Bool) (x : ParameterPart) (xs : List ParameterPart) (r : ParameterPart) (b : Bool) → cond b (Some x) (find p xs) ≡ Some r → Q x → (find p xs ≡ Some r → Q r) → Q r
 found_step Q p x xs r true h here later = let e : x ≡ r = (cc h) in subst Q e here
@@ -42,9 +43,9 @@ pub never_refused : (ps rows : List ParameterPart) (i : ℕ) (row : ParameterPar
 unfolding refusal_of
 never_refused ps rows i row past l at shape once ordered =
     let out : parameter_out row ≡ false = ap parameter_out at ∙ each_fails parameter_out ps shape i row l in
-    let w = or_none (outside 1 60000000 row.min_us) (outside 1 60000000 row.max_us) out in
-    let z : (row.min_us == 0) ≡ false = not_zero row.min_us (not_outside 1 60000000 row.min_us w.0).0 in
-    let y : (row.max_us == 0) ≡ false = not_zero row.max_us (not_outside 1 60000000 row.max_us w.1).0 in
+    let w = or_none (outside 1 LONGEST_INTERVAL_US row.min_us) (outside 1 LONGEST_INTERVAL_US row.max_us) out in
+    let z : (row.min_us == 0) ≡ false = not_zero row.min_us (not_outside 1 LONGEST_INTERVAL_US row.min_us w.0).0 in
+    let y : (row.max_us == 0) ≡ false = not_zero row.max_us (not_outside 1 LONGEST_INTERVAL_US row.max_us w.1).0 in
     let o : nat_lt row.max_us row.min_us ≡ false = ap (λ (p : ParameterPart). nat_lt p.max_us p.min_us) at ∙ each_fails (λ (p : ParameterPart). nat_lt p.max_us p.min_us) ps ordered i row l in
     let n : is_some (row_of rows row.label row.equipment) ≡ false =
     ap (λ (rs : List ParameterPart). is_some (row_of rs row.label row.equipment)) past
@@ -60,12 +61,12 @@ never_refused ps rows i row past l at shape once ordered =
     rw (z, y, o, n) refl
 
 -- parameters in their ranges have small intervals
-pub small_rows : (ps rows : List ParameterPart) (i : ℕ) → rows ≡ take i ps → position parameter_out ps ≡ None → (k : ℕ) (d : ParameterPart) → k < length rows → (get_or rows k d).min_us ≤ 60000000
+pub small_rows : (ps rows : List ParameterPart) (i : ℕ) → rows ≡ take i ps → position parameter_out ps ≡ None → (k : ℕ) (d : ParameterPart) → k < length rows → (get_or rows k d).min_us ≤ LONGEST_INTERVAL_US
 small_rows ps rows i past shape =
-    let P : List ParameterPart → Type 0 = λ rs. (k : ℕ) (d : ParameterPart) → k < length rs → (get_or rs k d).min_us ≤ 60000000 in
+    let P : List ParameterPart → Type 0 = λ rs. (k : ℕ) (d : ParameterPart) → k < length rs → (get_or rs k d).min_us ≤ LONGEST_INTERVAL_US in
     subst P (sym past) (λ k d m.
     let less : k < i = omega (arith, m, length-take i ps) in
     let l : k < length ps = omega (arith, m, length-take i ps) in
     let p : ParameterPart = get_or ps k d in
-    let Q : ParameterPart → Type 0 = λ r. r.min_us ≤ 60000000 in
-    subst Q (sym (get_or-take i ps k d less)) (not_outside 1 60000000 p.min_us (or_none (outside 1 60000000 p.min_us) (outside 1 60000000 p.max_us) (each_fails parameter_out ps shape k d l)).0).1)
+    let Q : ParameterPart → Type 0 = λ r. r.min_us ≤ LONGEST_INTERVAL_US in
+    subst Q (sym (get_or-take i ps k d less)) (not_outside 1 LONGEST_INTERVAL_US p.min_us (or_none (outside 1 LONGEST_INTERVAL_US p.min_us) (outside 1 LONGEST_INTERVAL_US p.max_us) (each_fails parameter_out ps shape k d l)).0).1)
