@@ -4,23 +4,24 @@ use Rattle.std.proofs.lemmas.Bool.{cases_lt}
 use Rattle.std.specs.Prelude.{slice_index}
 use Rattle.std.proofs.lemmas.List.{get_or-map, get_or_default, length-map, same_lists}
 use Rattle.dc_busy.specs.Least.{IsLeast}
+use Rattle.dc_busy.specs.declared.limits.TheConstants.{LONGEST_WINDOW}
 use Rattle.dc_cert.specs.Bounds.{InputBound, CertificateRows, input_bound, output_bound, input_numbers, output_numbers, numbers_of}
 use Rattle.dc_cert.specs.NamedRows.{NamedInput, NamedOutput, NamedLabel, NamedRows, named_input}
 use Rattle.dc_cert.specs.declared.certificate.InputRow.{InputRow}
-use Rattle.dc_check.specs.Accepts.{AcceptsLabel, IsNamed, Accepts, source_delay}
+use Rattle.dc_check.specs.Accepts.{AcceptsLabel, IsNamed, AreNamed, Accepts, source_delay}
 use Rattle.dc_find.proofs.Lists.{AreRows}
 use Rattle.dc_find.proofs.Parts.{input-clear, output-clear}
 use Rattle.dc_find.specs.Least.{IsLeastAccepted}
-use Rattle.dc_find.specs.Rows.{IsLeastInput, IsLeastOutput, IsInputRow, IsOutputRow, AreInputRows, AreOutputRows, AreLabelRows, IsOldEnough, inputs_alone}
+use Rattle.dc_find.specs.Rows.{EachAt, IsLeastInput, IsLeastOutput, IsInputRow, IsOutputRow, AreInputRows, AreOutputRows, AreLabelRows, IsOldEnough, inputs_alone}
 use Rattle.dc_find.specs.Ways.{AcceptsQueues, IsClearBelow}
 use Rattle.dc_parts.specs.Names.{text_of}
 use Rattle.dc_tables.specs.Keyed.{AreKeyed}
 use Rattle.dc_tables.specs.TableRows.{TableRows, label_row}
 
-abbrev no_input : NamedInput
+abbrev pub no_input : NamedInput
 no_input = record { bus = []; window = 0; backlog = 0; delay = 0 }
 
-abbrev no_output : NamedOutput
+abbrev pub no_output : NamedOutput
 no_output = record { output = []; window = 0; delay = 0 }
 
 abbrev no_label : NamedLabel
@@ -71,6 +72,12 @@ delay-read rows b row there is =
     ∙ ap input_numbers (get_or-map named_input rows b row (named_input row) there)
     ∙ ap (λ (r : InputRow). input_numbers (named_input r)) (sym is))
 
+-- it is in range, where each is
+pub delay-short : (rows : List InputRow) (b : ℕ) (row : InputRow) → b < length rows → row ≡ get_or rows b row → EachAt (λ k claim. claim.delay ≤ LONGEST_WINDOW) (map named_input rows) → row.delay ≤ LONGEST_WINDOW
+delay-short rows b row there is short =
+    subst (λ n. n ≤ LONGEST_WINDOW) (ap (λ (r : NamedInput). r.delay) (get_or-map named_input rows b row (named_input row) there) ∙ ap (λ (r : InputRow). r.delay) (sym is))
+    (short b (named_input row) (omega (arith, length-map rows named_input, there)))
+
 -- the stale limit and the greatest delay of a source are the least age
 pub age-least : (t : TableRows) (x : ℕ) (c : CertificateRows) (sources : List ℕ) → sources ≡ (label_row t x).sources → 1 ≤ length (label_row t x).sources →
     (i delay stale : ℕ) → length sources ≤ i → i ≤ length sources →
@@ -98,20 +105,27 @@ named t names keys count sized keyed each = record {
       each k (omega (arith, sized)) d ∙ sym (get_or-map text_of keys k [] d (omega (arith, sized, keyed))));
 }
 
+-- the tables' names, where each row has its own
+pub are-named : (t : TableRows) (claims : NamedRows) → AreKeyed t →
+    length claims.inputs ≡ length t.buses → EachAt (λ b claim. claim.bus ≡ text_of (get_or t.keys.buses b [])) claims.inputs →
+    length claims.outputs ≡ length t.outputs → EachAt (λ o claim. claim.output ≡ text_of (get_or t.keys.outputs o [])) claims.outputs →
+    length claims.labels ≡ length t.labels → EachAt (λ x claim. claim.label ≡ text_of (get_or t.keys.labels x [])) claims.labels → AreNamed t claims
+are-named t claims keyed i inputs o outputs x labels = record {
+  inputs = named t (map (λ (i : NamedInput). i.bus) claims.inputs) t.keys.buses (length t.buses) (length-map claims.inputs (λ (i : NamedInput). i.bus) ∙ i) keyed.buses
+      (λ k l d. get_or-map (λ (i : NamedInput). i.bus) claims.inputs k no_input d (omega (arith, i)) ∙ inputs k no_input (omega (arith, i)));
+  outputs = named t (map (λ (o : NamedOutput). o.output) claims.outputs) t.keys.outputs (length t.outputs) (length-map claims.outputs (λ (o : NamedOutput). o.output) ∙ o) keyed.outputs
+      (λ k l d. get_or-map (λ (o : NamedOutput). o.output) claims.outputs k no_output d (omega (arith, o)) ∙ outputs k no_output (omega (arith, o)));
+  labels = named t (map (λ (x : NamedLabel). x.label) claims.labels) t.keys.labels (length t.labels) (length-map claims.labels (λ (x : NamedLabel). x.label) ∙ x) keyed.labels
+      (λ k l d. get_or-map (λ (x : NamedLabel). x.label) claims.labels k no_label d (omega (arith, x)) ∙ labels k no_label (omega (arith, x)));
+}
+
 pub least-accepted : (t : TableRows) (claims : NamedRows) → AreKeyed t → AreInputRows t claims.inputs → AreOutputRows t claims.outputs → AreLabelRows t claims.inputs claims.labels →
     ((x : ℕ) → x < length t.labels → AcceptsLabel t x (numbers_of claims)) →
     ((other : NamedRows) → Accepts t other → (x : ℕ) → x < length t.labels → IsOldEnough t x (numbers_of claims) (slice_index (numbers_of other).ages x)) →
     IsLeastAccepted t claims
 least-accepted t claims keyed inputs outputs labels kept older = record {
   accepted = record {
-    named = record {
-      inputs = named t (map (λ (i : NamedInput). i.bus) claims.inputs) t.keys.buses (length t.buses) (length-map claims.inputs (λ (i : NamedInput). i.bus) ∙ inputs.count) keyed.buses
-          (λ k l d. get_or-map (λ (i : NamedInput). i.bus) claims.inputs k no_input d (omega (arith, inputs.count)) ∙ (inputs.each k no_input (omega (arith, inputs.count))).named);
-      outputs = named t (map (λ (o : NamedOutput). o.output) claims.outputs) t.keys.outputs (length t.outputs) (length-map claims.outputs (λ (o : NamedOutput). o.output) ∙ outputs.count) keyed.outputs
-          (λ k l d. get_or-map (λ (o : NamedOutput). o.output) claims.outputs k no_output d (omega (arith, outputs.count)) ∙ (outputs.each k no_output (omega (arith, outputs.count))).named);
-      labels = named t (map (λ (x : NamedLabel). x.label) claims.labels) t.keys.labels (length t.labels) (length-map claims.labels (λ (x : NamedLabel). x.label) ∙ labels.count) keyed.labels
-          (λ k l d. get_or-map (λ (x : NamedLabel). x.label) claims.labels k no_label d (omega (arith, labels.count)) ∙ (labels.each k no_label (omega (arith, labels.count))).named);
-    };
+    named = are-named t claims keyed inputs.count (λ k d l. (inputs.each k d l).named) outputs.count (λ k d l. (outputs.each k d l).named) labels.count (λ k d l. (labels.each k d l).named);
     numbers = record {
       inputs = λ b l. (input-row t claims inputs b l).accepted;
       outputs = λ o l. (output-row t claims outputs o l).accepted;

@@ -4,3 +4,5 @@ pub mod Lists
 pub mod Claimed
 pub mod Broken
 pub mod Ascii
+pub mod Few
+pub mod Reaching

@@ -43,8 +43,23 @@ module _ (a s cap floor : ℕ → ℕ) (same_cap : (d : ℕ) → a d ≡ cap d) 
   pub delay-back : (window delay : ℕ) → DelayHolds cap floor window delay → DelayHolds a s window delay
   delay-back window delay ok = record { short = ok.short; bounded = λ w some inside. omega (arith, ok.bounded w some inside, same_cap w, same_floor (w - 1 + delay)) }
 
+  pub times-there : (window delay : ℕ) → AreLeastTimes a s window delay → AreLeastTimes cap floor window delay
+  times-there window delay times = record {
+    closes = window-there window times.closes;
+    holds = delay-there window delay times.holds;
+    least_window = λ w ok. times.least_window w (window-back w ok);
+    least_delay = λ w d ok holds. times.least_delay w d (window-back w ok) (delay-back w d holds);
+  }
+
+  pub most-there : (window backlog : ℕ) → IsLeast (BacklogBounded a s window) backlog → IsLeast (BacklogBounded cap floor window) backlog
+  most-there window backlog most = (backlog-there window backlog most.0, λ m bounded. most.1 m (backlog-back window m bounded))
+
   pub never-there : NeverCloses a s → NeverCloses cap floor
   never-there h window ok = h window (window-back window ok)
+
+-- no more wait than may come in the window, and no more come than are taken in it
+pub waiting-few : (a s : ℕ → ℕ) (window backlog limit : ℕ) → ((d e : ℕ) → d ≤ e → a d ≤ a e) → WindowCloses a s window → IsLeast (BacklogBounded a s window) backlog → s (window - 1) ≤ limit → backlog ≤ limit
+waiting-few a s window backlog limit grows closes most few = most.1 limit (λ w some inside. omega (arith, grows w window inside, closes.closes, few))
 
 -- an input's
 pub input-least : (t : TableRows) (b : ℕ) (a s : ℕ → ℕ) → ((d : ℕ) → a d ≡ bus_cap t b d) → ((d : ℕ) → s d ≡ bus_floor t b d) →

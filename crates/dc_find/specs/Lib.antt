@@ -1,6 +1,8 @@
 -- The least certificate, and what stands in the way of one.
 pub mod Least
 pub mod Ways
+-- What is got to where there is none.
+pub mod Reached
 -- How it is printed.
 pub mod FaultText
 -- What the parts of a certificate are, one by one.

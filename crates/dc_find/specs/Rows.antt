@@ -1,13 +1,15 @@
 -- The rows of the least certificate, one by one.
 use Rattle.std.specs.Prelude.{◌≡◌, ℕ, ◌+◌, ◌≤◌, ◌<◌, List, [], length, slice_index_or}
 use Rattle.std.specs.List.{All}
+use Rattle.dc_busy.specs.BusyWindow.{BacklogBounded}
 use Rattle.dc_busy.specs.Least.{IsLeast}
+use Rattle.dc_busy.specs.declared.limits.TheConstants.{LONGEST_WINDOW}
 use Rattle.dc_cert.specs.Bounds.{InputBound, OutputBound, CertificateRows, input_numbers, output_numbers, numbers_of}
 use Rattle.dc_cert.specs.NamedRows.{NamedInput, NamedOutput, NamedLabel}
 use Rattle.dc_check.specs.Accepts.{WindowCloses, DelayHolds, AcceptsInput, AcceptsOutput, source_delay}
 use Rattle.dc_find.specs.Least.{IsInputAtMost, IsOutputAtMost}
 use Rattle.dc_parts.specs.Names.{text_of}
-use Rattle.dc_tables.specs.TableRows.{TableRows, label_row}
+use Rattle.dc_tables.specs.TableRows.{TableRows, label_row, bus_cap, bus_floor}
 
 -- P holds of each row and its number
 abbrev pub EachAt : {X : Type 0} → (ℕ → X → Type 0) → List X → Type 0
@@ -19,6 +21,11 @@ pub record AreLeastTimes (cap floor : ℕ → ℕ) (window delay : ℕ) : Type 0
   pub holds : DelayHolds cap floor window delay
   pub least_window : (w : ℕ) → WindowCloses cap floor w → window ≤ w
   pub least_delay : (w d : ℕ) → WindowCloses cap floor w → DelayHolds cap floor w d → delay ≤ d
+
+-- the least times of the bus, and the most that waits in that window, whether or not its queue has room for it
+pub record AreLeastNumbers (t : TableRows) (b : ℕ) (c : InputBound) : Type 0 where
+  pub times : AreLeastTimes (bus_cap t b) (bus_floor t b) c.window c.delay
+  pub backlog : IsLeast (BacklogBounded (bus_cap t b) (bus_floor t b) c.window) c.backlog
 
 -- accepted of the bus, and at most each that is
 pub record IsLeastInput (t : TableRows) (b : ℕ) (c : InputBound) : Type 0 where
@@ -49,6 +56,11 @@ IsOldEnough t x c age = All (λ s. (label_row t x).stale + source_delay t c s �
 pub record IsLabelRow (t : TableRows) (inputs : List NamedInput) (x : ℕ) (claim : NamedLabel) : Type 0 where
   pub named : claim.label ≡ text_of (slice_index_or t.keys.labels x [])
   pub least : IsLeast (IsOldEnough t x (inputs_alone inputs)) claim.age
+
+-- a row for each, with no delay out of range
+pub record HaveShortDelays (t : TableRows) (inputs : List NamedInput) : Type 0 where
+  pub count : length inputs ≡ length t.buses
+  pub each : EachAt (λ b claim. claim.delay ≤ LONGEST_WINDOW) inputs
 
 -- a row for each
 pub record AreInputRows (t : TableRows) (inputs : List NamedInput) : Type 0 where

@@ -4,7 +4,9 @@
 mod fault;
 mod finder;
 mod queues;
+mod reached;
 mod rows;
 
 pub use fault::{FindFault, Obstacle, Queue};
 pub use finder::find;
+pub use reached::{Reached, got_to};

@@ -1,7 +1,7 @@
 //! The least numbers of an input and of an output, by the bounds of their queues.
 
 ghost use Rattle.std.specs.Prelude.{◌≡◌, ◌≢◌, ℕ, ◌+◌, ◌<◌, length, IfOk, IfErr, MatchOption};
-ghost use Rattle.dc_find.specs.Rows.{AreLeastTimes, IsLeastInput, IsLeastOutput};
+ghost use Rattle.dc_find.specs.Rows.{AreLeastTimes, AreLeastNumbers, IsLeastInput, IsLeastOutput};
 ghost use Rattle.dc_find.specs.Ways.{NeverCloses, IsFirstOfPart};
 ghost use Rattle.dc_tables.specs.TableRows.{bus_cap, bus_floor, output_cap, output_floor};
 
@@ -35,6 +35,27 @@ fn least_times<A: ArrivalBound, S: ServiceBound>(arrivals: &A, service: &S) -> O
     Some(Times { window, delay })
 }
 
+/// The least numbers of an input, given the bounds of its bus, whether or not its queue has room; `None` where no window
+/// closes.
+pub(crate) fn least_input<A: ArrivalBound, S: ServiceBound>(
+    tables: &Tables,
+    bus: usize,
+    arrivals: &A,
+    service: &S,
+) -> Option<InputNumbers>
+    requires there { bus < length tables.now.buses }
+    requires arrivals { (d : ℕ) → A.cap arrivals.now d ≡ bus_cap tables.now bus d }
+    requires service { (d : ℕ) → S.floor service.now d ≡ bus_floor tables.now bus d }
+    ensures { MatchOption result (NeverCloses (bus_cap tables.now bus) (bus_floor tables.now bus)) (λ n. AreLeastNumbers tables.now bus (record { window = n.times.window; backlog = n.backlog; delay = n.times.delay })) }
+{
+    tables.valid();
+    let Some(times) = least_times(arrivals, service) else {
+        return None;
+    };
+    let backlog = most_backlog(arrivals, service, times.window) as u32;
+    Some(InputNumbers { times, backlog })
+}
+
 /// The least numbers of an input, given the bounds of its bus, or its first fault.
 pub(crate) fn input_numbers<A: ArrivalBound, S: ServiceBound>(
     tables: &Tables,
@@ -48,18 +69,13 @@ pub(crate) fn input_numbers<A: ArrivalBound, S: ServiceBound>(
     ensures least { IfOk result (λ n. IsLeastInput tables.now bus (record { window = n.times.window; backlog = n.backlog; delay = n.times.delay })) }
     ensures fault { IfErr result (λ fault. IsFirstOfPart tables.now bus fault) }
 {
-    tables.valid();
-    let Some(times) = least_times(arrivals, service) else {
+    let Some(numbers) = least_input(tables, bus, arrivals, service) else {
         return Err(FindFault::WindowNeverCloses(Queue::Input(bus)));
     };
-    let backlog = most_backlog(arrivals, service, times.window);
-    if backlog > u64::from(tables.queue(bus)) {
+    if numbers.backlog > tables.queue(bus) {
         return Err(FindFault::QueueTooShort(bus));
     }
-    Ok(InputNumbers {
-        times,
-        backlog: backlog as u32,
-    })
+    Ok(numbers)
 }
 
 /// The least numbers of an output, given its bounds, or its fault.

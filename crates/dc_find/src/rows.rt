@@ -1,15 +1,16 @@
 //! The rows of the least certificate, with their names.
 
-ghost use Rattle.std.specs.Prelude.{◌≡◌, ◌≢◌, ℕ, ◌+◌, ◌<◌, length, map, string_bytes, IfOk, IfErr};
+ghost use Rattle.std.specs.Prelude.{◌≡◌, ◌≢◌, ℕ, ◌+◌, ◌<◌, [], length, map, slice_index_or, string_bytes, IfOk, IfErr};
 ghost use Rattle.dc_busy.specs.Least.{IsLeast};
+ghost use Rattle.dc_cert.specs.Bounds.{input_numbers, output_numbers};
 ghost use Rattle.dc_cert.specs.NamedRows.{named_input, named_output, named_label};
-ghost use Rattle.dc_find.specs.Rows.{IsInputRow, IsOutputRow, IsLabelRow, AreInputRows, AreOutputRows, AreLabelRows, IsOldEnough, inputs_alone};
+ghost use Rattle.dc_find.specs.Rows.{IsInputRow, IsOutputRow, IsLabelRow, AreInputRows, AreOutputRows, AreLabelRows, HaveShortDelays, IsOldEnough, inputs_alone};
 ghost use Rattle.dc_find.specs.Ways.{IsFirstOfPart, IsFirstInTheWay, IsClearBelow};
 ghost use Rattle.dc_find.specs.declared.fault.FindFault.TheVariants.{Memory};
 ghost use Rattle.dc_parts.specs.Names.{text_of};
 
 use crate::fault::FindFault;
-use crate::queues::{input_numbers, output_numbers};
+use crate::queues::{InputNumbers, Times, input_numbers, output_numbers};
 use dc_cert::{InputRow, LabelRow, OutputRow};
 use dc_parts::Name;
 use dc_tables::Tables;
@@ -24,6 +25,43 @@ fn name_text(alloc: Global, name: &Name) -> Result<String, AllocError>
     String::from_str(alloc, text)
 }
 
+/// The row of an input with these numbers.
+pub(crate) fn named_input_row(
+    alloc: Global,
+    tables: &Tables,
+    bus: usize,
+    numbers: InputNumbers,
+) -> Result<InputRow, AllocError>
+    requires { bus < length tables.now.buses }
+    ensures named { IfOk result (λ row. (named_input row).bus ≡ text_of (slice_index_or tables.now.keys.buses bus [])) }
+    ensures numbers { IfOk result (λ row. input_numbers (named_input row) ≡ record { window = numbers.times.window; backlog = numbers.backlog; delay = numbers.times.delay }) }
+{
+    Ok(InputRow {
+        bus: name_text(alloc, tables.bus_name(bus))?,
+        window: numbers.times.window,
+        backlog: numbers.backlog,
+        delay: numbers.times.delay,
+    })
+}
+
+/// The row of an output with these numbers.
+pub(crate) fn named_output_row(
+    alloc: Global,
+    tables: &Tables,
+    output: usize,
+    times: Times,
+) -> Result<OutputRow, AllocError>
+    requires { output < length tables.now.outputs }
+    ensures named { IfOk result (λ row. (named_output row).output ≡ text_of (slice_index_or tables.now.keys.outputs output [])) }
+    ensures numbers { IfOk result (λ row. output_numbers (named_output row) ≡ record { window = times.window; delay = times.delay }) }
+{
+    Ok(OutputRow {
+        output: name_text(alloc, tables.output_name(output))?,
+        window: times.window,
+        delay: times.delay,
+    })
+}
+
 fn input_row(alloc: Global, tables: &Tables, bus: usize) -> Result<InputRow, FindFault>
     requires { bus < length tables.now.buses }
     ensures row { IfOk result (λ row. IsInputRow tables.now bus (named_input row)) }
@@ -35,12 +73,7 @@ fn input_row(alloc: Global, tables: &Tables, bus: usize) -> Result<InputRow, Fin
         &tables.bus_bound(bus),
         &tables.bus_service(bus),
     )?;
-    Ok(InputRow {
-        bus: name_text(alloc, tables.bus_name(bus))?,
-        window: numbers.times.window,
-        backlog: numbers.backlog,
-        delay: numbers.times.delay,
-    })
+    Ok(named_input_row(alloc, tables, bus, numbers)?)
 }
 
 fn output_row(alloc: Global, tables: &Tables, output: usize) -> Result<OutputRow, FindFault>
@@ -54,17 +87,13 @@ fn output_row(alloc: Global, tables: &Tables, output: usize) -> Result<OutputRow
         &tables.output_bound(output),
         &tables.output_service(output),
     )?;
-    Ok(OutputRow {
-        output: name_text(alloc, tables.output_name(output))?,
-        window: times.window,
-        delay: times.delay,
-    })
+    Ok(named_output_row(alloc, tables, output, times)?)
 }
 
 /// The age of the oldest word that a label still copies: its stale limit, and the greatest delay of its sources' buses.
 fn least_age(tables: &Tables, inputs: &[InputRow], label: usize) -> u32
     requires there { label < length tables.now.labels }
-    requires inputs { AreInputRows tables.now (map named_input inputs.now) }
+    requires inputs { HaveShortDelays tables.now (map named_input inputs.now) }
     ensures { IsLeast (IsOldEnough tables.now label (inputs_alone (map named_input inputs.now))) result }
 {
     tables.valid();
@@ -85,7 +114,7 @@ fn label_row(
     label: usize,
 ) -> Result<LabelRow, AllocError>
     requires there { label < length tables.now.labels }
-    requires inputs { AreInputRows tables.now (map named_input inputs.now) }
+    requires inputs { HaveShortDelays tables.now (map named_input inputs.now) }
     ensures { IfOk result (λ row. IsLabelRow tables.now (map named_input inputs.now) label (named_label row)) }
 {
     let age = least_age(tables, inputs, label);
@@ -132,7 +161,7 @@ pub(crate) fn label_rows(
     tables: &Tables,
     inputs: &[InputRow],
 ) -> Result<Vec<LabelRow>, AllocError>
-    requires { AreInputRows tables.now (map named_input inputs.now) }
+    requires { HaveShortDelays tables.now (map named_input inputs.now) }
     ensures { IfOk result (λ v. AreLabelRows tables.now (map named_input inputs.now) (map named_label v.items)) }
 {
     let mut rows = Vec::new(alloc);

@@ -1,0 +1,57 @@
+-- What the finder gets to where something stands in the way.
+use Rattle.std.specs.Prelude.{◌≡◌, ℕ, ◌+◌, ◌≤◌, ◌<◌, List, [], length, slice_index, slice_index_or}
+use Rattle.dc_busy.specs.Least.{IsLeast}
+use Rattle.dc_busy.specs.declared.limits.TheConstants.{LONGEST_WINDOW}
+use Rattle.dc_cert.specs.Bounds.{input_bound, output_bound, input_numbers, output_numbers, numbers_of}
+use Rattle.dc_cert.specs.NamedRows.{NamedInput, NamedOutput, NamedRows}
+use Rattle.dc_check.specs.Accepts.{AreNamed}
+use Rattle.dc_check.specs.Verdict.{job_count}
+use Rattle.dc_find.specs.Rows.{EachAt, AreLeastNumbers, IsLeastOutput, IsOldEnough}
+use Rattle.dc_find.specs.Ways.{NeverCloses}
+use Rattle.dc_find.specs.declared.fault.FindFault.{FindFault}
+use Rattle.dc_find.specs.declared.fault.FindFault.TheVariants.{WindowNeverCloses, QueueTooShort, LabelRule, Memory}
+use Rattle.dc_find.specs.declared.fault.Queue.TheVariants.{Input, Output}
+use Rattle.dc_parts.specs.Names.{text_of}
+use Rattle.dc_tables.specs.TableRows.{TableRows, bus_cap, bus_floor, output_cap, output_floor}
+
+-- how many parts are got to, the inputs, the outputs and the labels in one row: those before the fault; where the queue of an
+-- input is too short, that input too; where a rule on a label is broken, all
+abbrev pub parts_reached : TableRows → FindFault → ℕ
+parts_reached t (WindowNeverCloses (Input b)) = b
+parts_reached t (WindowNeverCloses (Output o)) = length t.buses + o
+parts_reached t (QueueTooShort b) = b + 1
+parts_reached t (LabelRule x condition) = job_count t
+parts_reached t Memory = 0
+
+-- the names of the tables, and in each of the first parts the least numbers: of a label, for the delays that stand here
+pub record IsReached (t : TableRows) (parts : ℕ) (claims : NamedRows) : Type 0 where
+  pub named : AreNamed t claims
+  pub inputs : (b : ℕ) → b < length t.buses → b < parts → AreLeastNumbers t b (input_bound (numbers_of claims) b)
+  pub outputs : (o : ℕ) → o < length t.outputs → length t.buses + o < parts → IsLeastOutput t o (output_bound (numbers_of claims) o)
+  pub labels : (x : ℕ) → x < length t.labels → IsLeast (IsOldEnough t x (numbers_of claims)) (slice_index (numbers_of claims).ages x)
+
+-- ---- row by row
+
+-- in each of the first parts a window closes
+pub record CloseBelow (t : TableRows) (parts : ℕ) : Type 0 where
+  pub inputs : (b : ℕ) → b < length t.buses → b < parts → ¬ NeverCloses (bus_cap t b) (bus_floor t b)
+  pub outputs : (o : ℕ) → o < length t.outputs → length t.buses + o < parts → ¬ NeverCloses (output_cap t o) (output_floor t o)
+
+-- the bus's name, and its least numbers where it is one of the first parts
+pub record IsInputReached (t : TableRows) (parts : ℕ) (b : ℕ) (claim : NamedInput) : Type 0 where
+  pub named : claim.bus ≡ text_of (slice_index_or t.keys.buses b [])
+  pub least : b < parts → AreLeastNumbers t b (input_numbers claim)
+  pub short : claim.delay ≤ LONGEST_WINDOW
+
+pub record IsOutputReached (t : TableRows) (parts : ℕ) (o : ℕ) (claim : NamedOutput) : Type 0 where
+  pub named : claim.output ≡ text_of (slice_index_or t.keys.outputs o [])
+  pub least : length t.buses + o < parts → IsLeastOutput t o (output_numbers claim)
+
+-- a row for each
+pub record AreInputsReached (t : TableRows) (parts : ℕ) (inputs : List NamedInput) : Type 0 where
+  pub count : length inputs ≡ length t.buses
+  pub each : EachAt (IsInputReached t parts) inputs
+
+pub record AreOutputsReached (t : TableRows) (parts : ℕ) (outputs : List NamedOutput) : Type 0 where
+  pub count : length outputs ≡ length t.outputs
+  pub each : EachAt (IsOutputReached t parts) outputs
