@@ -13,7 +13,7 @@ use Rattle.dc_device.specs.Lines.{spelled}
 use Rattle.dc_cert.specs.Bounds.{CertificateRows, numbers_of}
 use Rattle.dc_cert.specs.Faults.{fault_text}
 use Rattle.dc_cert.specs.NamedRows.{NamedRows}
-use Rattle.dc_cert.specs.Reading.{Reading, certificate_of}
+use Rattle.dc_cert.specs.Reading.{certificate_of}
 use Rattle.dc_cert.specs.declared.fault.Fault.{Fault}
 use Rattle.dc_check.specs.Verdict.{misnaming, verdict_of}
 use Rattle.dc_check.specs.declared.fault.CheckFault.{CheckFault}

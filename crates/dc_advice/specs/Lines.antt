@@ -1,5 +1,5 @@
 -- The printed line of a margin: six fields parted by spaces, which stand in columns where the names and numbers are not too long.
-use Rattle.std.specs.Prelude.{ℕ, ℤ, Option, Some, None, List, [], ◌∷◌, ◌++◌, drop, length, codes, decimal}
+use Rattle.std.specs.Prelude.{ℕ, ℤ, Option, Some, None, List, ◌++◌, drop, length, codes, decimal}
 use Rattle.std.specs.Fmt.{signed_decimal}
 use Rattle.dc_check.specs.FaultText.{condition_code}
 use Rattle.dc_check.specs.declared.fault.CertificateList.{CertificateList}

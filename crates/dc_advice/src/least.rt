@@ -1,28 +1,75 @@
 //! `margins` without a certificate: the least one is taken.
 
-ghost use Rattle.std.specs.Prelude.{◌≡◌, ◌≢◌, ℕ, List, ◌+◌, ◌^◌, ◌<◌, IfErr, IfOk, Some};
+ghost use Rattle.std.specs.Prelude.{◌≡◌, ◌≢◌, ℕ, List, ◌++◌, ◌+◌, ◌^◌, ◌<◌, ◌≤◌, IfErr, IfOk, Some};
+ghost use Rattle.dc_cert.specs.Bounds.{certificate_rows};
+ghost use Rattle.dc_check.specs.Verdict.{IsSized, job_count};
+ghost use Rattle.dc_find.specs.Least.{NoneAccepted};
+ghost use Rattle.dc_find.specs.Ways.{IsFirstInTheWay};
 ghost use Rattle.dc_answer.specs.Answer.{Any, LeavesSink, Raises, Reported};
 ghost use Rattle.dc_answer.specs.Judging.{Judged};
 ghost use Rattle.dc_device.specs.Device.{AsksUpTo};
 ghost use Rattle.dc_toml.specs.declared.read.TheConstants.{TEXT_LIMIT};
-ghost use Rattle.dc_advice.specs.Margins.{AnswersRows, AnswersTablesAlone, ReportsLeast};
+ghost use Rattle.dc_advice.specs.Margins.{AnswersReached, AnswersRows, AnswersTablesAlone, ReportsLeast, fed, lines_of_first};
 
-use crate::margins::judge;
+use crate::margins::{append_lines, judge};
 use dc_answer::{Exit, Failure, Outcome, Unloaded, load, report, say};
 use dc_app::{keep_obstacle, keep_unreadable};
+use dc_cert::Certificate;
 use dc_device::{LineWriter, Sink, Source};
-use dc_find::find;
+use dc_find::{FindFault, find, got_to};
+use dc_margin::part_lines;
 use dc_tables::Tables;
-use std::alloc::Global;
+use std::alloc::{AllocError, Global};
 
-// Finds the least certificate for tables, and keeps its verdict and the lines of its margins.
+// Puts the lines of the margins of the first parts at the end, each after a line feed.
+fn append_first(
+    tables: &Tables,
+    certificate: &Certificate,
+    parts: usize,
+    text: &mut Vec<u8>,
+) -> Result<(), AllocError>
+    requires sized { IsSized tables.now (certificate_rows certificate.now) }
+    requires few { parts ≤ job_count tables.now }
+    ensures { IfOk result (λ _. text.new.items ≡ text.old.items ++ fed (lines_of_first parts tables.now (certificate_rows certificate.now))) }
+{
+    for part in 0..parts {
+        let own = part_lines(tables, certificate, part);
+        append_lines(tables, own.as_slice(), text)?;
+    }
+    Ok(())
+}
+
+// Keeps the line of what stands in the way, and the lines of the margins of the parts that the finder got to.
+fn judge_obstacle(
+    alloc: Global,
+    tables: &Tables,
+    fault: FindFault,
+    text: &mut Vec<u8>,
+) -> Result<Outcome, Failure>
+    requires none { fault ≢ FindFault.Memory → NoneAccepted tables.now }
+    requires first { fault ≢ FindFault.Memory → IsFirstInTheWay tables.now fault }
+    ensures answer { Judged (AnswersReached tables.now) text.new.items result }
+    ensures memory { IfErr result (λ e. e ≡ Failure.Memory) }
+{
+    let outcome = keep_obstacle(tables, fault, text)?;
+    let Ok(reached) = got_to(alloc, tables, fault) else {
+        return Err(Failure::Memory);
+    };
+    match append_first(tables, &reached.certificate, reached.parts, text) {
+        Ok(()) => Ok(outcome),
+        Err(_) => Err(Failure::Memory),
+    }
+}
+
+// Finds the least certificate for tables, and keeps its verdict and the lines of its margins; where none is accepted, what
+// stands in the way, and the lines of what the finder got to.
 fn judge_least(alloc: Global, tables: &Tables, text: &mut Vec<u8>) -> Result<Outcome, Failure>
     ensures answer { Judged (AnswersRows tables.now) text.new.items result }
     ensures memory { IfErr result (λ e. e ≡ Failure.Memory) }
 {
     match find(alloc, tables) {
         Ok(certificate) => judge(alloc, tables, &certificate, text),
-        Err(fault) => keep_obstacle(tables, fault, text),
+        Err(fault) => judge_obstacle(alloc, tables, fault, text),
     }
 }
 
@@ -46,7 +93,9 @@ fn judge_alone<T: Source>(
 }
 
 /// Writes what `run_margins` writes of the least certificate for tables, which are read whole from their source, onto a
-/// sink; where none is accepted, one line that says what stands first in the way of every certificate.
+/// sink; where none is accepted, a line that says what stands first in the way of every certificate, and then the lines of
+/// the inputs, outputs and labels that the finder got to, with their least numbers: those before it; the input itself too,
+/// where its queue is too short; all, where a rule on a label is broken.
 ///
 /// It ends `Done` where a certificate was found, `Refused` where none is accepted, `Unreadable` where the tables can't
 /// be read; `Failed` where a device failed or memory was refused: then `failed device` or `failed memory` was written,

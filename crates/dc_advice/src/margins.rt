@@ -38,6 +38,21 @@ fn append_line(tables: &Tables, line: &MarginLine, text: &mut Vec<u8>) -> Result
     text.extend_from_slice(printed.as_slice())
 }
 
+// Puts the lines of margins at the end, each after a line feed.
+pub(crate) fn append_lines(
+    tables: &Tables,
+    lines: &[MarginLine],
+    text: &mut Vec<u8>,
+) -> Result<(), AllocError>
+    requires { All (IsLinePlaced tables.now) lines.now }
+    ensures { IfOk result (λ _. text.new.items ≡ text.old.items ++ fed (map (margin_text tables.now) lines.now)) }
+{
+    for own in lines {
+        append_line(tables, own, text)?;
+    }
+    Ok(())
+}
+
 // Keeps a first line, and after it the lines of margins.
 fn keep_lines(
     tables: &Tables,
@@ -50,10 +65,7 @@ fn keep_lines(
 {
     text.clear();
     text.extend_from_slice(line)?;
-    for own in lines {
-        append_line(tables, own, text)?;
-    }
-    Ok(())
+    append_lines(tables, lines, text)
 }
 
 // Prints a verdict: accepted, or this fault.

@@ -95,15 +95,68 @@ fn no_certificate_is_given(rt: HostRuntime) -> Result<(), Fail> {
     answers_least(&rt, rt.alloc(), &case)
 }
 
+/// The queue is too short by a word: the margins of its input.
+const SHORT_QUEUE: &str = "refused F2 input A
+input  A                C02       2 ticks -
+input  A                C07   99998 ticks -
+input  A                C03       0 words -
+input  A                C04       0 words window=1
+input  A                C05      -1 words -
+input  A                C06       0 ticks window=1
+";
+
+/// No window of the output closes: the margins of the input before it.
+const BEFORE_OUTPUT: &str = "refused F1 output O
+input  A                C02       2 ticks -
+input  A                C07   99998 ticks -
+input  A                C03       0 words -
+input  A                C04       0 words window=1
+input  A                C05       0 words -
+input  A                C06       0 ticks window=1
+";
+
+/// A rule on the label is broken: all margins.
+const BROKEN_RULE: &str = "refused F3 label x C12
+input  A                C02       2 ticks -
+input  A                C07   99998 ticks -
+input  A                C03       0 words -
+input  A                C04       0 words window=1
+input  A                C05       0 words -
+input  A                C06       0 ticks window=1
+output O                C02       2 ticks -
+output O                C07   99998 ticks -
+output O                C03       0 words -
+output O                C06       0 ticks window=1
+label  x                C08       2 ticks gap=15
+label  x                C09       2 ticks gap=15
+label  x                C10       0 ticks source=A-203
+label  x                C11       7 ticks -
+label  x                C12      -1 ticks source=A-203
+";
+
+/// The second bus is visited too seldom: the margins of the first.
+const SECOND_INPUT: &str = "refused F1 input B
+input  A                C02       3 ticks -
+input  A                C07   99997 ticks -
+input  A                C03       0 words -
+input  A                C04       0 words window=1
+input  A                C05       2 words -
+input  A                C06       0 ticks window=1
+";
+
+/// Of each eleven steps of the router one visits it.
+const SELDOM: &str =
+    "buses=2 queue=4 visits=\"A\",\"A\",\"A\",\"A\",\"A\",\"A\",\"A\",\"A\",\"A\",\"A\",\"B\"";
+
 #[test]
 fn none_is_accepted(rt: HostRuntime) -> Result<(), Fail> {
-    least_says(
-        &rt,
-        rt.alloc(),
-        "queue=1",
-        "refused F2 input A\n",
-        Exit::Refused,
-    )
+    let alloc = rt.alloc();
+    let refused = Exit::Refused;
+    least_says(&rt, alloc, "queue=1", SHORT_QUEUE, refused)?;
+    least_says(&rt, alloc, "within=10", "refused F1 input A\n", refused)?;
+    least_says(&rt, alloc, "send_within=16", BEFORE_OUTPUT, refused)?;
+    least_says(&rt, alloc, SELDOM, SECOND_INPUT, refused)?;
+    least_says(&rt, alloc, "stale=21", BROKEN_RULE, refused)
 }
 
 const NO_WINDOW: &str = "backlog=4294967295 delay=100001 window=0 age=31";

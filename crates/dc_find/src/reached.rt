@@ -15,6 +15,7 @@ use dc_tables::Tables;
 use std::alloc::{AllocError, Global};
 
 /// What the finder got to before a fault.
+#[derive(Debug, Drop)]
 pub struct Reached {
     /// A row for each input, output and label of the tables.
     pub certificate: Certificate,

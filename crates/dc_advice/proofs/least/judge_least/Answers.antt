@@ -1,11 +1,9 @@
 use Rattle.dc_cert.specs.NamedRows.{named_rows}
-use Rattle.dc_advice.proofs.Finding.{found_judged, obstacle_judged}
+use Rattle.dc_advice.proofs.Finding.{found_judged, rows_judged}
 use Rattle.dc_advice.proofs.least.judge_least.Goals as goal
 
 pub returns-in-Ok-clause-answer : goal.returns-in-Ok-clause-answer
 returns-in-Ok-clause-answer c = found_judged _ (named_rows c.in-Ok.certificate) _ c.judge.result c.in-Ok.ensures.least c.judge.ensures.answer
 
 pub returns-in-Err-clause-answer : goal.returns-in-Err-clause-answer
-returns-in-Err-clause-answer c =
-    let kept = c.keep_obstacle.ensures in
-    obstacle_judged _ c.in-Err.fault _ c.keep_obstacle.result c.in-Err.ensures.none c.in-Err.ensures.first kept.kept kept.outcome kept.memory kept.fault
+returns-in-Err-clause-answer c = rows_judged _ _ c.judge_obstacle.result c.judge_obstacle.ensures.answer

@@ -1,4 +1,4 @@
-use Rattle.dc_advice.proofs.Advising.{claims_judged, claims_unread, judged_not_sink, judged_raises}
+use Rattle.dc_advice.proofs.Advising.{claims_judged, judged_not_sink, judged_raises}
 use Rattle.dc_advice.proofs.margins.judge_source.Goals as goal
 
 pub returns-in-Ok-clause-answer : goal.returns-in-Ok-clause-answer

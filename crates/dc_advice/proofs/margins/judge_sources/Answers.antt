@@ -1,5 +1,5 @@
-use Rattle.std.proofs.Common.{refl, ◌∙◌}
-use Rattle.dc_answer.specs.lemmas.Loading.{behind_kept, behind_read}
+use Rattle.std.proofs.Common.{◌∙◌}
+use Rattle.dc_answer.specs.lemmas.Loading.{behind_read}
 use Rattle.dc_answer.specs.lemmas.Reporting.{both_raised}
 use Rattle.dc_advice.proofs.Advising.{both_judged, tables_unread}
 use Rattle.dc_advice.proofs.margins.judge_sources.Goals as goal

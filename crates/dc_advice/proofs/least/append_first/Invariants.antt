@@ -1,0 +1,7 @@
+use Rattle.std.proofs.Common.{◌≡◌, ◌++◌}
+use Rattle.dc_cert.specs.Bounds.{certificate_rows}
+use Rattle.dc_advice.specs.Margins.{fed, lines_of_first}
+use Rattle.dc_advice.proofs.least.append_first.Given as goal
+
+abbrev pub invariant-loop-part : goal.invariant-loop-part
+invariant-loop-part l = l.text.items ≡ l.initial.text.items ++ fed (lines_of_first l.part l.tables (certificate_rows l.certificate))
