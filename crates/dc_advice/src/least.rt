@@ -98,9 +98,9 @@ fn judge_alone<T: Source>(
 /// where its queue is too short; all, where a rule on a label is broken.
 ///
 /// It ends `Done` where a certificate was found, `Refused` where none is accepted, `Unreadable` where the tables can't
-/// be read; `Failed` where a device failed or memory was refused: then `failed device` or `failed memory` was written,
-/// and nothing else. A push or flush that failed is the last call of the sink, and at most one pull of the source gives
-/// no byte.
+/// be read; `Failed` where a device failed or memory was refused: `failed memory` alone was written, or `failed device`
+/// behind whole lines of a front of the answer; where a push or flush failed, a front of one of these or of the answer.
+/// That call is the last of the sink, and at most one pull of the source gives no byte.
 pub fn run_margins_least<T: Source, K: Sink>(alloc: Global, tables: &mut T, sink: &mut K) -> Exit
     requires tables { T.failed tables.old + 1 < 2 ^ 64 }
     requires sink { K.failed sink.old + 1 < 2 ^ 64 }

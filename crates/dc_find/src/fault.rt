@@ -57,7 +57,8 @@ pub enum FindFault {
     /// More may wait in the queue of the bus of this number than it holds.
     #[error("more may wait than the queue holds: input {0}")]
     QueueTooShort(usize),
-    /// A rule on the label of this number is broken, whatever a certificate says: C08, C09, C11 or C12.
+    /// A rule on the label of this number is broken, whatever is accepted of the inputs and outputs: C08, C09 or C12, or
+    /// C10 and C11 together, which is told as C11.
     #[error("label {0}: {1}")]
     LabelRule(usize, Condition),
     /// Memory was refused.
