@@ -12,10 +12,11 @@ ghost use Rattle.dc_answer.specs.Judging.{Judged};
 ghost use Rattle.dc_paper.specs.Paper.{AnswersClaims, AnswersReport, ReportsPage, outcome_of};
 ghost use Rattle.dc_toml.specs.declared.read.TheConstants.{TEXT_LIMIT};
 
-use crate::pages::{judge, keep_page};
+use crate::pages::keep_page;
 use dc_answer::{Exit, Failure, Outcome, Unloaded, load, load_certificate, report, say};
 use dc_app::{keep, keep_unreadable};
 use dc_cert::{Certificate, Fault};
+use dc_check::verdict;
 use dc_device::{LineWriter, Sink, Source};
 use dc_print::{Text, print_cert_fault};
 use dc_tables::Tables;
@@ -31,8 +32,8 @@ fn keep_judged(
     ensures outcome { IfOk result (λ o. o ≡ outcome_of (verdict_of tables.now (named_rows certificate.now))) }
     ensures memory { IfErr result (λ e. e ≡ Failure.Memory) }
 {
-    let outcome = judge(tables, certificate);
-    keep_page(alloc, tables, certificate, outcome, text)
+    let fault = verdict(tables, certificate).err();
+    keep_page(alloc, tables, certificate, fault, text)
 }
 
 // Keeps the first fault of the certificate's text.

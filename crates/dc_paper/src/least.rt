@@ -20,7 +20,7 @@ fn judge_least(alloc: Global, tables: &Tables, text: &mut Vec<u8>) -> Result<Out
     ensures memory { IfErr result (λ e. e ≡ Failure.Memory) }
 {
     match find(alloc, tables) {
-        Ok(certificate) => keep_page(alloc, tables, &certificate, Outcome::Done, text),
+        Ok(certificate) => keep_page(alloc, tables, &certificate, None, text),
         Err(fault) => keep_obstacle(tables, fault, text),
     }
 }

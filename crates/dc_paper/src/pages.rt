@@ -7,34 +7,35 @@ ghost use Rattle.dc_paper.specs.Paper.{outcome_of};
 use dc_answer::{Failure, Outcome};
 use dc_app::keep;
 use dc_cert::Certificate;
-use dc_check::verdict;
+use dc_check::CheckFault;
 use dc_report::page;
 use dc_tables::Tables;
 use std::alloc::Global;
 
-/// Keeps the page on a certificate for an outcome.
+/// The outcome of a verdict: accepted, or a fault.
+fn outcome(fault: Option<CheckFault>) -> Outcome
+    ensures { result ≡ outcome_of fault }
+{
+    match fault {
+        None => Outcome::Done,
+        Some(_) => Outcome::Refused,
+    }
+}
+
+/// Keeps the page on a certificate, given the fault of its verdict, with the outcome of that.
 pub fn keep_page(
     alloc: Global,
     tables: &Tables,
     certificate: &Certificate,
-    outcome: Outcome,
+    fault: Option<CheckFault>,
     text: &mut Vec<u8>,
 ) -> Result<Outcome, Failure>
-    ensures outcome { IfOk result (λ o. o ≡ outcome) }
+    requires { fault ≡ verdict_of tables.now (named_rows certificate.now) }
+    ensures outcome { IfOk result (λ o. o ≡ outcome_of fault) }
     ensures memory { IfErr result (λ e. e ≡ Failure.Memory) }
 {
-    match page(alloc, tables, certificate) {
-        Ok(page) => keep(page.as_bytes(), outcome, text),
+    match page(alloc, tables, certificate, fault) {
+        Ok(page) => keep(page.as_bytes(), outcome(fault), text),
         Err(_) => Err(Failure::Memory),
-    }
-}
-
-/// The outcome of the verdict on a certificate.
-pub fn judge(tables: &Tables, certificate: &Certificate) -> Outcome
-    ensures { result ≡ outcome_of (verdict_of tables.now (named_rows certificate.now)) }
-{
-    match verdict(tables, certificate) {
-        Ok(()) => Outcome::Done,
-        Err(_) => Outcome::Refused,
     }
 }

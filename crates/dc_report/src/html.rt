@@ -1,8 +1,10 @@
 //! The whole page.
 
-ghost use Rattle.std.specs.Prelude.{◌≡◌, length};
+ghost use Rattle.std.specs.Prelude.{◌≡◌, IfSome, length};
 ghost use Rattle.dc_cert.specs.Bounds.{certificate_rows};
-ghost use Rattle.dc_check.specs.Verdict.{IsSized};
+ghost use Rattle.dc_cert.specs.NamedRows.{named_rows};
+ghost use Rattle.dc_check.specs.Placed.{IsPlaced};
+ghost use Rattle.dc_check.specs.Verdict.{IsSized, verdict_of};
 
 use crate::claims::push_claims;
 use crate::input::push_input;
@@ -12,7 +14,7 @@ use crate::style::{FOOT, HEAD};
 use crate::summary::push_summary;
 use crate::verdict::{push_accepted, push_refused};
 use dc_cert::Certificate;
-use dc_check::{misnamed, verdict};
+use dc_check::{CheckFault, misnamed};
 use dc_margin::{InputMargins, OutputMargins};
 use dc_tables::Tables;
 use std::alloc::{AllocError, Global};
@@ -65,21 +67,17 @@ fn push_named(
     )
 }
 
-/// Adds the verdict. The answer is whether the certificate is accepted.
+/// Adds the verdict: accepted, or this fault.
 fn push_verdict(
     text: &mut String,
     tables: &Tables,
-    certificate: &Certificate,
-) -> Result<bool, AllocError> {
-    match verdict(tables, certificate) {
-        Ok(()) => {
-            push_accepted(text, tables)?;
-            Ok(true)
-        }
-        Err(fault) => {
-            push_refused(text, tables, fault)?;
-            Ok(false)
-        }
+    fault: Option<CheckFault>,
+) -> Result<(), AllocError>
+    requires { IfSome fault (λ f. IsPlaced tables.now f) }
+{
+    match fault {
+        None => push_accepted(text, tables),
+        Some(fault) => push_refused(text, tables, fault),
     }
 }
 
@@ -89,16 +87,19 @@ fn push_page(
     text: &mut String,
     tables: &Tables,
     certificate: &Certificate,
-) -> Result<(), AllocError> {
+    fault: Option<CheckFault>,
+) -> Result<(), AllocError>
+    requires { IfSome fault (λ f. IsPlaced tables.now f) }
+{
     text.push_str(HEAD)?;
-    let is_accepted = push_verdict(text, tables, certificate)?;
+    push_verdict(text, tables, fault)?;
     if misnamed(tables, certificate).is_none() {
-        push_named(alloc, text, tables, certificate, is_accepted)?;
+        push_named(alloc, text, tables, certificate, fault.is_none())?;
     }
     text.push_str(FOOT)
 }
 
-/// The page on a certificate for tables, as HTML. No clause says what stands in it.
+/// The page on a certificate for tables, given the fault of its verdict, as HTML. No clause says what stands in it.
 ///
 /// # Errors
 /// `AllocError` where an allocation failed.
@@ -106,8 +107,11 @@ pub fn page(
     alloc: Global,
     tables: &Tables,
     certificate: &Certificate,
-) -> Result<String, AllocError> {
+    fault: Option<CheckFault>,
+) -> Result<String, AllocError>
+    requires { fault ≡ verdict_of tables.now (named_rows certificate.now) }
+{
     let mut text = String::new(alloc);
-    push_page(alloc, &mut text, tables, certificate)?;
+    push_page(alloc, &mut text, tables, certificate, fault)?;
     Ok(text)
 }

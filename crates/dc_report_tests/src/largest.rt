@@ -1,8 +1,7 @@
 //! The page of the largest tables.
 
-use crate::fixture::{assert_holds, assert_lacks};
+use crate::fixture::{assert_holds, assert_lacks, judged_page};
 use dc_find::find;
-use dc_report::page;
 use dc_tables::Tables;
 use dc_toml::read_tables;
 use std::alloc::{AllocError, Global};
@@ -93,7 +92,7 @@ fn tables_text(alloc: Global) -> Result<String, AllocError> {
 /// The page of the least certificate of tables.
 fn least_page(alloc: Global, tables: &Tables) -> Result<String, Fail> {
     let certificate = find(alloc, tables)?;
-    Ok(page(alloc, tables, &certificate)?)
+    judged_page(alloc, tables, &certificate)
 }
 
 fn page_of_text(alloc: Global, text: &str) -> Result<String, Fail> {

@@ -1,6 +1,11 @@
+use Rattle.std.proofs.Common.{sym}
 use Rattle.dc_cert.specs.NamedRows.{named_rows}
+use Rattle.dc_check.specs.lemmas.Exact.{verdict-accepts}
 use Rattle.dc_paper.proofs.Paging.{found_judged, obstacle_judged}
 use Rattle.dc_paper.proofs.least.judge_least.Goals as goal
+
+pub keep_page-requires : goal.keep_page-requires
+keep_page-requires c = sym ((verdict-accepts c.args.tables.now (named_rows c.in-Ok.certificate)).1 c.in-Ok.ensures.least.accepted)
 
 pub returns-in-Ok-clause-answer : goal.returns-in-Ok-clause-answer
 returns-in-Ok-clause-answer c =
