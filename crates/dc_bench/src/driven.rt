@@ -15,7 +15,7 @@ use dc_check::Certified;
 use dc_checkpar::Open;
 use dc_drive::{DriveFault, drive};
 use dc_event::{Claim, Event};
-use dc_hub::{Closed, Entry, Hub, HubFault, MOST_ACTORS, OpenFault, Seats};
+use dc_hub::{Closed, Entry, Hub, HubFault, LONGEST_TRACE, MOST_ACTORS, OpenFault, Seats};
 use dc_oracle::claims;
 use dc_print::{Text, append, append_number};
 use dc_script::Script;
@@ -25,9 +25,6 @@ use std::marker::{Brand, Sync};
 use std::sync::Wait;
 use std::sync::ledger::{Blank, Ledger};
 use std::thread::Threads;
-
-/// How many entries a book holds at most.
-const TRACE_LIMIT: usize = 16_777_216;
 
 /// What is seen of a hub that ran and closed.
 #[derive(Clone, Copy, Debug, PartialEq, Eq)]
@@ -210,7 +207,7 @@ fn run_hub<L: Ledger + Send + Sync, R: Threads + Wait + Sync>(
     ensures answer { IfOk result (Judged (AnswersRun script.now.ticks) text.new.items) }
     ensures memory { IfOk result (λ judged. IfErr judged (λ e. e ≡ Failure.Memory)) }
 {
-    match Hub::<L>::open(alloc, blank, certified, TRACE_LIMIT) {
+    match Hub::<L>::open(alloc, blank, certified, LONGEST_TRACE) {
         Ok((hub, seats)) => drive_hub(rt, alloc, tables, script, hub, seats, text),
         Err(OpenFault::Memory) => Ok(Err(Failure::Memory)),
         Err(OpenFault::TraceLimit) => unreachable!(),

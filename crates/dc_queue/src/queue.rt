@@ -1,16 +1,16 @@
 ghost use Rattle.std.specs.Prelude.{◌≡◌, ℕ, ◌+◌, ◌<◌, ◌≤◌, [], ◌∷◌, ◌++◌, length, drop, slice_get, IfOk, IsOk, OnOk, OnErr, IsTrue, ◌↔◌};
 ghost use Rattle.dc_queue.specs.QueueData.{QueueData};
-ghost use Rattle.dc_queue.specs.declared.queue.TheConstants.{MOST_WORDS};
+ghost use Rattle.dc_queue.specs.declared.queue.TheConstants.{GREATEST_QUEUE};
 
 use circular_buffer::HeapCircularBuffer;
 use dc_word::Word;
 use std::alloc::{AllocError, Global};
 use std::marker::Model;
 
-/// The greatest limit of a queue, in words: this project's own number.
-pub const MOST_WORDS: u32 = 4096;
+/// The greatest limit of a queue, in words: this project's own number, as in the tables.
+pub const GREATEST_QUEUE: u32 = 4096;
 
-/// The receive queue of a bus: at most `limit` words, first in, first out. A limit is at most [`MOST_WORDS`].
+/// The receive queue of a bus: at most `limit` words, first in, first out. A limit is at most [`GREATEST_QUEUE`].
 #[derive(Drop)]
 pub struct WordQueue {
     words: HeapCircularBuffer<Word>,
@@ -19,13 +19,13 @@ pub struct WordQueue {
 impl Model for WordQueue {
     ghost use Rattle.std.specs.Prelude.{ℕ, ◌≤◌, length};
     ghost use Rattle.dc_queue.specs.QueueData.{QueueData};
-    ghost use Rattle.dc_queue.specs.declared.queue.TheConstants.{MOST_WORDS};
+    ghost use Rattle.dc_queue.specs.declared.queue.TheConstants.{GREATEST_QUEUE};
 
     ghost Value = { QueueData };
 
     ghost view = { λ q. record { words = q.words.items; limit = q.words.capacity } };
 
-    ghost invariant = { λ q. (length q.words.items ≤ q.words.capacity) × (q.words.capacity ≤ MOST_WORDS) };
+    ghost invariant = { λ q. (length q.words.items ≤ q.words.capacity) × (q.words.capacity ≤ GREATEST_QUEUE) };
 }
 
 /// The queue has no room for a word.
@@ -38,7 +38,7 @@ impl WordQueue {
     /// # Errors
     /// Out of memory.
     pub fn new(alloc: Global, limit: u32) -> Result<WordQueue, AllocError>
-        requires { limit ≤ MOST_WORDS }
+        requires { limit ≤ GREATEST_QUEUE }
         ensures { IfOk result (λ q. q ≡ record { words = []; limit = limit }) }
     {
         Ok(WordQueue {
