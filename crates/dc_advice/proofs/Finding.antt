@@ -33,7 +33,7 @@ found_judged t claims text result least judged =
     judged_as (λ answer. answer ≡ answer_margins t claims) (AnswersRows t) text result
     (λ answer is. inl (record { claims = claims; least = least; accepted = (verdict-accepts t claims).1 least.accepted; told = is })) judged
 
--- none is accepted: the line, and those of the margins of what was got to
+-- none is accepted: the line, and those of the margins of what was reached
 pub obstacle_judged : (t : TableRows) (fault : FindFault) (claims : NamedRows) (parts : ℕ) (old text : List ℕ) (outcome : Outcome) → NoneAccepted t → IsFirstInTheWay t fault
     → parts ≡ parts_reached t fault → IsReached t parts claims → old ≡ obstacle_text t fault → text ≡ old ++ fed (lines_of_first parts t (numbers_of claims)) → outcome ≡ WasRefused
     → Judged (AnswersReached t) text (Ok outcome)

@@ -85,7 +85,7 @@ abbrev pub lines_of_first : ℕ → TableRows → CertificateRows → List (List
 lines_of_first parts t c = map (margin_text t) (lines_below (part_lines_of t c) parts)
 
 -- to tables for which none is accepted: what `find` answers, the line of what stands first in the way of one, and then the
--- lines of the margins of the parts that are got to, with their least numbers
+-- lines of the margins of the parts that are reached, with their least numbers
 pub record AnswersReached (t : TableRows) (answer : Answer) : Type 0 where
   pub line : Answer
   pub obstacle : AnswersObstacle t line

@@ -16,7 +16,7 @@ use dc_answer::{Exit, Failure, Outcome, Unloaded, load, report, say};
 use dc_app::{keep_obstacle, keep_unreadable};
 use dc_cert::Certificate;
 use dc_device::{LineWriter, Sink, Source};
-use dc_find::{FindFault, find, got_to};
+use dc_find::{FindFault, find, reach};
 use dc_margin::part_lines;
 use dc_tables::Tables;
 use std::alloc::{AllocError, Global};
@@ -39,7 +39,7 @@ fn append_first(
     Ok(())
 }
 
-// Keeps the line of what stands in the way, and the lines of the margins of the parts that the finder got to.
+// Keeps the line of what stands in the way, and the lines of the margins of the parts that the finder reached.
 fn judge_obstacle(
     alloc: Global,
     tables: &Tables,
@@ -52,7 +52,7 @@ fn judge_obstacle(
     ensures memory { IfErr result (λ e. e ≡ Failure.Memory) }
 {
     let outcome = keep_obstacle(tables, fault, text)?;
-    let Ok(reached) = got_to(alloc, tables, fault) else {
+    let Ok(reached) = reach(alloc, tables, fault) else {
         return Err(Failure::Memory);
     };
     match append_first(tables, &reached.certificate, reached.parts, text) {
@@ -62,7 +62,7 @@ fn judge_obstacle(
 }
 
 // Finds the least certificate for tables, and keeps its verdict and the lines of its margins; where none is accepted, what
-// stands in the way, and the lines of what the finder got to.
+// stands in the way, and the lines of what the finder reached.
 fn judge_least(alloc: Global, tables: &Tables, text: &mut Vec<u8>) -> Result<Outcome, Failure>
     ensures answer { Judged (AnswersRows tables.now) text.new.items result }
     ensures memory { IfErr result (λ e. e ≡ Failure.Memory) }
@@ -94,7 +94,7 @@ fn judge_alone<T: Source>(
 
 /// Writes what `run_margins` writes of the least certificate for tables, which are read whole from their source, onto a
 /// sink; where none is accepted, a line that says what stands first in the way of every certificate, and then the lines of
-/// the inputs, outputs and labels that the finder got to, with their least numbers: those before it; the input itself too,
+/// the inputs, outputs and labels that the finder reached, with their least numbers: those before it; the input itself too,
 /// where its queue is too short; all, where a rule on a label is broken.
 ///
 /// It ends `Done` where a certificate was found, `Refused` where none is accepted, `Unreadable` where the tables can't

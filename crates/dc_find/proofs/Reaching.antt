@@ -1,4 +1,4 @@
--- What is got to before a fault.
+-- What is reached before a fault.
 use Rattle.std.proofs.Common.{ℕ, ◌+◌, ◌<◌, length, sym, subst, arith, inl, inr}
 use Rattle.std.proofs.lemmas.Bool.{cases_lt}
 use Rattle.std.proofs.lemmas.List.{get_or-map}
@@ -37,7 +37,7 @@ module _ (t : TableRows) where
   pub close-below : (fault : FindFault) → IsFirstInTheWay t fault → CloseBelow t (parts_reached t fault)
   close-below fault f = record { inputs = inputs-close fault f; outputs = outputs-close fault f }
 
-  -- the rows that were got to, as a certificate
+  -- the rows that were reached, as a certificate
   pub reached : (parts : ℕ) (claims : NamedRows) → AreKeyed t → AreInputsReached t parts claims.inputs → AreOutputsReached t parts claims.outputs → AreLabelRows t claims.inputs claims.labels → IsReached t parts claims
   reached parts claims keyed inputs outputs labels = record {
     named = are-named t claims keyed inputs.count (λ k d l. (inputs.each k d l).named) outputs.count (λ k d l. (outputs.each k d l).named) labels.count (λ k d l. (labels.each k d l).named);

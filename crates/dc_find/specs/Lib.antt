@@ -1,7 +1,7 @@
 -- The least certificate, and what stands in the way of one.
 pub mod Least
 pub mod Ways
--- What is got to where there is none.
+-- What is reached where there is none.
 pub mod Reached
 -- How it is printed.
 pub mod FaultText

@@ -14,7 +14,7 @@ use Rattle.dc_find.specs.declared.fault.Queue.TheVariants.{Input, Output}
 use Rattle.dc_parts.specs.Names.{text_of}
 use Rattle.dc_tables.specs.TableRows.{TableRows, bus_cap, bus_floor, output_cap, output_floor}
 
--- how many parts are got to, the inputs, the outputs and the labels in one row: those before the fault; where the queue of an
+-- how many parts are reached, the inputs, the outputs and the labels in one row: those before the fault; where the queue of an
 -- input is too short, that input too; where a rule on a label is broken, all
 abbrev pub parts_reached : TableRows → FindFault → ℕ
 parts_reached t (WindowNeverCloses (Input b)) = b

@@ -9,4 +9,4 @@ mod rows;
 
 pub use fault::{FindFault, Obstacle, Queue};
 pub use finder::find;
-pub use reached::{Reached, got_to};
+pub use reached::{Reached, reach};

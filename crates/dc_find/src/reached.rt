@@ -14,7 +14,7 @@ use dc_cert::{Certificate, InputRow, OutputRow};
 use dc_tables::Tables;
 use std::alloc::{AllocError, Global};
 
-/// What the finder got to before a fault.
+/// What the finder reached before a fault.
 #[derive(Debug, Drop)]
 pub struct Reached {
     /// A row for each input, output and label of the tables.
@@ -35,7 +35,7 @@ const NO_NUMBERS: InputNumbers = InputNumbers {
     backlog: 0,
 };
 
-/// How many parts are got to before a fault.
+/// How many parts are reached before a fault.
 fn parts_before(tables: &Tables, fault: FindFault) -> usize
     requires { StandsInTheWay tables.now fault }
     ensures parts { result ≡ parts_reached tables.now fault }
@@ -129,12 +129,12 @@ fn reached_outputs(
     Ok(rows)
 }
 
-/// What [`find`](crate::find) got to before the fault with which it ended: the least numbers of the parts before it; of its
+/// What [`find`](crate::find) reached before the fault with which it ended: the least numbers of the parts before it; of its
 /// input too, where the queue is too short, and of all parts, where a rule on a label is broken.
 ///
 /// # Errors
 /// `AllocError` where an allocation failed.
-pub fn got_to(alloc: Global, tables: &Tables, fault: FindFault) -> Result<Reached, AllocError>
+pub fn reach(alloc: Global, tables: &Tables, fault: FindFault) -> Result<Reached, AllocError>
     requires { IsFirstInTheWay tables.now fault }
     ensures parts { IfOk result (λ r. r.parts ≡ parts_reached tables.now fault) }
     ensures few { IfOk result (λ r. r.parts ≤ job_count tables.now) }

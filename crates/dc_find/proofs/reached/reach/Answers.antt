@@ -4,7 +4,7 @@ use Rattle.dc_cert.specs.declared.certificate.InputRow.{InputRow}
 use Rattle.dc_find.proofs.Reaching.{close-below, reached}
 use Rattle.dc_find.specs.Reached.{CloseBelow}
 use Rattle.dc_find.specs.Rows.{AreLabelRows}
-use Rattle.dc_find.proofs.reached.got_to.Goals as goal
+use Rattle.dc_find.proofs.reached.reach.Goals as goal
 
 pub reached_inputs-requires : goal.reached_inputs-requires
 reached_inputs-requires c = subst (CloseBelow c.args.tables.now) (sym c.parts_before-parts.ensures.parts) (close-below c.args.tables.now c.args.fault c.requires)
