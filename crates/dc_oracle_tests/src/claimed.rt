@@ -1,7 +1,6 @@
 //! Recorded runs of the small tables, and which claim of a certificate fails first in them.
 
-use crate::fixture::{SMALL, tables_of};
-use dc_cert::{Certificate, read_cert};
+use crate::fixture::{SMALL, certificate_of, tables_of};
 use dc_event::{Claim, Event};
 use dc_oracle::claims;
 use dc_word::Word;
@@ -15,17 +14,9 @@ const ARRIVE: Event = Event::Arrive(Word(0x6000_00C1), 0);
 /// A word of label 204 arrives.
 const OTHER: Event = Event::Arrive(Word(0xE000_0021), 0);
 
-/// The certificate of the small tables with this age.
-fn certificate(alloc: Global, age: u32) -> Result<Certificate, Fail> {
-    let text = format!(in alloc;
-        "{{\"inputs\":[{{\"backlog\":2,\"bus\":\"B0\",\"delay\":2,\"window\":3}}],\"labels\":[{{\"age\":{age},\"label\":\"x\"}}],\"outputs\":[{{\"delay\":2,\"output\":\"O\",\"window\":3}}],\"version\":1}}"
-    )?;
-    Ok(read_cert(alloc, text.as_bytes())?)
-}
-
-/// The first claim that fails in the run, with its place, by a certificate of this age.
-fn failure(alloc: Global, age: u32, run: &[Event]) -> Result<Option<(Claim, usize)>, Fail> {
-    let certificate = certificate(alloc, age)?;
+/// The first claim that fails in the run, with its place, by the certificate with this row.
+fn failure(alloc: Global, row: &str, run: &[Event]) -> Result<Option<(Claim, usize)>, Fail> {
+    let certificate = certificate_of(alloc, row)?;
     let tables = tables_of(alloc, SMALL)?;
     Ok(claims(alloc, &tables, &certificate, run)?)
 }
@@ -50,15 +41,18 @@ fn run_of(alloc: Global, steps: &[(u32, Event)]) -> Result<Vec<Event>, AllocErro
 
 #[test]
 fn claims_of_no_events_hold(rt: HostRuntime) -> Result<(), Fail> {
-    assert_eq!(rt; failure(rt.alloc(), 24, &[])?, None);
+    assert_eq!(rt; failure(rt.alloc(), "age=24", &[])?, None);
     Ok(())
 }
 
 #[test]
 fn a_third_word_overruns_the_queue(rt: HostRuntime) -> Result<(), Fail> {
     let wanted = Some((Claim::NoOverrun, 3));
-    assert_eq!(rt; failure(rt.alloc(), 24, &[ARRIVE, OTHER, ARRIVE])?, wanted);
-    assert_eq!(rt; failure(rt.alloc(), 24, &[ARRIVE, OTHER])?, None);
+    assert_eq!(rt;
+        failure(rt.alloc(), "age=24", &[ARRIVE, OTHER, ARRIVE])?,
+        wanted
+    );
+    assert_eq!(rt; failure(rt.alloc(), "age=24", &[ARRIVE, OTHER])?, None);
     Ok(())
 }
 
@@ -73,9 +67,9 @@ fn a_word_of_24_ticks_is_too_old_for_an_age_of_23(rt: HostRuntime) -> Result<(),
         (15, Event::Send(0)),
     ];
     let run = run_of(rt.alloc(), &steps)?;
-    assert_eq!(rt; failure(rt.alloc(), 24, run.as_slice())?, None);
+    assert_eq!(rt; failure(rt.alloc(), "age=24", run.as_slice())?, None);
     let wanted = Some((Claim::DataAge, 35));
-    assert_eq!(rt; failure(rt.alloc(), 23, run.as_slice())?, wanted);
+    assert_eq!(rt; failure(rt.alloc(), "age=23", run.as_slice())?, wanted);
     Ok(())
 }
 
@@ -91,7 +85,7 @@ fn a_live_source_is_left_aside(rt: HostRuntime) -> Result<(), Fail> {
     ];
     let run = run_of(rt.alloc(), &steps)?;
     let wanted = Some((Claim::LiveSource, 35));
-    assert_eq!(rt; failure(rt.alloc(), 24, run.as_slice())?, wanted);
+    assert_eq!(rt; failure(rt.alloc(), "age=24", run.as_slice())?, wanted);
     Ok(())
 }
 
@@ -99,9 +93,9 @@ fn a_live_source_is_left_aside(rt: HostRuntime) -> Result<(), Fail> {
 fn a_label_is_sent_too_late(rt: HostRuntime) -> Result<(), Fail> {
     let run = run_of(rt.alloc(), &[(20, Event::Tick)])?;
     let wanted = Some((Claim::Interval, 21));
-    assert_eq!(rt; failure(rt.alloc(), 24, run.as_slice())?, wanted);
+    assert_eq!(rt; failure(rt.alloc(), "age=24", run.as_slice())?, wanted);
     let run = run_of(rt.alloc(), &[(19, Event::Tick)])?;
-    assert_eq!(rt; failure(rt.alloc(), 24, run.as_slice())?, None);
+    assert_eq!(rt; failure(rt.alloc(), "age=24", run.as_slice())?, None);
     Ok(())
 }
 
@@ -109,6 +103,6 @@ fn a_label_is_sent_too_late(rt: HostRuntime) -> Result<(), Fail> {
 fn the_lesser_of_two_claims_is_reported(rt: HostRuntime) -> Result<(), Fail> {
     let run = run_of(rt.alloc(), &[(0, ARRIVE), (0, OTHER), (20, ARRIVE)])?;
     let wanted = Some((Claim::NoOverrun, 23));
-    assert_eq!(rt; failure(rt.alloc(), 24, run.as_slice())?, wanted);
+    assert_eq!(rt; failure(rt.alloc(), "age=24", run.as_slice())?, wanted);
     Ok(())
 }

@@ -1,9 +1,9 @@
 //! Recorded runs, and what the definitions say to them.
 
-use crate::fixture::{LARGEST, Plan, SMALL, label, tables_of};
+use crate::fixture::{LATE, POLICED, SMALL, tables_of};
 use dc_event::{Event, Reply};
 use dc_oracle::{keeps_budgets, keeps_sources, outputs, steady};
-use dc_word::Word;
+use dc_word::{Label, Word};
 use std::alloc::Global;
 use std::test::Fail;
 
@@ -14,20 +14,20 @@ const NORMAL: Word = Word(0x6000_00C1);
 const OTHER: Word = Word(0xE000_0021);
 
 /// Where the sources of a run of these tables first break their minimum.
-fn sources_fail(alloc: Global, plan: Plan, run: &[Event]) -> Result<Option<usize>, Fail> {
-    let tables = tables_of(alloc, plan)?;
+fn sources_fail(alloc: Global, row: &str, run: &[Event]) -> Result<Option<usize>, Fail> {
+    let tables = tables_of(alloc, row)?;
     Ok(keeps_sources(alloc, &tables, run)?)
 }
 
 /// Where the actors of a run of these tables first break their budgets.
-fn budgets_fail(alloc: Global, plan: Plan, run: &[Event]) -> Result<Option<usize>, Fail> {
-    let tables = tables_of(alloc, plan)?;
+fn budgets_fail(alloc: Global, row: &str, run: &[Event]) -> Result<Option<usize>, Fail> {
+    let tables = tables_of(alloc, row)?;
     Ok(keeps_budgets(alloc, &tables, run)?)
 }
 
 /// The steady run of these tables for so many ticks.
-fn steady_run(alloc: Global, plan: Plan, ticks: u64) -> Result<Vec<Event>, Fail> {
-    let tables = tables_of(alloc, plan)?;
+fn steady_run(alloc: Global, row: &str, ticks: u64) -> Result<Vec<Event>, Fail> {
+    let tables = tables_of(alloc, row)?;
     Ok(steady(alloc, &tables, ticks)?)
 }
 
@@ -55,15 +55,15 @@ fn steady_runs_keep_the_budgets(rt: HostRuntime) -> Result<(), Fail> {
     Ok(())
 }
 
+/// The streams may bring four words in tick 0, and the wire carries three.
 #[test]
 fn wire_carries_three_words_in_a_tick(rt: HostRuntime) -> Result<(), Fail> {
-    let run = [
-        Event::Arrive(Word(0xE000_0081), 0),
-        Event::Arrive(Word(0xE000_0041), 0),
-        Event::Arrive(NORMAL, 0),
-        Event::Arrive(OTHER, 0),
-    ];
-    assert_eq!(rt; sources_fail(rt.alloc(), LARGEST, &run)?, Some(4));
+    let normal = Event::Arrive(NORMAL, 0);
+    let other = Event::Arrive(OTHER, 0);
+    let three = [normal, other, normal];
+    assert_eq!(rt; sources_fail(rt.alloc(), LATE, &three)?, None);
+    let four = [normal, other, normal, other];
+    assert_eq!(rt; sources_fail(rt.alloc(), LATE, &four)?, Some(4));
     Ok(())
 }
 
@@ -99,17 +99,6 @@ fn words_that_no_stream_declares_are_no_arrivals(rt: HostRuntime) -> Result<(), 
     assert_eq!(rt; sources_fail(rt.alloc(), SMALL, &run)?, None);
     Ok(())
 }
-
-/// A policed bus, which asks nothing of its sources, and an open one whose words may come ten ticks late.
-const POLICED: Plan = Plan {
-    police: true,
-    ..SMALL
-};
-
-const LATE: Plan = Plan {
-    jitter_us: 10_000,
-    ..SMALL
-};
 
 #[test]
 fn sources_of_a_policed_bus_are_not_asked(rt: HostRuntime) -> Result<(), Fail> {
@@ -163,9 +152,14 @@ fn two_ticks_hold_a_send(rt: HostRuntime) -> Result<(), Fail> {
 }
 
 /// What should have come out of a run of these tables.
-fn outputs_of(alloc: Global, plan: Plan, run: &[Event]) -> Result<Vec<Reply>, Fail> {
-    let tables = tables_of(alloc, plan)?;
+fn outputs_of(alloc: Global, row: &str, run: &[Event]) -> Result<Vec<Reply>, Fail> {
+    let tables = tables_of(alloc, row)?;
     Ok(outputs(alloc, &tables, run)?)
+}
+
+/// Label 203.
+fn label_203() -> Result<Label, Fail> {
+    Ok(Label::new(0o203).ok_or("no label")?)
 }
 
 /// The word of label 203 that leaves where there is no source.
@@ -178,7 +172,7 @@ fn steady_tick_sends_the_fallback(rt: HostRuntime) -> Result<(), Fail> {
     let wanted = [
         Reply::Empty(0),
         Reply::Empty(0),
-        Reply::Sent(label(0o203)?, FALLBACK),
+        Reply::Sent(label_203()?, FALLBACK),
         Reply::Now(1),
     ];
     assert_eq!(rt; reported.as_slice(), wanted.as_slice());
@@ -197,7 +191,7 @@ fn fresh_word_is_copied(rt: HostRuntime) -> Result<(), Fail> {
     let wanted = [
         Reply::Queued(1),
         Reply::Took(NORMAL, 0),
-        Reply::Sent(label(0o203)?, NORMAL),
+        Reply::Sent(label_203()?, NORMAL),
         Reply::Idle,
     ];
     assert_eq!(rt; reported.as_slice(), wanted.as_slice());
@@ -212,10 +206,7 @@ fn early_words_are_refused_before_the_latch(rt: HostRuntime) -> Result<(), Fail>
         Event::Arrive(OTHER, 0),
         Event::Arrive(NORMAL, 0),
     ];
-    let one = Plan {
-        queue: 1,
-        ..POLICED
-    };
+    let one = "version=2 police_key=police jitter_key=jitter_us queue=1";
     let reported = outputs_of(rt.alloc(), one, &run)?;
     let wanted = [
         Reply::Queued(1),
@@ -248,7 +239,7 @@ fn overrun_latches_the_bus(rt: HostRuntime) -> Result<(), Fail> {
         Reply::Overrun,
         Reply::Took(NORMAL, 0),
         Reply::Latched,
-        Reply::Sent(label(0o203)?, FALLBACK),
+        Reply::Sent(label_203()?, FALLBACK),
     ];
     assert_eq!(rt; reported.as_slice(), wanted.as_slice());
     Ok(())
