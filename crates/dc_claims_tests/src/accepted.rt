@@ -7,8 +7,7 @@ use dc_event::{Event, Reply};
 use dc_find::{FindFault, find};
 use dc_oracle::{claims, outputs};
 use dc_tables::Tables;
-use dc_toml::read_tables;
-use dc_trials::{Chance, ROOMY, push_tables};
+use dc_trials::{Chance, ROOMY, random_tables};
 use dc_word::{Format, Sdi};
 use std::alloc::{AllocError, Global};
 use std::process::Abort;
@@ -28,13 +27,6 @@ struct Counts {
     runs: u32,
     kept: u32,
     copied: u32,
-}
-
-/// Random tables.
-pub fn random_tables(alloc: Global, chance: &mut Chance) -> Result<Tables, Fail> {
-    let mut text = String::new(alloc);
-    push_tables(&mut text, chance, &ROOMY)?;
-    Ok(read_tables(alloc, text.as_bytes())?)
 }
 
 /// The least certificate of tables, where some certificate is accepted.
@@ -115,7 +107,7 @@ fn draws(
     chance: &mut Chance,
     counts: &mut Counts,
 ) -> Result<(), Fail> {
-    let tables = random_tables(alloc, chance)?;
+    let tables = random_tables(alloc, chance, &ROOMY)?;
     if let Some(certificate) = found(alloc, &tables)? {
         runs_tables(rt, alloc, chance, &tables, &certificate, counts)?;
     }

@@ -1,13 +1,13 @@
 //! A run of more than 100,000 events: each question about it is answered.
 
-use crate::accepted::{first_label, found, random_tables};
+use crate::accepted::{first_label, found};
 use crate::searched::is_kept;
 use crate::sources::{Manner, random_run};
 use dc_cert::Certificate;
 use dc_event::Event;
 use dc_oracle::{claims, outputs};
 use dc_tables::Tables;
-use dc_trials::Chance;
+use dc_trials::{Chance, ROOMY, random_tables};
 use std::alloc::{AllocError, Global};
 use std::process::Abort;
 use std::rt::HostRuntime;
@@ -19,7 +19,8 @@ const TICKS: u64 = 50_000;
 /// How many replies a run has.
 fn replies_to(alloc: Global, tables: &Tables, run: &[Event]) -> Result<usize, AllocError> {
     let replies = outputs(alloc, tables, run)?;
-    Ok(replies.len())
+    let count = replies.len();
+    Ok(count)
 }
 
 /// All that is asked of the run and of its claims holds.
@@ -62,7 +63,7 @@ fn runs_long(
 
 /// Draws tables. Where their certificate is found, its claims hold in a long run.
 fn draws(rt: &impl Abort, alloc: Global, chance: &mut Chance) -> Result<bool, Fail> {
-    let tables = random_tables(alloc, chance)?;
+    let tables = random_tables(alloc, chance, &ROOMY)?;
     let mut judged = false;
     if let Some(certificate) = found(alloc, &tables)? {
         judged = runs_long(rt, alloc, chance, &tables, &certificate)?;

@@ -3,12 +3,11 @@
 
 use crate::plain::first_failing;
 use crate::steps::{label_rows, steps_of, stream_rows};
-use dc_cert::{Certificate, read_cert};
+use dc_cert::Certificate;
 use dc_event::Event;
 use dc_oracle::{claims, keeps_budgets, keeps_sources};
 use dc_tables::Tables;
-use dc_toml::read_tables;
-use dc_trials::{Chance, TIGHT, push_tables, random_event};
+use dc_trials::{Chance, TIGHT, certificate_of, random_event, random_tables};
 use std::alloc::{AllocError, Global};
 use std::process::Abort;
 use std::rt::HostRuntime;
@@ -87,13 +86,6 @@ pub fn is_kept(alloc: Global, tables: &Tables, run: &[Event]) -> Result<bool, Al
     Ok(budgets.is_none() && sources.is_none())
 }
 
-/// Random tables.
-fn random_tables(alloc: Global, chance: &mut Chance) -> Result<Tables, Fail> {
-    let mut text = String::new(alloc);
-    push_tables(&mut text, chance, &TIGHT)?;
-    Ok(read_tables(alloc, text.as_bytes())?)
-}
-
 /// A random certificate of tables.
 fn random_certificate(
     alloc: Global,
@@ -102,7 +94,7 @@ fn random_certificate(
 ) -> Result<Certificate, Fail> {
     let mut text = String::new(alloc);
     push_certificate(&mut text, chance, tables.label_count())?;
-    Ok(read_cert(alloc, text.as_bytes())?)
+    Ok(certificate_of(alloc, text.as_str())?)
 }
 
 /// Compares a random run of tables. The number of the claim that fails first, and whether the run keeps what is asked.
@@ -121,7 +113,7 @@ fn searches(
 
 /// Draws tables, and compares a random run of them.
 fn draws(rt: &impl Abort, alloc: Global, chance: &mut Chance) -> Result<(u8, bool), Fail> {
-    let tables = random_tables(alloc, chance)?;
+    let tables = random_tables(alloc, chance, &TIGHT)?;
     searches(rt, alloc, chance, &tables)
 }
 

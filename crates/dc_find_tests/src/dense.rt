@@ -2,12 +2,11 @@
 
 ghost use Rattle.std.specs.Prelude.{◌≤◌, IfSome};
 
-use crate::texts::small_tables;
 use dc_bound::{ArrivalBound, ServiceBound};
 use dc_busy::{backlog_fails, closes, delay_fails};
 use dc_find::find;
 use dc_tables::Tables;
-use dc_trials::Chance;
+use dc_trials::{Chance, small_tables};
 use std::alloc::{AllocError, Global};
 use std::process::Abort;
 use std::rt::HostRuntime;
@@ -134,26 +133,31 @@ fn assert_same(rt: &impl Abort, alloc: Global, tables: &Tables, row: &str) -> bo
     accepted
 }
 
+/// Adds a value to a row.
+fn push_value(row: &mut String, name: &str, value: u32) -> Result<(), AllocError> {
+    write!(row, "{name}={value} ")
+}
+
+/// Adds a jitter to a row, of policed buses or not.
+fn push_jitter(row: &mut String, chance: &mut Chance) -> Result<(), AllocError> {
+    row.push_str("version=2 police_key=police jitter_key=jitter_us ")?;
+    if !chance.once_in(2) {
+        row.push_str("police=false ")?;
+    }
+    push_value(row, "jitter", chance.below(20_000))
+}
+
 /// A row of random values.
 fn push_row(row: &mut String, chance: &mut Chance) -> Result<(), AllocError> {
-    let queue = chance.between(1, 6);
-    let steps = chance.between(1, 2);
-    let within = chance.between(1, 6);
-    let send_within = chance.between(1, 12);
-    let frame = chance.between(12, 18);
-    let stale = chance.between(20, 30);
-    let limit = chance.between(22, 40);
-    write!(
-        row,
-        "queue={queue} steps={steps} within={within} send_within={send_within} frame={frame} stale={stale} limit={limit}"
-    )?;
+    push_value(row, "queue", chance.between(1, 6))?;
+    push_value(row, "steps", chance.between(1, 2))?;
+    push_value(row, "within", chance.between(1, 6))?;
+    push_value(row, "send_within", chance.between(1, 12))?;
+    push_value(row, "frame", chance.between(12, 18))?;
+    push_value(row, "stale", chance.between(20, 30))?;
+    push_value(row, "limit", chance.between(22, 40))?;
     if chance.once_in(2) {
-        let police = chance.once_in(2);
-        let jitter = chance.below(20_000);
-        write!(
-            row,
-            " version=2 police_key=police police={police} jitter_key=jitter_us jitter={jitter}"
-        )?;
+        push_jitter(row, chance)?;
     }
     Ok(())
 }

@@ -9,5 +9,3 @@ mod large;
 mod lowered;
 #[cfg(test)]
 mod rows;
-#[cfg(test)]
-mod texts;

@@ -1,12 +1,12 @@
 //! The small tables with one value changed: the numbers that are found, or what stands in the way.
 
 use crate::lowered::assert_least;
-use crate::texts::{small_tables, tables_of};
 use dc_cert::cert_text;
 use dc_check::Condition;
 use dc_find::{FindFault, Queue, find};
 use dc_tables::Tables;
-use std::alloc::Global;
+use dc_trials::{small_tables, tables_of};
+use std::alloc::{AllocError, Global};
 use std::process::Abort;
 use std::rt::HostRuntime;
 use std::test::Fail;
@@ -19,22 +19,31 @@ fn found(rt: &impl Abort, alloc: Global, tables: &Tables) -> Result<String, Fail
             assert_least(rt, tables, &mut certificate);
             Ok(cert_text(alloc, &certificate)?)
         }
-        Err(fault) => Ok(format!(in alloc; "{}", said(fault))?),
+        Err(fault) => Ok(said(alloc, fault)?),
     }
 }
 
+/// The fault of a window that never closes, in short.
+fn window_said(alloc: Global, queue: Queue) -> Result<String, AllocError> {
+    match queue {
+        Queue::Input(bus) => format!(in alloc; "F1 input {bus}"),
+        Queue::Output(output) => format!(in alloc; "F1 output {output}"),
+    }
+}
+
+/// The fault of a rule on a label, in short.
+fn rule_said(alloc: Global, label: usize, condition: Condition) -> Result<String, AllocError> {
+    let code = condition.code();
+    format!(in alloc; "F3 label {label} {code}")
+}
+
 /// A fault in short.
-fn said(fault: FindFault) -> &'static str {
+fn said(alloc: Global, fault: FindFault) -> Result<String, AllocError> {
     match fault {
-        FindFault::WindowNeverCloses(Queue::Input(0)) => "F1 input A",
-        FindFault::WindowNeverCloses(Queue::Output(0)) => "F1 output O",
-        FindFault::QueueTooShort(0) => "F2 input A",
-        FindFault::LabelRule(0, Condition::SentTooSoon) => "F3 label x C08",
-        FindFault::LabelRule(0, Condition::SentTooLate) => "F3 label x C09",
-        FindFault::LabelRule(0, Condition::AgeOverLimit) => "F3 label x C11",
-        FindFault::LabelRule(0, Condition::SourceGoesStale) => "F3 label x C12",
-        FindFault::Memory => "memory",
-        _ => "another",
+        FindFault::WindowNeverCloses(queue) => window_said(alloc, queue),
+        FindFault::QueueTooShort(bus) => format!(in alloc; "F2 input {bus}"),
+        FindFault::LabelRule(label, condition) => rule_said(alloc, label, condition),
+        FindFault::Memory => format!(in alloc; "memory"),
     }
 }
 
@@ -61,21 +70,21 @@ fn the_least_certificate_is_found(rt: HostRuntime) -> Result<(), Fail> {
     Ok(())
 }
 
-const FAULTS: &str = "queue=1|F2 input A
-within=10|F1 input A
-within=10 queue=1|F1 input A
-within=10 send_within=16|F1 input A
-queue=1 send_within=16|F2 input A
-send_within=16|F1 output O
-send_within=16 frame=12|F1 output O
-stale=21|F3 label x C12
-frame=12|F3 label x C08
-frame=18|F3 label x C09
-limit=23|F3 label x C11
-stale=21 limit=22|F3 label x C11
-frame=12 limit=23|F3 label x C08
-offsets=0,3|F3 label x C08
-version=2 police_key=police jitter_key=jitter_us jitter=10000 queue=4 stale=23|F3 label x C12";
+const FAULTS: &str = "queue=1|F2 input 0
+within=10|F1 input 0
+within=10 queue=1|F1 input 0
+within=10 send_within=16|F1 input 0
+queue=1 send_within=16|F2 input 0
+send_within=16|F1 output 0
+send_within=16 frame=12|F1 output 0
+stale=21|F3 label 0 C12
+frame=12|F3 label 0 C08
+frame=18|F3 label 0 C09
+limit=23|F3 label 0 C11
+stale=21 limit=22|F3 label 0 C11
+frame=12 limit=23|F3 label 0 C08
+offsets=0,3|F3 label 0 C08
+version=2 police_key=police jitter_key=jitter_us jitter=10000 queue=4 stale=23|F3 label 0 C12";
 
 #[test]
 fn what_stands_in_the_way_is_reported_in_order(rt: HostRuntime) -> Result<(), Fail> {

@@ -1,10 +1,10 @@
 //! Which margins are negative: each code once, and each number of the certificate lowered by one.
 
-use crate::texts::{small_certificate, small_tables};
 use dc_cert::Certificate;
 use dc_check::misnamed;
 use dc_margin::{MarginLine, line_parts, part_lines};
 use dc_tables::Tables;
+use dc_trials::{small_certificate, small_tables};
 use std::alloc::Global;
 use std::process::Abort;
 use std::rt::HostRuntime;

@@ -7,5 +7,3 @@ mod codes;
 mod large;
 #[cfg(test)]
 mod small;
-#[cfg(test)]
-mod texts;

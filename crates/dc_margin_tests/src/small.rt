@@ -1,6 +1,5 @@
 //! The margins of the small tables with their certificate, and of certificates with one number less.
 
-use crate::texts::{small_certificate, small_tables};
 use dc_cert::Certificate;
 use dc_check::{misnamed, verdict};
 use dc_margin::{
@@ -8,6 +7,7 @@ use dc_margin::{
     margin_lines, output_margins, verdict_fault,
 };
 use dc_tables::Tables;
+use dc_trials::{small_certificate, small_tables};
 use std::alloc::Global;
 use std::process::Abort;
 use std::rt::HostRuntime;

@@ -1,8 +1,11 @@
 //! Recorded runs of the small tables, and which claim of a certificate fails first in them.
 
-use crate::fixture::{SMALL, certificate_of, tables_of};
+use crate::fixture::SMALL;
+use dc_cert::Certificate;
 use dc_event::{Claim, Event};
 use dc_oracle::claims;
+use dc_tables::Tables;
+use dc_trials::{small_certificate, small_tables};
 use dc_word::Word;
 use std::alloc::{AllocError, Global};
 use std::rt::HostRuntime;
@@ -14,11 +17,21 @@ const ARRIVE: Event = Event::Arrive(Word(0x6000_00C1), 0);
 /// A word of label 204 arrives.
 const OTHER: Event = Event::Arrive(Word(0xE000_0021), 0);
 
-/// The first claim that fails in the run, with its place, by the certificate with this row.
+/// The first claim that fails in a run, with its place.
+fn first_failure(
+    alloc: Global,
+    tables: &Tables,
+    certificate: &Certificate,
+    run: &[Event],
+) -> Result<Option<(Claim, usize)>, Fail> {
+    Ok(claims(alloc, tables, certificate, run)?)
+}
+
+/// The same of the small tables and the certificate with this row.
 fn failure(alloc: Global, row: &str, run: &[Event]) -> Result<Option<(Claim, usize)>, Fail> {
-    let certificate = certificate_of(alloc, row)?;
-    let tables = tables_of(alloc, SMALL)?;
-    Ok(claims(alloc, &tables, &certificate, run)?)
+    let certificate = small_certificate(alloc, row)?;
+    let tables = small_tables(alloc, SMALL)?;
+    first_failure(alloc, &tables, &certificate, run)
 }
 
 /// Adds so many ticks to a run, and then the event.

@@ -1,10 +1,10 @@
 //! Floods of words on a policed bus whose certificate is accepted: early words are refused, and no queue overruns.
 
-use crate::fixture::{POLICED, certificate_of, tables_of};
+use crate::fixture::POLICED;
 use dc_check::check;
 use dc_core::Core;
 use dc_event::{Event, Reply};
-use dc_trials::{Chance, random_word};
+use dc_trials::{Chance, random_word, small_certificate, small_tables};
 use std::alloc::Global;
 use std::process::Abort;
 use std::rt::HostRuntime;
@@ -60,9 +60,9 @@ fn flood_tick(rt: &impl Abort, chance: &mut Chance, core: &mut Core, counts: &mu
 
 /// A concentrator of the small tables with the values of a row, whose certificate, with those of another, is accepted.
 fn certified_core(alloc: Global, row: &str, certificate_row: &str) -> Result<Core, Fail> {
-    let tables = Arc::new(alloc, tables_of(alloc, row)?)?;
+    let tables = Arc::new(alloc, small_tables(alloc, row)?)?;
     let shared = Arc::try_clone(&tables)?;
-    let certificate = certificate_of(alloc, certificate_row)?;
+    let certificate = small_certificate(alloc, certificate_row)?;
     let _certified = check(tables, certificate)?;
     Ok(Core::new(alloc, shared)?)
 }

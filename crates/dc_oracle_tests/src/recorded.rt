@@ -1,8 +1,10 @@
 //! Recorded runs, and what the definitions say to them.
 
-use crate::fixture::{LATE, POLICED, SMALL, tables_of};
+use crate::fixture::{LATE, POLICED, SMALL};
 use dc_event::{Event, Reply};
 use dc_oracle::{keeps_budgets, keeps_sources, outputs, steady};
+use dc_tables::Tables;
+use dc_trials::small_tables;
 use dc_word::{Label, Word};
 use std::alloc::Global;
 use std::test::Fail;
@@ -13,22 +15,37 @@ const NORMAL: Word = Word(0x6000_00C1);
 /// A word of label 204.
 const OTHER: Word = Word(0xE000_0021);
 
-/// Where the sources of a run of these tables first break their minimum.
+/// Where the sources of a run first break their minimum.
+fn sources_of(alloc: Global, tables: &Tables, run: &[Event]) -> Result<Option<usize>, Fail> {
+    Ok(keeps_sources(alloc, tables, run)?)
+}
+
+/// The same of the tables with this row.
 fn sources_fail(alloc: Global, row: &str, run: &[Event]) -> Result<Option<usize>, Fail> {
-    let tables = tables_of(alloc, row)?;
-    Ok(keeps_sources(alloc, &tables, run)?)
+    let tables = small_tables(alloc, row)?;
+    sources_of(alloc, &tables, run)
 }
 
-/// Where the actors of a run of these tables first break their budgets.
+/// Where the actors of a run first break their budgets.
+fn budgets_of(alloc: Global, tables: &Tables, run: &[Event]) -> Result<Option<usize>, Fail> {
+    Ok(keeps_budgets(alloc, tables, run)?)
+}
+
+/// The same of the tables with this row.
 fn budgets_fail(alloc: Global, row: &str, run: &[Event]) -> Result<Option<usize>, Fail> {
-    let tables = tables_of(alloc, row)?;
-    Ok(keeps_budgets(alloc, &tables, run)?)
+    let tables = small_tables(alloc, row)?;
+    budgets_of(alloc, &tables, run)
 }
 
-/// The steady run of these tables for so many ticks.
+/// The steady run for so many ticks.
+fn steady_of(alloc: Global, tables: &Tables, ticks: u64) -> Result<Vec<Event>, Fail> {
+    Ok(steady(alloc, tables, ticks)?)
+}
+
+/// The same of the tables with this row.
 fn steady_run(alloc: Global, row: &str, ticks: u64) -> Result<Vec<Event>, Fail> {
-    let tables = tables_of(alloc, row)?;
-    Ok(steady(alloc, &tables, ticks)?)
+    let tables = small_tables(alloc, row)?;
+    steady_of(alloc, &tables, ticks)
 }
 
 #[test]
@@ -151,10 +168,15 @@ fn two_ticks_hold_a_send(rt: HostRuntime) -> Result<(), Fail> {
     Ok(())
 }
 
-/// What should have come out of a run of these tables.
+/// What should have come out of a run.
+fn replies_of(alloc: Global, tables: &Tables, run: &[Event]) -> Result<Vec<Reply>, Fail> {
+    Ok(outputs(alloc, tables, run)?)
+}
+
+/// The same of the tables with this row.
 fn outputs_of(alloc: Global, row: &str, run: &[Event]) -> Result<Vec<Reply>, Fail> {
-    let tables = tables_of(alloc, row)?;
-    Ok(outputs(alloc, &tables, run)?)
+    let tables = small_tables(alloc, row)?;
+    replies_of(alloc, &tables, run)
 }
 
 /// Label 203.

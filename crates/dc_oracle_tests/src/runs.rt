@@ -5,8 +5,7 @@ use dc_core::{Core, StepFault};
 use dc_event::{Event, Reply};
 use dc_oracle::{keeps_budgets, outputs};
 use dc_tables::Tables;
-use dc_toml::read_tables;
-use dc_trials::{Chance, TIGHT, push_tables, random_event};
+use dc_trials::{Chance, TIGHT, random_event, random_tables};
 use std::alloc::{AllocError, Global};
 use std::process::Abort;
 use std::rt::HostRuntime;
@@ -151,9 +150,7 @@ fn run_tables(
     chance: &mut Chance,
     counts: &mut [u32],
 ) -> Result<(), Fail> {
-    let mut text = String::new(alloc);
-    push_tables(&mut text, chance, &TIGHT)?;
-    let tables = Arc::new(alloc, read_tables(alloc, text.as_bytes())?)?;
+    let tables = Arc::new(alloc, random_tables(alloc, chance, &TIGHT)?)?;
     let shared = Arc::try_clone(&tables)?;
     let mut core = Core::new(alloc, shared)?;
     run_events(rt, alloc, chance, &tables, &mut core, counts)?;

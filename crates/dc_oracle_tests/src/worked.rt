@@ -1,11 +1,11 @@
 //! The worked runs of the small tables, as traces: the second opinion has the replies and refusals of the concentrator.
 
-use crate::fixture::tables_of;
 use crate::runs::{Recording, agrees, try_event};
 use dc_core::Core;
 use dc_device::MemSource;
 use dc_event::{Event, TraceReader, TraceStop};
 use dc_tables::Tables;
+use dc_trials::small_tables;
 use std::alloc::{AllocError, Global};
 use std::process::Abort;
 use std::rt::HostRuntime;
@@ -57,7 +57,7 @@ fn run_small(
     trace: &str,
 ) -> Result<u32, Fail> {
     let row = format!(in alloc; "{SECOND_BUS} queue={queue} offsets={offsets}")?;
-    let tables = Arc::new(alloc, tables_of(alloc, row.as_str())?)?;
+    let tables = Arc::new(alloc, small_tables(alloc, row.as_str())?)?;
     let shared = Arc::try_clone(&tables)?;
     let mut core = Core::new(alloc, shared)?;
     Ok(run_trace(rt, alloc, &tables, &mut core, trace)?)

@@ -1,15 +1,21 @@
-//! What tests share: the text of the small tables, with their certificate; of tables whose buses are alike; and what trials draw
+//! What tests share: the small tables with their certificate, by rows of values; the text of tables whose buses are alike; and what trials draw
 //! by chance, the same in each run: numbers, the text of random tables, and events of tables. No part of the product.
 #![tactic(auto)]
 
 mod chance;
 mod equal;
 mod events;
+mod large;
+mod reading;
 mod tables;
 mod texts;
 
 pub use chance::Chance;
 pub use equal::{push_equal_certificate, push_equal_tables};
 pub use events::{random_event, random_word};
-pub use tables::{ROOMY, Shape, TIGHT, push_tables};
+pub use large::push_large_certificate;
+pub use reading::{
+    certificate_of, large_tables, random_tables, small_certificate, small_tables, tables_of,
+};
+pub use tables::{ROOMY, Shape, TIGHT};
 pub use texts::{push_filled, push_small_certificate, push_small_tables, value};

@@ -1,0 +1,53 @@
+//! The tables and certificates of texts.
+
+use crate::chance::Chance;
+use crate::large::push_large_tables;
+use crate::tables::{Shape, push_tables};
+use crate::texts::{push_small_certificate, push_small_tables};
+use dc_cert::{CertFault, Certificate, read_cert};
+use dc_parts::BuildError;
+use dc_tables::Tables;
+use dc_toml::read_tables;
+use std::alloc::Global;
+
+/// The tables of a text.
+pub fn tables_of(alloc: Global, text: &str) -> Result<Tables, BuildError> {
+    read_tables(alloc, text.as_bytes())
+}
+
+/// The certificate of a text.
+pub fn certificate_of(alloc: Global, text: &str) -> Result<Certificate, CertFault> {
+    read_cert(alloc, text.as_bytes())
+}
+
+/// The small tables with the values of a row.
+pub fn small_tables(alloc: Global, row: &str) -> Result<Tables, BuildError> {
+    let mut text = String::new(alloc);
+    push_small_tables(&mut text, row)?;
+    tables_of(alloc, text.as_str())
+}
+
+/// Their certificate with the values of a row.
+pub fn small_certificate(alloc: Global, row: &str) -> Result<Certificate, CertFault> {
+    let mut text = String::new(alloc);
+    push_small_certificate(&mut text, row)?;
+    certificate_of(alloc, text.as_str())
+}
+
+/// The large tables with the values of a row.
+pub fn large_tables(alloc: Global, row: &str) -> Result<Tables, BuildError> {
+    let mut text = String::new(alloc);
+    push_large_tables(&mut text, row)?;
+    tables_of(alloc, text.as_str())
+}
+
+/// Random tables of a shape.
+pub fn random_tables(
+    alloc: Global,
+    chance: &mut Chance,
+    shape: &Shape,
+) -> Result<Tables, BuildError> {
+    let mut text = String::new(alloc);
+    push_tables(&mut text, chance, shape)?;
+    tables_of(alloc, text.as_str())
+}
