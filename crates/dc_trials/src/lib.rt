@@ -1,5 +1,6 @@
-//! What tests share: the small tables with their certificate, by rows of values; the text of tables whose buses are alike; and what trials draw
-//! by chance, the same in each run: numbers, the text of random tables, and events of tables. No part of the product.
+//! What tests share: the small tables with their certificate, by rows of values; tables of buses that are alike, few or
+//! many; and what trials draw by chance, the same in each run: numbers, random tables, and events of tables. No part of the
+//! product.
 #![tactic(auto)]
 
 mod chance;
@@ -15,7 +16,8 @@ pub use equal::{push_equal_certificate, push_equal_tables};
 pub use events::{random_event, random_word};
 pub use large::push_large_certificate;
 pub use reading::{
-    certificate_of, large_tables, random_tables, small_certificate, small_tables, tables_of,
+    certificate_of, equal_certificate, equal_tables, large_tables, random_tables,
+    small_certificate, small_tables, tables_of,
 };
 pub use tables::{ROOMY, Shape, TIGHT};
 pub use texts::{push_filled, push_small_certificate, push_small_tables, value};
