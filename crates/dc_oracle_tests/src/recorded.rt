@@ -6,7 +6,7 @@ use dc_oracle::{keeps_budgets, keeps_sources, outputs, steady};
 use dc_tables::Tables;
 use dc_trials::small_tables;
 use dc_word::{Label, Word};
-use std::alloc::Global;
+use std::alloc::{AllocError, Global};
 use std::test::Fail;
 
 /// A word of label 203, normal operation, data 0.
@@ -16,36 +16,36 @@ const NORMAL: Word = Word(0x6000_00C1);
 const OTHER: Word = Word(0xE000_0021);
 
 /// Where the sources of a run first break their minimum.
-fn sources_of(alloc: Global, tables: &Tables, run: &[Event]) -> Result<Option<usize>, Fail> {
-    Ok(keeps_sources(alloc, tables, run)?)
+fn sources_of(alloc: Global, tables: &Tables, run: &[Event]) -> Result<Option<usize>, AllocError> {
+    keeps_sources(alloc, tables, run)
 }
 
 /// The same of the tables with this row.
 fn sources_fail(alloc: Global, row: &str, run: &[Event]) -> Result<Option<usize>, Fail> {
     let tables = small_tables(alloc, row)?;
-    sources_of(alloc, &tables, run)
+    Ok(sources_of(alloc, &tables, run)?)
 }
 
 /// Where the actors of a run first break their budgets.
-fn budgets_of(alloc: Global, tables: &Tables, run: &[Event]) -> Result<Option<usize>, Fail> {
-    Ok(keeps_budgets(alloc, tables, run)?)
+fn budgets_of(alloc: Global, tables: &Tables, run: &[Event]) -> Result<Option<usize>, AllocError> {
+    keeps_budgets(alloc, tables, run)
 }
 
 /// The same of the tables with this row.
 fn budgets_fail(alloc: Global, row: &str, run: &[Event]) -> Result<Option<usize>, Fail> {
     let tables = small_tables(alloc, row)?;
-    budgets_of(alloc, &tables, run)
+    Ok(budgets_of(alloc, &tables, run)?)
 }
 
 /// The steady run for so many ticks.
-fn steady_of(alloc: Global, tables: &Tables, ticks: u64) -> Result<Vec<Event>, Fail> {
-    Ok(steady(alloc, tables, ticks)?)
+fn steady_of(alloc: Global, tables: &Tables, ticks: u64) -> Result<Vec<Event>, AllocError> {
+    steady(alloc, tables, ticks)
 }
 
 /// The same of the tables with this row.
 fn steady_run(alloc: Global, row: &str, ticks: u64) -> Result<Vec<Event>, Fail> {
     let tables = small_tables(alloc, row)?;
-    steady_of(alloc, &tables, ticks)
+    Ok(steady_of(alloc, &tables, ticks)?)
 }
 
 #[test]
@@ -169,14 +169,14 @@ fn two_ticks_hold_a_send(rt: HostRuntime) -> Result<(), Fail> {
 }
 
 /// What should have come out of a run.
-fn replies_of(alloc: Global, tables: &Tables, run: &[Event]) -> Result<Vec<Reply>, Fail> {
-    Ok(outputs(alloc, tables, run)?)
+fn replies_of(alloc: Global, tables: &Tables, run: &[Event]) -> Result<Vec<Reply>, AllocError> {
+    outputs(alloc, tables, run)
 }
 
 /// The same of the tables with this row.
 fn outputs_of(alloc: Global, row: &str, run: &[Event]) -> Result<Vec<Reply>, Fail> {
     let tables = small_tables(alloc, row)?;
-    replies_of(alloc, &tables, run)
+    Ok(replies_of(alloc, &tables, run)?)
 }
 
 /// Label 203.

@@ -15,6 +15,7 @@ use dc_parts::{
 use dc_tables::Tables;
 use dc_word::{Format, Label, Sdi};
 use std::alloc::{AllocError, Global};
+use std::process::Abort;
 use std::test::Fail;
 
 #[derive(Clone, Copy)]
@@ -195,7 +196,7 @@ fn equipment() -> Result<Equipment, Fail> {
     Ok(Equipment::new(1).ok_or("no equipment code")?)
 }
 
-fn add_parameter(parts: &mut Parts, row: ParameterRow) -> Result<(), Fail> {
+fn add_parameter(parts: &mut Parts, row: &ParameterRow) -> Result<(), Fail> {
     parts.push_parameter(Parameter {
         label: label(row.label)?,
         equipment: equipment()?,
@@ -207,7 +208,7 @@ fn add_parameter(parts: &mut Parts, row: ParameterRow) -> Result<(), Fail> {
 }
 
 // Adds a stream of the last bus.
-fn add_stream(parts: &mut Parts, text: &str, row: StreamRow) -> Result<(), Fail> {
+fn add_stream(parts: &mut Parts, text: &str, row: &StreamRow) -> Result<(), Fail> {
     let sdi = match row.sdi {
         None => None,
         Some(number) => Some(sdi(number)?),
@@ -226,7 +227,7 @@ fn add_stream(parts: &mut Parts, text: &str, row: StreamRow) -> Result<(), Fail>
     Ok(())
 }
 
-fn add_bus(parts: &mut Parts, text: &str, row: BusRow) -> Result<(), Fail> {
+fn add_bus(parts: &mut Parts, text: &str, row: &BusRow) -> Result<(), Fail> {
     parts.push_bus(BusPart {
         name: name(text)?,
         speed: row.speed,
@@ -240,7 +241,7 @@ fn add_router(
     alloc: Global,
     parts: &mut Parts,
     text: &str,
-    row: RouterRow,
+    row: &RouterRow,
     visits: &[&str],
 ) -> Result<(), Fail> {
     parts.push_router(RouterPart {
@@ -254,7 +255,7 @@ fn add_router(
 }
 
 // Adds a label of the last output.
-fn add_label(alloc: Global, parts: &mut Parts, row: LabelRow) -> Result<(), Fail> {
+fn add_label(alloc: Global, parts: &mut Parts, row: &LabelRow) -> Result<(), Fail> {
     let sources = names(alloc, row.sources)?;
     let offsets = row.offsets.to_vec(alloc)?;
     let outputs = parts.output_count();
@@ -274,7 +275,7 @@ fn add_label(alloc: Global, parts: &mut Parts, row: LabelRow) -> Result<(), Fail
     Ok(())
 }
 
-fn add_output(alloc: Global, parts: &mut Parts, row: OutputRow) -> Result<(), Fail> {
+fn add_bare_output(parts: &mut Parts, row: &OutputRow) -> Result<(), Fail> {
     parts.push_output(OutputPart {
         name: name(row.name)?,
         speed: row.speed,
@@ -282,48 +283,79 @@ fn add_output(alloc: Global, parts: &mut Parts, row: OutputRow) -> Result<(), Fa
         within: row.within,
         frame: row.frame,
     })?;
+    Ok(())
+}
+
+// Adds an output with its labels.
+fn add_output(alloc: Global, parts: &mut Parts, row: &OutputRow) -> Result<(), Fail> {
+    add_bare_output(parts, row)?;
     for label in row.labels {
-        add_label(alloc, parts, *label)?;
+        add_label(alloc, parts, label)?;
     }
     Ok(())
 }
 
-fn parts_of(alloc: Global, rows: Rows) -> Result<Parts, Fail> {
-    let mut parts = Parts::new(alloc, Version::Two, rows.tick_us);
-    for parameter in rows.parameters {
-        add_parameter(&mut parts, *parameter)?;
-    }
-    for bus in rows.buses {
-        add_bus(&mut parts, bus.name, *bus)?;
+// Adds buses with their streams.
+fn add_buses(parts: &mut Parts, rows: &[BusRow]) -> Result<(), Fail> {
+    for bus in rows {
+        add_bus(parts, bus.name, bus)?;
         for stream in bus.streams {
-            add_stream(&mut parts, stream.name, *stream)?;
+            add_stream(parts, stream.name, stream)?;
         }
     }
+    Ok(())
+}
+
+fn add_rows(alloc: Global, parts: &mut Parts, rows: &Rows) -> Result<(), Fail> {
+    for parameter in rows.parameters {
+        add_parameter(parts, parameter)?;
+    }
+    add_buses(parts, rows.buses)?;
     for router in rows.routers {
-        add_router(alloc, &mut parts, router.name, *router, router.visits)?;
+        add_router(alloc, parts, router.name, router, router.visits)?;
     }
     for output in rows.outputs {
-        add_output(alloc, &mut parts, *output)?;
+        add_output(alloc, parts, output)?;
     }
+    Ok(())
+}
+
+fn parts_of(alloc: Global, rows: &Rows) -> Result<Parts, Fail> {
+    let mut parts = Parts::new(alloc, Version::Two, rows.tick_us);
+    add_rows(alloc, &mut parts, rows)?;
     Ok(parts)
+}
+
+// `Tables::build` without its clauses, which are dear where tables are dropped.
+fn built(alloc: Global, parts: Parts) -> Result<Tables, BuildError> {
+    Tables::build(alloc, parts)
 }
 
 type Fault = (TableRule, Section, usize);
 
 // The fault of the parts, where they are refused; want of memory is none.
 fn fault_of(alloc: Global, parts: Parts) -> Result<Option<Fault>, AllocError> {
-    match Tables::build(alloc, parts) {
-        Ok(_) => Ok(None),
-        Err(BuildError::Memory(error)) => Err(error),
-        Err(BuildError::Refused(fault)) => Ok(Some((fault.rule, fault.section, fault.index))),
+    match built(alloc, parts).err() {
+        None => Ok(None),
+        Some(BuildError::Memory(error)) => Err(error),
+        Some(BuildError::Refused(fault)) => Ok(Some((fault.rule, fault.section, fault.index))),
     }
+}
+
+fn fault_of_rows(alloc: Global, rows: &Rows) -> Result<Option<Fault>, Fail> {
+    let parts = parts_of(alloc, rows)?;
+    Ok(fault_of(alloc, parts)?)
+}
+
+// Whether the rows of a case are refused as it says.
+fn is_refused(alloc: Global, (rows, fault): &(Rows, Fault)) -> Result<bool, Fail> {
+    Ok(fault_of_rows(alloc, rows)? == Some(*fault))
 }
 
 // The number of the first case that is not refused as it says.
 fn first_miss(alloc: Global, cases: &[(Rows, Fault)]) -> Result<Option<usize>, Fail> {
-    for (number, (rows, fault)) in cases.iter().enumerate() {
-        let parts = parts_of(alloc, *rows)?;
-        if fault_of(alloc, parts)? != Some(*fault) {
+    for (number, case) in cases.iter().enumerate() {
+        if !is_refused(alloc, case)? {
             return Ok(Some(number));
         }
     }
@@ -350,53 +382,58 @@ fn the_first_of_two_broken_rules_is_reported(rt: HostRuntime) -> Result<(), Fail
 
 #[test]
 fn rules_are_kept_at_their_limits(rt: HostRuntime) -> Result<(), Fail> {
-    let alloc = rt.alloc();
     for rows in AT_THE_LIMITS {
-        Tables::build(alloc, parts_of(alloc, *rows)?)?;
+        assert_eq!(rt; fault_of_rows(rt.alloc(), rows)?, None);
     }
     Ok(())
 }
 
-// So many buses of one name, each with so many streams.
-fn crowded(alloc: Global, buses: usize, streams: usize) -> Result<Parts, Fail> {
-    let mut parts = Parts::new(alloc, Version::One, 1000);
+fn add_crowd(parts: &mut Parts, buses: usize, streams: usize) -> Result<(), Fail> {
     for _ in 0..buses {
-        add_bus(&mut parts, "A", A)?;
+        add_bus(parts, "A", &A)?;
         for _ in 0..streams {
-            add_stream(&mut parts, "A-203", A203)?;
+            add_stream(parts, "A-203", &A203)?;
         }
     }
-    Ok(parts)
+    Ok(())
+}
+
+// The fault of so many buses of one name, each with so many streams.
+fn fault_of_crowd(alloc: Global, buses: usize, streams: usize) -> Result<Option<Fault>, Fail> {
+    let mut parts = Parts::new(alloc, Version::One, 1000);
+    add_crowd(&mut parts, buses, streams)?;
+    Ok(fault_of(alloc, parts)?)
 }
 
 #[test]
 fn limits_and_totals_come_before_doubled_names(rt: HostRuntime) -> Result<(), Fail> {
-    let alloc = rt.alloc();
     for (buses, streams, rule, section, index) in [
         (65, 1, TableRule::CountOutOfRange, Section::Top, 0),
         (2, 257, TableRule::CountOutOfRange, Section::Bus, 0),
         (5, 205, TableRule::CountOutOfRange, Section::Bus, 4),
         (4, 256, TableRule::NameDoubled, Section::Bus, 1),
     ] {
-        let parts = crowded(alloc, buses, streams)?;
-        assert_eq!(rt;
-            fault_of(alloc, parts)?,
-            Some((rule, section, index)),
-            "{buses} x {streams}"
-        );
+        let fault = fault_of_crowd(rt.alloc(), buses, streams)?;
+        assert_eq!(rt; fault, Some((rule, section, index)), "{buses} x {streams}");
     }
     Ok(())
 }
 
+fn assert_kept(rt: &impl Abort, text: &str) -> Result<(), Fail> {
+    assert_eq!(rt; name(text)?.text(), text.as_bytes());
+    Ok(())
+}
+
+fn assert_no_name(rt: &impl Abort, text: &str) {
+    assert!(rt; Name::new(text.as_bytes()).is_none(), "{text}");
+}
+
 #[test]
 fn names_keep_their_text(rt: HostRuntime) -> Result<(), Fail> {
-    assert_eq!(rt;
-        name("Aa-0_9zZAa-0_9zZ")?.text(),
-        b"Aa-0_9zZAa-0_9zZ".as_slice()
-    );
-    assert_eq!(rt; name("7")?.text(), b"7".as_slice());
-    for text in ["", "Aa-0_9zZAa-0_9zZ1", "A 1", "A.", "\u{e9}"] {
-        assert!(rt; Name::new(text.as_bytes()).is_none(), "{text}");
+    assert_kept(&rt, "Aa-0_9zZAa-0_9zZ")?;
+    assert_kept(&rt, "7")?;
+    for text in "|Aa-0_9zZAa-0_9zZ1|A 1|A.|\u{e9}".split('|') {
+        assert_no_name(&rt, text);
     }
     Ok(())
 }
@@ -408,30 +445,30 @@ fn a_fault_has_its_texts(rt: HostRuntime) -> Result<(), Fail> {
         section: Section::Router,
         index: 3,
     };
-    assert_eq!(rt; fault.rule.code(), "T16");
-    assert_eq!(rt; fault.section.text(), "router");
-    let words = format!(in rt.alloc(); "{fault}")?;
+    let code = fault.rule.code();
+    let section = fault.section.text();
+    let unknown = TableRule::VersionUnknown.explanation();
+    let words = format!(in rt.alloc(); "{code} | {section} | {fault} | {unknown}")?;
     assert_eq!(rt;
         words.as_str(),
-        "visits or sources hold a name that is not there (at router 3)"
-    );
-    assert_eq!(rt;
-        TableRule::VersionUnknown.explanation(),
-        "`version` is absent or neither 1 nor 2"
+        "T16 | router | visits or sources hold a name that is not there (at router 3) | `version` is absent or neither 1 nor 2"
     );
     Ok(())
 }
 
 #[test]
 fn parts_count_what_they_hold(rt: HostRuntime) -> Result<(), Fail> {
-    let parts = parts_of(rt.alloc(), SMALL)?;
+    let parts = parts_of(rt.alloc(), &SMALL)?;
     parts.in_order();
-    assert_eq!(rt; parts.tick_us(), 1000);
-    assert_eq!(rt; parts.parameter_count(), 2);
-    assert_eq!(rt; parts.bus_count(), 1);
-    assert_eq!(rt; parts.stream_count(), 2);
-    assert_eq!(rt; parts.router_count(), 1);
-    assert_eq!(rt; parts.output_count(), 1);
-    assert_eq!(rt; parts.label_count(), 1);
+    let counts = [
+        parts.tick_us() as usize,
+        parts.parameter_count(),
+        parts.bus_count(),
+        parts.stream_count(),
+        parts.router_count(),
+        parts.output_count(),
+        parts.label_count(),
+    ];
+    assert_eq!(rt; counts, [1000, 2, 1, 2, 1, 1, 1]);
     Ok(())
 }

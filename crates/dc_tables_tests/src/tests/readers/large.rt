@@ -1,299 +1,277 @@
-//! What each reader answers of tables of 64 buses and of 1,024 streams.
+//! What each reader answers of tables of 64 buses and of 1,024 streams: for the first and the last row of each kind.
 
 use super::super::{
-    A, A203, A204, BusRow, LabelRow, O, OutputRow, P203, ParameterRow, R1, RouterRow, Rows, SMALL,
-    StreamRow, X, add_bus, add_output, add_parameter, add_router, add_stream, parts_of,
+    A, A203, BusRow, LabelRow, O, OutputRow, P203, ParameterRow, R1, RouterRow, StreamRow, X,
+    add_bus, add_output, add_parameter, add_router, add_stream,
 };
-use super::{
-    Counts, SMALL_BUS, SMALL_LABEL, SMALL_ROUTER, WantedBus, WantedLabel, WantedRouter,
-    WantedStream, assert_absent, assert_bus, assert_bus_bounds, assert_bus_name,
-    assert_bus_streams, assert_counts, assert_other_counts, assert_parameter, assert_receives,
-    assert_router, assert_router_name, assert_sender, assert_sender_bounds, assert_stream_found,
-    assert_visit,
-};
+use super::{Asked, answers};
 use dc_parts::{Parts, Version};
-use dc_tables::Tables;
 use std::alloc::Global;
-use std::process::Abort;
 use std::test::Fail;
 
-// The small tables with 64 buses in place of one, each with a router of its own.
-fn parts_of_64_buses(alloc: Global) -> Result<Parts, Fail> {
-    let mut parts = parts_of(
-        alloc,
-        Rows {
-            buses: &[],
-            routers: &[],
-            outputs: &[],
-            ..SMALL
-        },
-    )?;
-    for k in 0..64 {
-        let bus = format!(in alloc; "B{k}")?;
-        let first = format!(in alloc; "B{k}-203")?;
-        let second = format!(in alloc; "B{k}-204")?;
-        add_bus(&mut parts, &bus, A)?;
-        add_stream(&mut parts, &first, A203)?;
-        add_stream(&mut parts, &second, A204)?;
+// Tables of 64 buses that are alike: a parameter for each label, and a stream of each label on each bus.
+#[derive(Clone, Copy)]
+struct Alike {
+    version: Version,
+    labels: &'static [u8],
+    bus: BusRow,
+    router: RouterRow,
+    output: OutputRow,
+}
+
+const OF_TWO_LABELS: Alike = Alike {
+    version: Version::Two,
+    labels: &[0o203, 0o204],
+    bus: A,
+    router: R1,
+    output: OutputRow {
+        labels: &[LabelRow {
+            sources: &["B0-203"],
+            ..X
+        }],
+        ..O
+    },
+};
+
+const OF_16_LABELS: Alike = Alike {
+    version: Version::One,
+    labels: &[
+        0o201, 0o202, 0o203, 0o204, 0o205, 0o206, 0o207, 0o210, 0o211, 0o212, 0o213, 0o214, 0o215,
+        0o216, 0o217, 0o220,
+    ],
+    bus: BusRow { queue: 16, ..A },
+    router: RouterRow { steps: 2, ..R1 },
+    output: OutputRow {
+        labels: &[LabelRow {
+            sources: &["B0-203"],
+            stale: 26,
+            age: 40,
+            ..X
+        }],
+        ..O
+    },
+};
+
+// Adds the stream of this label to the bus of this number, the last.
+fn add_numbered_stream(
+    alloc: Global,
+    parts: &mut Parts,
+    number: usize,
+    label: u8,
+) -> Result<(), Fail> {
+    let stream = format!(in alloc; "B{number}-{label:o}")?;
+    add_stream(parts, &stream, &StreamRow { label, ..A203 })
+}
+
+// Adds the bus of this number with its streams.
+fn add_numbered_bus(
+    alloc: Global,
+    parts: &mut Parts,
+    number: usize,
+    alike: &Alike,
+) -> Result<(), Fail> {
+    let bus = format!(in alloc; "B{number}")?;
+    add_bus(parts, &bus, &alike.bus)?;
+    for label in alike.labels {
+        add_numbered_stream(alloc, parts, number, *label)?;
     }
-    for k in 0..64 {
-        let router = format!(in alloc; "R{k}")?;
-        let bus = format!(in alloc; "B{k}")?;
-        add_router(alloc, &mut parts, &router, R1, &[&bus])?;
+    Ok(())
+}
+
+// Adds the router of this number, which visits the bus of this number.
+fn add_numbered_router(
+    alloc: Global,
+    parts: &mut Parts,
+    number: usize,
+    alike: &Alike,
+) -> Result<(), Fail> {
+    let router = format!(in alloc; "R{number}")?;
+    let bus = format!(in alloc; "B{number}")?;
+    add_router(alloc, parts, &router, &alike.router, &[&bus])
+}
+
+fn add_alike(alloc: Global, parts: &mut Parts, alike: &Alike) -> Result<(), Fail> {
+    for label in alike.labels {
+        add_parameter(
+            parts,
+            &ParameterRow {
+                label: *label,
+                ..P203
+            },
+        )?;
     }
-    add_output(
-        alloc,
-        &mut parts,
-        OutputRow {
-            labels: &[LabelRow {
-                sources: &["B0-203"],
-                ..X
-            }],
-            ..O
-        },
-    )?;
+    for number in 0..64 {
+        add_numbered_bus(alloc, parts, number, alike)?;
+    }
+    for number in 0..64 {
+        add_numbered_router(alloc, parts, number, alike)?;
+    }
+    add_output(alloc, parts, &alike.output)
+}
+
+fn parts_of_64_buses(alloc: Global, alike: &Alike) -> Result<Parts, Fail> {
+    let mut parts = Parts::new(alloc, alike.version, 1000);
+    add_alike(alloc, &mut parts, alike)?;
     Ok(parts)
 }
 
-const BUSES_OF_64: [WantedBus; 2] = [
-    WantedBus {
-        name: "B0",
-        ..SMALL_BUS
-    },
-    WantedBus {
-        number: 63,
-        name: "B63",
-        first: 126,
-        ..SMALL_BUS
-    },
-];
+const ASKED_OF_64_BUSES: Asked = Asked {
+    parameters: &[0, 1],
+    buses: &[0, 63],
+    streams: &[0, 127],
+    routers: &[0, 63],
+    cursors: &[0, 9],
+    names: "B64\nB0\nB63\nB0-203\nB63-204\nR0\nR63\nO\nx",
+    words: &[(0, 0o203), (63, 0o204), (0, 7), (64, 0o203)],
+    declared: &[],
+    received: &[
+        (0, 0),
+        (0, 1),
+        (0, 10),
+        (0, 11),
+        (0, 21),
+        (63, 0),
+        (63, 1),
+        (63, 10),
+        (63, 11),
+        (63, 21),
+    ],
+    sent: &[0, 1, 2, 15, 16],
+};
 
-const STREAMS_OF_64: [WantedStream; 2] = [
-    WantedStream {
-        number: 0,
-        name: "B0-203",
-        bus: 0,
-        label: 0o203,
-    },
-    WantedStream {
-        number: 127,
-        name: "B63-204",
-        bus: 63,
-        label: 0o204,
-    },
-];
-
-const ROUTERS_OF_64: [WantedRouter; 2] = [
-    WantedRouter {
-        name: "R0",
-        ..SMALL_ROUTER
-    },
-    WantedRouter {
-        number: 63,
-        name: "R63",
-        ..SMALL_ROUTER
-    },
-];
-
-fn assert_64_counts(rt: &impl Abort, tables: &Tables) {
-    let wanted = Counts {
-        parameters: 2,
-        buses: 64,
-        streams: 128,
-    };
-    assert_counts(rt, tables, wanted);
-    assert_other_counts(rt, tables, 64);
-    assert_parameter(rt, tables, 0, 0o203);
-    assert_parameter(rt, tables, 1, 0o204);
-}
-
-fn assert_one_of_64_buses(rt: &impl Abort, tables: &Tables, wanted: WantedBus) {
-    assert_bus(rt, tables, wanted);
-    assert_bus_name(rt, tables, wanted);
-    assert_bus_streams(rt, tables, wanted, 0o203, 0o204);
-    assert_bus_bounds(rt, tables, wanted.number);
-}
-
-fn assert_64_buses(rt: &impl Abort, tables: &Tables) {
-    assert_one_of_64_buses(rt, tables, BUSES_OF_64[0]);
-    assert_one_of_64_buses(rt, tables, BUSES_OF_64[1]);
-}
-
-fn assert_128_streams(rt: &impl Abort, tables: &Tables) {
-    assert_stream_found(rt, tables, STREAMS_OF_64[0]);
-    assert_stream_found(rt, tables, STREAMS_OF_64[1]);
-    assert_absent(rt, tables, "B64", 64);
-}
-
-// The first and the last of 64 routers.
-fn assert_64_routers(rt: &impl Abort, tables: &Tables, first: WantedRouter, last: WantedRouter) {
-    assert_router(rt, tables, first);
-    assert_router_name(rt, tables, first);
-    assert_visit(rt, tables, 0);
-    assert_router(rt, tables, last);
-    assert_router_name(rt, tables, last);
-    assert_visit(rt, tables, 63);
-}
+const ANSWERS_OF_64_BUSES: &str =
+    "tick 1000 parameters 2 buses 64 streams 128 routers 64 outputs 1 labels 1
+parameter 0 label 203 equipment 1 Bnr every 10000..20000
+parameter 1 label 204 equipment 1 Bnr every 10000..20000
+bus 0 B0 High queue 2 = 2 police false spacing 350 streams 0+2 router 0
+  brings 2
+  from bus 0 label 203 sdi any every 10..20 jitter 0
+  to bus 0 label 204 sdi any every 10..20 jitter 0
+bus 63 B63 High queue 2 = 2 police false spacing 350 streams 126+2 router 63
+  brings 2
+  from bus 63 label 203 sdi any every 10..20 jitter 0
+  to bus 63 label 204 sdi any every 10..20 jitter 0
+stream 0 B0-203 of bus 0 equipment 1, bus 0 label 203 sdi any every 10..20 jitter 0
+stream 127 B63-204 of bus 63 equipment 1, bus 63 label 204 sdi any every 10..20 jitter 0
+router 0 R0 steps 1 within 1 most 2 visits 1 empty false [0]
+  at 0 bus 0 then 0
+  at 9 bus 0 then 0
+router 63 R63 steps 1 within 1 most 2 visits 1 empty false [63]
+  at 0 bus 63 then 0
+  at 9 bus 63 then 0
+output 0 O High steps 1 within 2 gap 1 frame 15 entries 1 empty false, label 0 at 0
+label 0 x equipment 1 offsets [0] output 0 label 203 sdi 0 Bnr stale 22 age 30 every 11..19 sources 1 empty false [0]
+named B64:
+named B0: bus 0
+named B63: bus 63
+named B0-203: stream 0
+named B63-204: stream 127
+named R0: router 0
+named R63: router 63
+named O: output 0
+named x: label 0
+word 203 on bus 0: stream 0
+word 204 on bus 63: stream 127
+word 7 on bus 0:
+word 203 on bus 64:
+in 0 bus 0 brings 0 visits 0
+in 1 bus 0 brings 2 visits 1
+in 10 bus 0 brings 2 visits 10
+in 11 bus 0 brings 4 visits 11
+in 21 bus 0 brings 6 visits 21
+in 0 bus 63 brings 0 visits 0
+in 1 bus 63 brings 2 visits 1
+in 10 bus 63 brings 2 visits 10
+in 11 bus 63 brings 4 visits 11
+in 21 bus 63 brings 6 visits 21
+in 0 output 0 is due 0 sends 0
+in 1 output 0 is due 1 sends 0
+in 2 output 0 is due 1 sends 1
+in 15 output 0 is due 1 sends 7
+in 16 output 0 is due 2 sends 8
+";
 
 #[test]
 fn tables_of_64_buses_answer_each_reader(rt: HostRuntime) -> Result<(), Fail> {
-    let alloc = rt.alloc();
-    let tables = Tables::build(alloc, parts_of_64_buses(alloc)?)?;
-    assert_64_counts(&rt, &tables);
-    assert_64_buses(&rt, &tables);
-    assert_128_streams(&rt, &tables);
-    assert_64_routers(&rt, &tables, ROUTERS_OF_64[0], ROUTERS_OF_64[1]);
-    assert_sender(&rt, &tables, SMALL_LABEL);
-    assert_sender_bounds(&rt, &tables);
+    let parts = parts_of_64_buses(rt.alloc(), &OF_TWO_LABELS)?;
+    let text = answers(rt.alloc(), parts, &ASKED_OF_64_BUSES)?;
+    assert_eq!(rt; text.as_str(), ANSWERS_OF_64_BUSES);
     Ok(())
 }
 
-// A bus of 16 streams, visited twice in a tick: its wire brings fewer words in the first five ticks.
-fn assert_crowded_bounds(rt: &impl Abort, tables: &Tables, bus: usize) {
-    assert_receives(rt, tables, bus, 0, (0, 0));
-    assert_receives(rt, tables, bus, 5, (15, 10));
-    assert_receives(rt, tables, bus, 10, (16, 20));
-    assert_receives(rt, tables, bus, 12, (32, 24));
-}
-
-const LABELS: [u8; 16] = [
-    0o201, 0o202, 0o203, 0o204, 0o205, 0o206, 0o207, 0o210, 0o211, 0o212, 0o213, 0o214, 0o215,
-    0o216, 0o217, 0o220,
-];
-
-// Adds the bus of this number with its 16 streams.
-fn add_crowded_bus(alloc: Global, parts: &mut Parts, number: usize) -> Result<(), Fail> {
-    let bus = format!(in alloc; "B{number}")?;
-    add_bus(parts, &bus, BusRow { queue: 16, ..A })?;
-    for label in LABELS {
-        let stream = format!(in alloc; "B{number}-{label:o}")?;
-        add_stream(parts, &stream, StreamRow { label, ..A203 })?;
-    }
-    Ok(())
-}
-
-fn add_crowded_router(alloc: Global, parts: &mut Parts, number: usize) -> Result<(), Fail> {
-    let router = format!(in alloc; "R{number}")?;
-    let bus = format!(in alloc; "B{number}")?;
-    add_router(alloc, parts, &router, RouterRow { steps: 2, ..R1 }, &[&bus])
-}
-
-const CROWDED: OutputRow = OutputRow {
-    labels: &[LabelRow {
-        sources: &["B0-203"],
-        stale: 26,
-        age: 40,
-        ..X
-    }],
-    ..O
+const ASKED_OF_1024_STREAMS: Asked = Asked {
+    parameters: &[0, 15],
+    streams: &[0, 1023],
+    names: "B64-201\nB0\nB63\nB0-201\nB63-220\nR0\nR63\nO\nx",
+    words: &[(0, 0o201), (63, 0o220), (0, 7), (64, 0o203)],
+    received: &[
+        (0, 0),
+        (0, 5),
+        (0, 10),
+        (0, 12),
+        (63, 0),
+        (63, 5),
+        (63, 10),
+        (63, 12),
+    ],
+    ..ASKED_OF_64_BUSES
 };
 
-// 16 parameters, 64 buses with a stream of each, a router for each bus, and one output.
-fn parts_of_1024_streams(alloc: Global) -> Result<Parts, Fail> {
-    let mut parts = Parts::new(alloc, Version::One, 1000);
-    for label in LABELS {
-        add_parameter(&mut parts, ParameterRow { label, ..P203 })?;
-    }
-    for number in 0..64 {
-        add_crowded_bus(alloc, &mut parts, number)?;
-    }
-    for number in 0..64 {
-        add_crowded_router(alloc, &mut parts, number)?;
-    }
-    add_output(alloc, &mut parts, CROWDED)?;
-    Ok(parts)
-}
-
-const CROWDED_BUSES: [WantedBus; 2] = [
-    WantedBus {
-        number: 0,
-        name: "B0",
-        queue: 16,
-        first: 0,
-        streams: 16,
-    },
-    WantedBus {
-        number: 63,
-        name: "B63",
-        queue: 16,
-        first: 1008,
-        streams: 16,
-    },
-];
-
-const CROWDED_STREAMS: [WantedStream; 2] = [
-    WantedStream {
-        number: 0,
-        name: "B0-201",
-        bus: 0,
-        label: 0o201,
-    },
-    WantedStream {
-        number: 1023,
-        name: "B63-220",
-        bus: 63,
-        label: 0o220,
-    },
-];
-
-const CROWDED_ROUTERS: [WantedRouter; 2] = [
-    WantedRouter {
-        number: 0,
-        name: "R0",
-        steps: 2,
-    },
-    WantedRouter {
-        number: 63,
-        name: "R63",
-        steps: 2,
-    },
-];
-
-const CROWDED_LABEL: WantedLabel = WantedLabel {
-    source: 2,
-    stale: 26,
-    age_limit: 40,
-};
-
-fn assert_crowded_counts(rt: &impl Abort, tables: &Tables) {
-    let wanted = Counts {
-        parameters: 16,
-        buses: 64,
-        streams: 1024,
-    };
-    assert_counts(rt, tables, wanted);
-    assert_other_counts(rt, tables, 64);
-    assert_parameter(rt, tables, 0, 0o201);
-    assert_parameter(rt, tables, 15, 0o220);
-}
-
-fn assert_crowded_bus(rt: &impl Abort, tables: &Tables, wanted: WantedBus) {
-    assert_bus(rt, tables, wanted);
-    assert_bus_name(rt, tables, wanted);
-    assert_bus_streams(rt, tables, wanted, 0o201, 0o220);
-    assert_crowded_bounds(rt, tables, wanted.number);
-}
-
-fn assert_crowded_buses(rt: &impl Abort, tables: &Tables) {
-    assert_crowded_bus(rt, tables, CROWDED_BUSES[0]);
-    assert_crowded_bus(rt, tables, CROWDED_BUSES[1]);
-}
-
-fn assert_1024_streams(rt: &impl Abort, tables: &Tables) {
-    assert_stream_found(rt, tables, CROWDED_STREAMS[0]);
-    assert_stream_found(rt, tables, CROWDED_STREAMS[1]);
-    assert_absent(rt, tables, "B64-201", 64);
-}
+// A bus of 16 streams is visited twice in a tick: its wire brings fewer words in the first five ticks.
+const ANSWERS_OF_1024_STREAMS: &str =
+    "tick 1000 parameters 16 buses 64 streams 1024 routers 64 outputs 1 labels 1
+parameter 0 label 201 equipment 1 Bnr every 10000..20000
+parameter 15 label 220 equipment 1 Bnr every 10000..20000
+bus 0 B0 High queue 16 = 16 police false spacing 350 streams 0+16 router 0
+  brings 16
+  from bus 0 label 201 sdi any every 10..20 jitter 0
+  to bus 0 label 220 sdi any every 10..20 jitter 0
+bus 63 B63 High queue 16 = 16 police false spacing 350 streams 1008+16 router 63
+  brings 16
+  from bus 63 label 201 sdi any every 10..20 jitter 0
+  to bus 63 label 220 sdi any every 10..20 jitter 0
+stream 0 B0-201 of bus 0 equipment 1, bus 0 label 201 sdi any every 10..20 jitter 0
+stream 1023 B63-220 of bus 63 equipment 1, bus 63 label 220 sdi any every 10..20 jitter 0
+router 0 R0 steps 2 within 1 most 2 visits 1 empty false [0]
+  at 0 bus 0 then 0
+  at 9 bus 0 then 0
+router 63 R63 steps 2 within 1 most 2 visits 1 empty false [63]
+  at 0 bus 63 then 0
+  at 9 bus 63 then 0
+output 0 O High steps 1 within 2 gap 1 frame 15 entries 1 empty false, label 0 at 0
+label 0 x equipment 1 offsets [0] output 0 label 203 sdi 0 Bnr stale 26 age 40 every 11..19 sources 1 empty false [2]
+named B64-201:
+named B0: bus 0
+named B63: bus 63
+named B0-201: stream 0
+named B63-220: stream 1023
+named R0: router 0
+named R63: router 63
+named O: output 0
+named x: label 0
+word 201 on bus 0: stream 0
+word 220 on bus 63: stream 1023
+word 7 on bus 0:
+word 203 on bus 64:
+in 0 bus 0 brings 0 visits 0
+in 5 bus 0 brings 15 visits 10
+in 10 bus 0 brings 16 visits 20
+in 12 bus 0 brings 32 visits 24
+in 0 bus 63 brings 0 visits 0
+in 5 bus 63 brings 15 visits 10
+in 10 bus 63 brings 16 visits 20
+in 12 bus 63 brings 32 visits 24
+in 0 output 0 is due 0 sends 0
+in 1 output 0 is due 1 sends 0
+in 2 output 0 is due 1 sends 1
+in 15 output 0 is due 1 sends 7
+in 16 output 0 is due 2 sends 8
+";
 
 #[test]
 fn tables_of_1024_streams_answer_each_reader(rt: HostRuntime) -> Result<(), Fail> {
-    let alloc = rt.alloc();
-    let tables = Tables::build(alloc, parts_of_1024_streams(alloc)?)?;
-    assert_crowded_counts(&rt, &tables);
-    assert_crowded_buses(&rt, &tables);
-    assert_1024_streams(&rt, &tables);
-    assert_64_routers(&rt, &tables, CROWDED_ROUTERS[0], CROWDED_ROUTERS[1]);
-    assert_sender(&rt, &tables, CROWDED_LABEL);
-    assert_sender_bounds(&rt, &tables);
+    let parts = parts_of_64_buses(rt.alloc(), &OF_16_LABELS)?;
+    let text = answers(rt.alloc(), parts, &ASKED_OF_1024_STREAMS)?;
+    assert_eq!(rt; text.as_str(), ANSWERS_OF_1024_STREAMS);
     Ok(())
 }

@@ -1,0 +1,387 @@
+//! What each reader of tables answers, as lines of a text. A row that is not there has no line.
+
+use super::super::{label, name, sdi};
+use dc_bound::{ArrivalBound, LONGEST_SPAN, ServiceBound};
+use dc_parts::Name;
+use dc_tables::{Entry, Numbers, Stream, Tables};
+use dc_word::Word;
+use std::alloc::AllocError;
+use std::test::Fail;
+
+/// The rows that are written, by number, and what else is asked.
+#[derive(Clone, Copy)]
+pub struct Asked {
+    pub parameters: &'static [usize],
+    pub buses: &'static [usize],
+    pub streams: &'static [usize],
+    pub routers: &'static [usize],
+    /// Where in its round each of these routers is asked what it visits.
+    pub cursors: &'static [usize],
+    /// Names, one a line.
+    pub names: &'static str,
+    /// Words by bus and label.
+    pub words: &'static [(usize, u8)],
+    /// Labels that each stream of the first bus is asked for.
+    pub declared: &'static [u8],
+    /// What is received, by bus and ticks.
+    pub received: &'static [(usize, u32)],
+    /// The ticks in which the first output sends.
+    pub sent: &'static [u32],
+}
+
+fn write_name(text: &mut String, name: &Name) -> Result<(), AllocError> {
+    for byte in name.text() {
+        text.push(char::from(*byte))?;
+    }
+    Ok(())
+}
+
+// One of the counts of a line.
+fn write_count(text: &mut String, name: &str, count: usize) -> Result<(), AllocError> {
+    write!(text, " {name} {count}")
+}
+
+fn write_counts(text: &mut String, tables: &Tables) -> Result<(), AllocError> {
+    write!(text, "tick {}", tables.tick_us())?;
+    write_count(text, "parameters", tables.parameter_count())?;
+    write_count(text, "buses", tables.bus_count())?;
+    write_count(text, "streams", tables.stream_count())?;
+    write_count(text, "routers", tables.router_count())?;
+    write_count(text, "outputs", tables.output_count())?;
+    write_count(text, "labels", tables.label_count())?;
+    text.push_str("\n")
+}
+
+fn write_parameter(text: &mut String, tables: &Tables, parameter: usize) -> Result<(), AllocError> {
+    if parameter >= tables.parameter_count() {
+        return Ok(());
+    }
+    let row = tables.parameter(parameter);
+    write!(
+        text,
+        "parameter {parameter} label {:o} equipment {} {:?} every {}..{}\n",
+        row.label.number(),
+        row.equipment.code(),
+        row.format,
+        row.min_us,
+        row.max_us
+    )
+}
+
+fn write_stream_row(text: &mut String, row: &Stream) -> Result<(), AllocError> {
+    write!(text, " bus {} label {:o} sdi ", row.bus, row.label.number())?;
+    match row.sdi {
+        None => text.push_str("any")?,
+        Some(sdi) => write!(text, "{}", sdi.number())?,
+    }
+    write!(
+        text,
+        " every {}..{} jitter {}\n",
+        row.minimum, row.maximum, row.jitter
+    )
+}
+
+// How many streams there are, and the first and the last.
+fn write_ends(text: &mut String, streams: &[Stream]) -> Result<(), AllocError> {
+    write!(text, "  brings {}\n", streams.len())?;
+    if let Some(first) = streams.first() {
+        text.push_str("  from")?;
+        write_stream_row(text, first)?;
+    }
+    if let Some(last) = streams.last() {
+        text.push_str("  to")?;
+        write_stream_row(text, last)?;
+    }
+    Ok(())
+}
+
+fn write_bus(text: &mut String, tables: &Tables, bus: usize) -> Result<(), AllocError> {
+    if bus >= tables.bus_count() {
+        return Ok(());
+    }
+    let row = tables.bus(bus);
+    write!(text, "bus {bus} ")?;
+    write_name(text, tables.bus_name(bus))?;
+    write!(
+        text,
+        " {:?} queue {} = {} police {} spacing {} streams {}+{} router {}\n",
+        tables.bus_speed(bus),
+        row.queue,
+        tables.queue(bus),
+        row.police,
+        row.spacing,
+        row.first,
+        row.streams,
+        row.router
+    )?;
+    write_ends(text, tables.bus_streams(bus))
+}
+
+fn write_stream(text: &mut String, tables: &Tables, stream: usize) -> Result<(), AllocError> {
+    if stream >= tables.stream_count() {
+        return Ok(());
+    }
+    write!(text, "stream {stream} ")?;
+    write_name(text, tables.stream_name(stream))?;
+    write!(
+        text,
+        " of bus {} equipment {},",
+        tables.bus_of(stream),
+        tables.stream_equipment(stream).code()
+    )?;
+    write_stream_row(text, tables.stream(stream))
+}
+
+// A list of numbers by each of its readers.
+fn write_numbers(text: &mut String, numbers: &Numbers) -> Result<(), AllocError> {
+    write!(
+        text,
+        " {} empty {} {:?}",
+        numbers.len(),
+        numbers.is_empty(),
+        numbers.as_slice()
+    )
+}
+
+fn write_router(text: &mut String, tables: &Tables, router: usize) -> Result<(), AllocError> {
+    if router >= tables.router_count() {
+        return Ok(());
+    }
+    let row = tables.router(router);
+    write!(text, "router {router} ")?;
+    write_name(text, tables.router_name(router))?;
+    write!(
+        text,
+        " steps {} within {} most {} visits",
+        row.steps, row.within, row.most
+    )?;
+    write_numbers(text, &row.visits)?;
+    text.push_str("\n")
+}
+
+// Which bus a router visits at a place of its round, and the place after it.
+fn write_visit(
+    text: &mut String,
+    tables: &Tables,
+    router: usize,
+    cursor: usize,
+) -> Result<(), AllocError> {
+    if router >= tables.router_count() {
+        return Ok(());
+    }
+    let (bus, next) = tables.visit(router, cursor);
+    write!(text, "  at {cursor} bus {bus} then {next}\n")
+}
+
+fn write_entries(text: &mut String, entries: &[Entry]) -> Result<(), AllocError> {
+    for entry in entries {
+        write!(text, ", label {} at {}", entry.label, entry.offset)?;
+    }
+    text.push_str("\n")
+}
+
+fn write_output(text: &mut String, tables: &Tables, output: usize) -> Result<(), AllocError> {
+    if output >= tables.output_count() {
+        return Ok(());
+    }
+    let row = tables.output(output);
+    write!(text, "output {output} ")?;
+    write_name(text, tables.output_name(output))?;
+    write!(
+        text,
+        " {:?} steps {} within {} gap {} frame {} entries {} empty {}",
+        tables.output_speed(output),
+        row.steps,
+        row.within,
+        row.gap,
+        row.frame,
+        row.entries.len(),
+        row.entries.is_empty()
+    )?;
+    write_entries(text, row.entries.as_slice())
+}
+
+// What a label is, takes from and keeps.
+fn write_label_row(text: &mut String, tables: &Tables, label: usize) -> Result<(), AllocError> {
+    if label >= tables.label_count() {
+        return Ok(());
+    }
+    let row = tables.label(label);
+    write!(
+        text,
+        " output {} label {:o} sdi {} {:?} stale {} age {} every {}..{} sources",
+        row.output,
+        row.label.number(),
+        row.sdi.number(),
+        row.format,
+        row.stale,
+        row.age_limit,
+        row.minimum,
+        row.maximum
+    )?;
+    write_numbers(text, &row.sources)
+}
+
+fn write_label(text: &mut String, tables: &Tables, label: usize) -> Result<(), AllocError> {
+    if label >= tables.label_count() {
+        return Ok(());
+    }
+    write!(text, "label {label} ")?;
+    write_name(text, tables.label_name(label))?;
+    write!(
+        text,
+        " equipment {} offsets {:?}",
+        tables.label_equipment(label).code(),
+        tables.label_offsets(label)
+    )?;
+    write_label_row(text, tables, label)?;
+    text.push_str("\n")
+}
+
+// The number of a row of this kind, where there is one.
+fn write_number(text: &mut String, kind: &str, number: Option<usize>) -> Result<(), AllocError> {
+    match number {
+        None => Ok(()),
+        Some(number) => write!(text, " {kind} {number}"),
+    }
+}
+
+// Which row of each kind has a name.
+fn write_named(text: &mut String, tables: &Tables, named: &Name) -> Result<(), AllocError> {
+    write_number(text, "bus", tables.bus_named(named))?;
+    write_number(text, "stream", tables.stream_named(named))?;
+    write_number(text, "router", tables.router_named(named))?;
+    write_number(text, "output", tables.output_named(named))?;
+    write_number(text, "label", tables.label_named(named))
+}
+
+// A word of this label.
+fn word(number: u8) -> Result<Word, Fail> {
+    Ok(Word::compose(label(number)?, sdi(2)?, 7, 3))
+}
+
+// Which stream of a bus declares a word of this label.
+fn write_found(text: &mut String, tables: &Tables, bus: usize, label: u8) -> Result<(), Fail> {
+    let stream = tables.stream_of(bus, word(label)?);
+    write!(text, "word {label:o} on bus {bus}:")?;
+    write_number(text, "stream", stream)?;
+    text.push_str("\n")?;
+    Ok(())
+}
+
+// Which of some streams declare a word, on the first bus and on the second.
+fn write_declaring(text: &mut String, streams: &[Stream], word: Word) -> Result<(), AllocError> {
+    for stream in streams {
+        write!(
+            text,
+            "declares on bus 0 {} on bus 1 {}\n",
+            stream.declares(0, word),
+            stream.declares(1, word)
+        )?;
+    }
+    Ok(())
+}
+
+// Which streams of the first bus declare a word of this label.
+fn write_declared(text: &mut String, tables: &Tables, label: u8) -> Result<(), Fail> {
+    let word = word(label)?;
+    if tables.bus_count() > 0 {
+        write_declaring(text, tables.bus_streams(0), word)?;
+    }
+    Ok(())
+}
+
+// How many words a bus may bring in so many ticks, and how often it is visited at least.
+fn write_received(
+    text: &mut String,
+    tables: &Tables,
+    bus: usize,
+    ticks: u32,
+) -> Result<(), AllocError> {
+    if bus >= tables.bus_count() || ticks > LONGEST_SPAN {
+        return Ok(());
+    }
+    let most = tables.bus_bound(bus).at_most(ticks);
+    let least = tables.bus_service(bus).at_least(ticks);
+    write!(text, "in {ticks} bus {bus} brings {most} visits {least}\n")
+}
+
+// How many labels fall due at the first output in so many ticks, and how many are sent at least.
+fn write_sent(text: &mut String, tables: &Tables, ticks: u32) -> Result<(), AllocError> {
+    if tables.output_count() == 0 || ticks > LONGEST_SPAN {
+        return Ok(());
+    }
+    let most = tables.output_bound(0).at_most(ticks);
+    let least = tables.output_service(0).at_least(ticks);
+    write!(text, "in {ticks} output 0 is due {most} sends {least}\n")
+}
+
+fn write_inputs(text: &mut String, tables: &Tables, asked: &Asked) -> Result<(), AllocError> {
+    for parameter in asked.parameters {
+        write_parameter(text, tables, *parameter)?;
+    }
+    for bus in asked.buses {
+        write_bus(text, tables, *bus)?;
+    }
+    for stream in asked.streams {
+        write_stream(text, tables, *stream)?;
+    }
+    Ok(())
+}
+
+fn write_routers(text: &mut String, tables: &Tables, asked: &Asked) -> Result<(), AllocError> {
+    for router in asked.routers {
+        write_router(text, tables, *router)?;
+        for cursor in asked.cursors {
+            write_visit(text, tables, *router, *cursor)?;
+        }
+    }
+    Ok(())
+}
+
+fn write_outputs(text: &mut String, tables: &Tables) -> Result<(), AllocError> {
+    for output in 0..tables.output_count() {
+        write_output(text, tables, output)?;
+    }
+    for label in 0..tables.label_count() {
+        write_label(text, tables, label)?;
+    }
+    Ok(())
+}
+
+// The rows of names and of words.
+fn write_searches(text: &mut String, tables: &Tables, asked: &Asked) -> Result<(), Fail> {
+    for row in asked.names.lines() {
+        write!(text, "named {row}:")?;
+        write_named(text, tables, &name(row)?)?;
+        text.push_str("\n")?;
+    }
+    for (bus, label) in asked.words {
+        write_found(text, tables, *bus, *label)?;
+    }
+    for label in asked.declared {
+        write_declared(text, tables, *label)?;
+    }
+    Ok(())
+}
+
+fn write_bounds(text: &mut String, tables: &Tables, asked: &Asked) -> Result<(), AllocError> {
+    for (bus, ticks) in asked.received {
+        write_received(text, tables, *bus, *ticks)?;
+    }
+    for ticks in asked.sent {
+        write_sent(text, tables, *ticks)?;
+    }
+    Ok(())
+}
+
+/// Adds what tables answer.
+pub fn write_answers(text: &mut String, tables: &Tables, asked: &Asked) -> Result<(), Fail> {
+    write_counts(text, tables)?;
+    write_inputs(text, tables, asked)?;
+    write_routers(text, tables, asked)?;
+    write_outputs(text, tables)?;
+    write_searches(text, tables, asked)?;
+    write_bounds(text, tables, asked)?;
+    Ok(())
+}
