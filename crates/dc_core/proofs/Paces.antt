@@ -10,8 +10,8 @@ use Rattle.dc_tables.specs.Declares.{stream_of}
 use Rattle.dc_tables.specs.TableRows.{TableRows, AreValid, stream_row, is_policed}
 use Rattle.dc_event.specs.Time.{tick_after}
 use Rattle.dc_event.specs.Offers.{only, is_early, refuses}
-use Rattle.dc_event.specs.Buses.{arrivals}
-use Rattle.dc_event.specs.lemmas.Arrivals.{arrival_of, arrivals-other, arrivals-push, arrivals-nil, early-paced, stream_of-there, arrival-own, arrival-others}
+use Rattle.dc_event.specs.Buses.{arrivals, arrival_of}
+use Rattle.dc_event.specs.lemmas.Arrivals.{arrivals-other, arrivals-push, arrivals-nil, early-paced, stream_of-there, arrival-own, arrival-others}
 use Rattle.dc_event.specs.declared.event.Event.{Event}
 use Rattle.dc_event.specs.declared.event.Event.TheVariants.{Arrive}
 use Rattle.dc_core.specs.Standing.{HoldsPaces, refuses_now, paces_after}

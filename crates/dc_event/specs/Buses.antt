@@ -9,7 +9,7 @@ use Rattle.dc_word.specs.Word.{is_odd}
 use Rattle.dc_tables.specs.Declares.{stream_of}
 use Rattle.dc_tables.specs.TableRows.{TableRows, bus_row, stream_row, visited}
 use Rattle.dc_event.specs.Time.{routes}
-use Rattle.dc_event.specs.Offers.{let_in}
+use Rattle.dc_event.specs.Offers.{let_in, offer_of}
 use Rattle.dc_event.specs.declared.event.Event.{Event}
 use Rattle.dc_event.specs.declared.event.Event.TheVariants.{Tick, Arrive, Route, Send}
 
@@ -29,6 +29,10 @@ move_of t b past Tick = TickMove ∷ []
 move_of t b past (Arrive w a) = cond ((a == b) && is_odd w) (in_of (let_in t b past (stream_of t b w)) w) []
 move_of t b past (Route r) = cond (visited_bus t r past == b) (Visit ∷ []) []
 move_of t b past (Send o) = []
+
+-- the stream of which the event is an arrival on the bus, after the events of past
+abbrev pub arrival_of : TableRows → ℕ → List Event → Event → Option ℕ
+arrival_of t b past e = let_in t b past (offer_of t b e)
 
 -- the moves of a bus in a run
 unfoldable pub moves : TableRows → ℕ → List Event → List Move

@@ -16,7 +16,7 @@ use Rattle.dc_tables.specs.Declares.{stream_of}
 use Rattle.dc_tables.specs.TableRows.{TableRows, AreValid, stream_row}
 use Rattle.dc_event.specs.Time.{tick_after, routes}
 use Rattle.dc_event.specs.Offers.{only, refuses, let_in}
-use Rattle.dc_event.specs.Buses.{visited_bus, in_of, move_of, moves, room, bus_arrivals, arrivals, is_latched, bus_entered, bus_taken, bus_item, backlog}
+use Rattle.dc_event.specs.Buses.{visited_bus, in_of, move_of, moves, room, bus_arrivals, arrivals, arrival_of, is_latched, bus_entered, bus_taken, bus_item, backlog}
 use Rattle.dc_event.specs.Latest.{is_of, latest_arrived}
 use Rattle.dc_event.specs.Alive.{came_words}
 use Rattle.dc_event.specs.Laws.{QueuesGrow}
@@ -24,7 +24,7 @@ use Rattle.dc_event.specs.Replies.{reply}
 use Rattle.dc_event.specs.lemmas.RunPush.{tick-push, moves-push, moves-other, ticks_in-moves, entered-declared}
 use Rattle.dc_event.specs.lemmas.RunMoves.{moves-nil}
 use Rattle.dc_event.specs.lemmas.BudgetsPush.{calm}
-use Rattle.dc_event.specs.lemmas.Arrivals.{arrival_of, arrivals-other, arrivals-push, arrivals-nil, arrivals-none_later, bus_arrivals-other, bus_arrivals-push, bus_arrivals-nil}
+use Rattle.dc_event.specs.lemmas.Arrivals.{arrivals-other, arrivals-push, arrivals-nil, arrivals-none_later, bus_arrivals-other, bus_arrivals-push, bus_arrivals-nil}
 use Rattle.dc_event.specs.declared.event.Event.{Event}
 use Rattle.dc_event.specs.declared.event.Event.TheVariants.{Tick, Arrive, Route, Send}
 use Rattle.dc_event.specs.declared.event.Reply.{Reply}

@@ -10,12 +10,12 @@ use Rattle.dc_tables.specs.Declares.{stream_of}
 use Rattle.dc_tables.specs.TableRows.{TableRows, AreValid, bus_row, stream_row, is_policed}
 use Rattle.dc_tables.specs.declared.rows.Stream.{Stream}
 use Rattle.dc_event.specs.Time.{ends, tick_after}
-use Rattle.dc_event.specs.Buses.{bus_arrivals, arrivals}
+use Rattle.dc_event.specs.Buses.{bus_arrivals, arrivals, arrival_of}
 use Rattle.dc_event.specs.Admissible.{KeepsSources}
 use Rattle.dc_event.specs.lemmas.RunPush.{tick-push}
 use Rattle.dc_event.specs.lemmas.BudgetsPush.{rest-same, calm}
 use Rattle.dc_event.specs.Offers.{only, cap_of, refuses}
-use Rattle.dc_event.specs.lemmas.Arrivals.{arrival_of, arrival_on, refuses-none, stream_of-there, even-none, elsewhere-none, undeclared-none, arrival-here, arrival-own, arrival-others, arrivals-nil, bus_arrivals-nil, arrivals-other, bus_arrivals-other, arrivals-push, bus_arrivals-push, bus_arrivals-none_later, stream_rests-push, wire_rests-push}
+use Rattle.dc_event.specs.lemmas.Arrivals.{arrival_on, refuses-none, stream_of-there, even-none, elsewhere-none, undeclared-none, arrival-here, arrival-own, arrival-others, arrivals-nil, bus_arrivals-nil, arrivals-other, bus_arrivals-other, arrivals-push, bus_arrivals-push, bus_arrivals-none_later, stream_rests-push, wire_rests-push}
 use Rattle.dc_event.specs.declared.event.Event.{Event}
 use Rattle.dc_event.specs.declared.event.Event.TheVariants.{Tick, Arrive}
 use Rattle.dc_oracle.specs.declared.wire.WireLoad.{WireLoad}

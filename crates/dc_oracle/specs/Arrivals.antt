@@ -3,10 +3,9 @@ use Rattle.std.specs.Prelude.{◌≡◌, ℕ, ◌<◌, Bool, true, false, Option
 use Rattle.dc_bound.specs.Window.{ticks_of}
 use Rattle.dc_tables.specs.TableRows.{TableRows, stream_row}
 use Rattle.dc_event.specs.Time.{tick_after}
-use Rattle.dc_event.specs.Buses.{bus_arrivals, arrivals}
+use Rattle.dc_event.specs.Buses.{bus_arrivals, arrivals, arrival_of}
 use Rattle.dc_event.specs.Latest.{latest_arrived}
 use Rattle.dc_event.specs.Alive.{came_words}
-use Rattle.dc_event.specs.lemmas.Arrivals.{arrival_of}
 use Rattle.dc_event.specs.declared.event.Event.{Event}
 use Rattle.dc_event.specs.declared.event.Event.TheVariants.{Arrive}
 use Rattle.dc_event.specs.declared.event.Reply.{Reply}

@@ -23,17 +23,13 @@ use Rattle.dc_tables.specs.TableRows.{TableRows, stream_row, is_policed}
 use Rattle.dc_tables.specs.declared.rows.Stream.{Stream}
 use Rattle.dc_event.specs.Time.{tick_after}
 use Rattle.dc_event.specs.Offers.{offer_of, only, offer_on, offered, cap_of, is_early, refuses, let_in}
-use Rattle.dc_event.specs.Buses.{visited_bus, in_of, move_of, moves, bus_arrivals, arrivals}
+use Rattle.dc_event.specs.Buses.{visited_bus, in_of, move_of, moves, bus_arrivals, arrivals, arrival_of}
 use Rattle.dc_event.specs.lemmas.RunPush.{moves-push, ticks_in-moves, ticks-other, ticks-step, tick-push}
 use Rattle.dc_event.specs.lemmas.RunMoves.{moves-nil}
 use Rattle.dc_event.specs.declared.event.Event.{Event}
 use Rattle.dc_event.specs.declared.event.Event.TheVariants.{Tick, Arrive, Route, Send}
 
 -- ---- the arrivals of a bus, of a stream
-
--- the stream of which the event is an arrival on the bus, after the events of past
-abbrev pub arrival_of : TableRows → ℕ → List Event → Event → Option ℕ
-arrival_of t b past e = let_in t b past (offer_of t b e)
 
 -- whether the event is an arrival of the stream
 abbrev pub arrival_on : TableRows → ℕ → List Event → Event → Option ℕ
