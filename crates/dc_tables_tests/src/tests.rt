@@ -405,18 +405,26 @@ fn fault_of_crowd(alloc: Global, buses: usize, streams: usize) -> Result<Option<
     Ok(fault_of(alloc, parts)?)
 }
 
+fn assert_crowd(
+    rt: &impl Abort,
+    alloc: Global,
+    (buses, streams): (usize, usize),
+    wanted: Fault,
+) -> Result<(), Fail> {
+    let fault = fault_of_crowd(alloc, buses, streams)?;
+    assert_eq!(rt; fault, Some(wanted), "{buses} x {streams}");
+    Ok(())
+}
+
 #[test]
 fn limits_and_totals_come_before_doubled_names(rt: HostRuntime) -> Result<(), Fail> {
-    for (buses, streams, rule, section, index) in [
-        (65, 1, TableRule::CountOutOfRange, Section::Top, 0),
-        (2, 257, TableRule::CountOutOfRange, Section::Bus, 0),
-        (5, 205, TableRule::CountOutOfRange, Section::Bus, 4),
-        (4, 256, TableRule::NameDoubled, Section::Bus, 1),
-    ] {
-        let fault = fault_of_crowd(rt.alloc(), buses, streams)?;
-        assert_eq!(rt; fault, Some((rule, section, index)), "{buses} x {streams}");
-    }
-    Ok(())
+    let alloc = rt.alloc();
+    let too_many = TableRule::CountOutOfRange;
+    let doubled = TableRule::NameDoubled;
+    assert_crowd(&rt, alloc, (65, 1), (too_many, Section::Top, 0))?;
+    assert_crowd(&rt, alloc, (2, 257), (too_many, Section::Bus, 0))?;
+    assert_crowd(&rt, alloc, (5, 205), (too_many, Section::Bus, 4))?;
+    assert_crowd(&rt, alloc, (4, 256), (doubled, Section::Bus, 1))
 }
 
 fn assert_kept(rt: &impl Abort, text: &str) -> Result<(), Fail> {

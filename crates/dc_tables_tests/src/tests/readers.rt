@@ -8,6 +8,7 @@ use super::{A, B, BusRow, LabelRow, O, OutputRow, R1, RouterRow, Rows, SMALL, X,
 use dc_parts::{Parts, Speed};
 use lines::{Asked, write_answers};
 use std::alloc::Global;
+use std::process::Abort;
 use std::test::Fail;
 
 // What tables of these parts answer.
@@ -18,6 +19,18 @@ fn answers(alloc: Global, parts: Parts, asked: &Asked) -> Result<String, Fail> {
     tables.keyed();
     write_answers(&mut text, &tables, asked)?;
     Ok(text)
+}
+
+fn assert_answers(
+    rt: &impl Abort,
+    alloc: Global,
+    parts: Parts,
+    asked: &Asked,
+    wanted: &str,
+) -> Result<(), Fail> {
+    let text = answers(alloc, parts, asked)?;
+    assert_eq!(rt; text.as_str(), wanted);
+    Ok(())
 }
 
 const ASKED_OF_SMALL: Asked = Asked {
@@ -75,9 +88,7 @@ in 16 output 0 is due 2 sends 8
 #[test]
 fn small_tables_answer_each_reader(rt: HostRuntime) -> Result<(), Fail> {
     let parts = parts_of(rt.alloc(), &SMALL)?;
-    let text = answers(rt.alloc(), parts, &ASKED_OF_SMALL)?;
-    assert_eq!(rt; text.as_str(), SMALL_ANSWERS);
-    Ok(())
+    assert_answers(&rt, rt.alloc(), parts, &ASKED_OF_SMALL, SMALL_ANSWERS)
 }
 
 // The small tables with a slow bus and a slow output, whose label is due twice in a frame.
@@ -135,9 +146,7 @@ in 16 output 0 is due 3 sends 4
 #[test]
 fn slow_tables_answer_with_their_speeds(rt: HostRuntime) -> Result<(), Fail> {
     let parts = parts_of(rt.alloc(), &SLOW)?;
-    let text = answers(rt.alloc(), parts, &ASKED_OF_SLOW)?;
-    assert_eq!(rt; text.as_str(), SLOW_ANSWERS);
-    Ok(())
+    assert_answers(&rt, rt.alloc(), parts, &ASKED_OF_SLOW, SLOW_ANSWERS)
 }
 
 // The small tables with a second bus, which the router visits once in three steps.
@@ -185,7 +194,5 @@ in 11 bus 1 brings 2 visits 3
 #[test]
 fn tables_of_two_buses_answer_in_turn(rt: HostRuntime) -> Result<(), Fail> {
     let parts = parts_of(rt.alloc(), &IN_TURN)?;
-    let text = answers(rt.alloc(), parts, &ASKED_IN_TURN)?;
-    assert_eq!(rt; text.as_str(), ANSWERS_IN_TURN);
-    Ok(())
+    assert_answers(&rt, rt.alloc(), parts, &ASKED_IN_TURN, ANSWERS_IN_TURN)
 }

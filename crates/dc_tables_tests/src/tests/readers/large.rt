@@ -4,7 +4,8 @@ use super::super::{
     A, A203, BusRow, LabelRow, O, OutputRow, P203, ParameterRow, R1, RouterRow, StreamRow, X,
     add_bus, add_output, add_parameter, add_router, add_stream,
 };
-use super::{Asked, answers};
+use super::assert_answers;
+use super::lines::Asked;
 use dc_parts::{Parts, Version};
 use std::alloc::Global;
 use std::test::Fail;
@@ -194,9 +195,13 @@ in 16 output 0 is due 2 sends 8
 #[test]
 fn tables_of_64_buses_answer_each_reader(rt: HostRuntime) -> Result<(), Fail> {
     let parts = parts_of_64_buses(rt.alloc(), &OF_TWO_LABELS)?;
-    let text = answers(rt.alloc(), parts, &ASKED_OF_64_BUSES)?;
-    assert_eq!(rt; text.as_str(), ANSWERS_OF_64_BUSES);
-    Ok(())
+    assert_answers(
+        &rt,
+        rt.alloc(),
+        parts,
+        &ASKED_OF_64_BUSES,
+        ANSWERS_OF_64_BUSES,
+    )
 }
 
 const ASKED_OF_1024_STREAMS: Asked = Asked {
@@ -271,7 +276,11 @@ in 16 output 0 is due 2 sends 8
 #[test]
 fn tables_of_1024_streams_answer_each_reader(rt: HostRuntime) -> Result<(), Fail> {
     let parts = parts_of_64_buses(rt.alloc(), &OF_16_LABELS)?;
-    let text = answers(rt.alloc(), parts, &ASKED_OF_1024_STREAMS)?;
-    assert_eq!(rt; text.as_str(), ANSWERS_OF_1024_STREAMS);
-    Ok(())
+    assert_answers(
+        &rt,
+        rt.alloc(),
+        parts,
+        &ASKED_OF_1024_STREAMS,
+        ANSWERS_OF_1024_STREAMS,
+    )
 }

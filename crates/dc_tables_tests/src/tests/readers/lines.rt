@@ -36,9 +36,9 @@ fn write_name(text: &mut String, name: &Name) -> Result<(), AllocError> {
     Ok(())
 }
 
-// One of the counts of a line.
-fn write_count(text: &mut String, name: &str, count: usize) -> Result<(), AllocError> {
-    write!(text, " {name} {count}")
+// One of the counts or numbers of a line.
+fn write_count(text: &mut String, kind: &str, number: usize) -> Result<(), AllocError> {
+    write!(text, " {kind} {number}")
 }
 
 fn write_counts(text: &mut String, tables: &Tables) -> Result<(), AllocError> {
@@ -242,7 +242,7 @@ fn write_label(text: &mut String, tables: &Tables, label: usize) -> Result<(), A
 fn write_number(text: &mut String, kind: &str, number: Option<usize>) -> Result<(), AllocError> {
     match number {
         None => Ok(()),
-        Some(number) => write!(text, " {kind} {number}"),
+        Some(number) => write_count(text, kind, number),
     }
 }
 
