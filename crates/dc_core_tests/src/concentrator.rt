@@ -1,6 +1,6 @@
 //! What the concentrator refuses, and what its queue answers.
 
-use crate::fixture::{SMALL, Small, label};
+use crate::fixture::{SMALL, label};
 use crate::runs::answers;
 use dc_core::StepFault;
 use dc_event::{Actor, Event, Reply};
@@ -14,7 +14,6 @@ fn numbers_that_are_not_in_the_tables_are_unknown(rt: HostRuntime) -> Result<(),
         &rt,
         rt.alloc(),
         SMALL,
-        &[0],
         &[
             (Event::Route(1), Err(StepFault::Unknown)),
             (Event::Send(1), Err(StepFault::Unknown)),
@@ -29,7 +28,6 @@ fn the_third_step_of_a_router_in_a_tick_is_spent(rt: HostRuntime) -> Result<(), 
         &rt,
         rt.alloc(),
         SMALL,
-        &[0],
         &[
             (Event::Route(0), Ok(Reply::Empty(0))),
             (Event::Route(0), Ok(Reply::Empty(0))),
@@ -47,7 +45,6 @@ fn the_second_send_in_a_tick_is_too_soon(rt: HostRuntime) -> Result<(), Fail> {
         &rt,
         rt.alloc(),
         SMALL,
-        &[0],
         &[
             (Event::Send(0), Ok(Reply::Sent(label, Word(0xA000_00C1)))),
             (Event::Send(0), Err(StepFault::TooSoon)),
@@ -65,7 +62,6 @@ fn a_tick_waits_for_the_steps_that_are_owed(rt: HostRuntime) -> Result<(), Fail>
         &rt,
         rt.alloc(),
         SMALL,
-        &[0],
         &[
             (Event::Tick, Err(StepFault::Owed(Actor::Router(0)))),
             (Event::Route(0), Ok(Reply::Empty(0))),
@@ -82,13 +78,11 @@ fn a_tick_waits_for_the_steps_that_are_owed(rt: HostRuntime) -> Result<(), Fail>
 #[test]
 fn a_full_queue_loses_a_word_and_latches(rt: HostRuntime) -> Result<(), Fail> {
     let label = label(0o203)?;
-    let small = Small { queue: 1, ..SMALL };
     let first = Word(0x6000_00C1);
     answers(
         &rt,
         rt.alloc(),
-        small,
-        &[0],
+        "queue=1",
         &[
             (Event::Arrive(first, 0), Ok(Reply::Queued(1))),
             (Event::Arrive(Word(0xE000_0021), 0), Ok(Reply::Overrun)),
@@ -107,7 +101,6 @@ fn even_parity_is_reported_before_the_label(rt: HostRuntime) -> Result<(), Fail>
         &rt,
         rt.alloc(),
         SMALL,
-        &[0],
         &[
             (Event::Arrive(Word(0x2000_00C1), 0), Ok(Reply::BadParity)),
             (Event::Arrive(Word(0x6000_0081), 0), Ok(Reply::BadParity)),

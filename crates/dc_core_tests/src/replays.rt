@@ -23,7 +23,6 @@ fn words_are_routed_in_the_order_of_their_arrival(rt: HostRuntime) -> Result<(),
         &rt,
         rt.alloc(),
         SMALL,
-        &[0],
         &[
             (Event::Route(0), Ok(Reply::Empty(0))),
             (Event::Arrive(NORMAL, 0), Ok(Reply::Queued(1))),
@@ -50,7 +49,6 @@ fn a_word_is_sent_once_it_is_routed(rt: HostRuntime) -> Result<(), Fail> {
             &rt,
             rt.alloc(),
             SMALL,
-            &[0],
             &[
                 (Event::Arrive(arrived, 0), Ok(Reply::Queued(1))),
                 (Event::Route(0), Ok(Reply::Took(arrived, 0))),
@@ -68,7 +66,6 @@ fn a_word_that_still_waits_is_not_sent(rt: HostRuntime) -> Result<(), Fail> {
         &rt,
         rt.alloc(),
         SMALL,
-        &[0],
         &[
             (Event::Arrive(NORMAL, 0), Ok(Reply::Queued(1))),
             (Event::Send(0), Ok(Reply::Sent(label, FALLBACK))),
@@ -112,7 +109,7 @@ fn ticks_of(rt: &impl Abort, core: &mut Core, label: Label, arrival: u64, last: 
 fn a_word_is_fresh_after_22_ticks_and_stale_after_23(rt: HostRuntime) -> Result<(), Fail> {
     let label = label(0o203)?;
     for (arrival, last) in [(8, NORMAL), (7, FALLBACK)] {
-        let mut core = small_core(rt.alloc(), SMALL, &[0])?;
+        let mut core = small_core(rt.alloc(), SMALL)?;
         ticks_of(&rt, &mut core, label, arrival, last);
     }
     Ok(())
@@ -124,8 +121,7 @@ fn late_sends_catch_up_in_the_order_of_offsets(rt: HostRuntime) -> Result<(), Fa
     answers(
         &rt,
         rt.alloc(),
-        SMALL,
-        &[1, 0],
+        "offsets=1,0",
         &[
             (Event::Route(0), Ok(Reply::Empty(0))),
             (Event::Tick, Ok(Reply::Now(1))),
@@ -148,7 +144,6 @@ fn a_usable_second_source_goes_before_an_unusable_first(rt: HostRuntime) -> Resu
         &rt,
         rt.alloc(),
         TWO_BUSES,
-        &[0],
         &[
             (Event::Arrive(unusable, 0), Ok(Reply::Queued(1))),
             (Event::Arrive(usable, 1), Ok(Reply::Queued(1))),

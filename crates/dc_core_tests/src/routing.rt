@@ -1,10 +1,11 @@
 //! Routers, the latest words, and the word that a label sends.
 ghost use Rattle.std.specs.Prelude.{◌≡◌, length};
 
-use crate::fixture::{SMALL, TWO_BUSES, small_tables};
+use crate::fixture::{SMALL, TWO_BUSES};
 use dc_queue::queue::WordQueue;
 use dc_route::{Latest, Router, choose};
 use dc_tables::Tables;
+use dc_trials::small_tables;
 use dc_word::Word;
 use std::alloc::Global;
 use std::process::Abort;
@@ -127,19 +128,19 @@ fn choice_of_two(rt: &impl Abort, alloc: Global, tables: &Tables) -> Result<(), 
 
 #[test]
 fn a_visit_takes_the_oldest_word(rt: HostRuntime) -> Result<(), Fail> {
-    let tables = small_tables(rt.alloc(), SMALL, &[0])?;
+    let tables = small_tables(rt.alloc(), SMALL)?;
     visit_of_an_empty_queue(&rt, rt.alloc(), &tables)?;
     visit_of_a_queue_of_two(&rt, rt.alloc(), &tables)
 }
 
 #[test]
 fn a_fresh_source_is_chosen(rt: HostRuntime) -> Result<(), Fail> {
-    let tables = small_tables(rt.alloc(), SMALL, &[0])?;
+    let tables = small_tables(rt.alloc(), SMALL)?;
     choice_of_one(&rt, rt.alloc(), &tables)
 }
 
 #[test]
 fn the_first_fresh_and_usable_source_is_chosen(rt: HostRuntime) -> Result<(), Fail> {
-    let tables = small_tables(rt.alloc(), TWO_BUSES, &[0])?;
+    let tables = small_tables(rt.alloc(), TWO_BUSES)?;
     choice_of_two(&rt, rt.alloc(), &tables)
 }

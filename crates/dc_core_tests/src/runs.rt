@@ -1,16 +1,16 @@
 //! A concentrator of the small tables, and the comparison of what it answers.
 
-use crate::fixture::{Small, small_tables};
 use dc_core::{Core, StepFault};
 use dc_event::{Event, Reply};
+use dc_trials::small_tables;
 use std::alloc::Global;
 use std::process::Abort;
 use std::sync::Arc;
 use std::test::Fail;
 
-/// A concentrator of small tables before its first event.
-pub fn small_core(alloc: Global, small: Small, offsets: &[u32]) -> Result<Core, Fail> {
-    let tables = Arc::new(alloc, small_tables(alloc, small, offsets)?)?;
+/// A concentrator of the small tables with the values of a row, before its first event.
+pub fn small_core(alloc: Global, row: &str) -> Result<Core, Fail> {
+    let tables = Arc::new(alloc, small_tables(alloc, row)?)?;
     Ok(Core::new(alloc, tables)?)
 }
 
@@ -22,15 +22,14 @@ pub fn compare(rt: &impl Abort, core: &mut Core, steps: &[(Event, Result<Reply, 
     }
 }
 
-/// The same on a concentrator of small tables before its first event.
+/// The same on such a concentrator.
 pub fn answers(
     rt: &impl Abort,
     alloc: Global,
-    small: Small,
-    offsets: &[u32],
+    row: &str,
     steps: &[(Event, Result<Reply, StepFault>)],
 ) -> Result<(), Fail> {
-    let mut core = small_core(alloc, small, offsets)?;
+    let mut core = small_core(alloc, row)?;
     compare(rt, &mut core, steps);
     Ok(())
 }

@@ -1,9 +1,10 @@
 //! Traces that come in pieces, are refused at a line, or break off.
 
-use crate::fixture::{SMALL, small_tables};
+use crate::fixture::SMALL;
 use dc_device::{LineWriter, MemSource, Nowhere, Source};
 use dc_event::{Claim, Event, LineRule, TraceFault, TraceLines, TraceReader, TraceStop, read_word};
 use dc_tables::Tables;
+use dc_trials::small_tables;
 use dc_word::Word;
 use std::alloc::Global;
 use std::process::Abort;
@@ -109,7 +110,7 @@ fn reads_text(
     events: &[Event],
     stop: TraceStop,
 ) -> Result<(), Fail> {
-    let tables = small_tables(alloc, SMALL, &[0])?;
+    let tables = small_tables(alloc, SMALL)?;
     reads(rt, &tables, text, limit, events, stop);
     reads_lines(rt, &tables, text, limit, events, stop);
     Ok(())
@@ -133,7 +134,7 @@ fn reads_unlimited(rt: &impl Abort, tables: &Tables) {
 fn a_trace_is_read_in_pieces_of_any_size(rt: HostRuntime) -> Result<(), Fail> {
     reads_text(&rt, rt.alloc(), TRACE, 24, &events(), TraceStop::End)?;
     reads_text(&rt, rt.alloc(), b"", 0, &[], TraceStop::End)?;
-    let tables = small_tables(rt.alloc(), SMALL, &[0])?;
+    let tables = small_tables(rt.alloc(), SMALL)?;
     reads_unlimited(&rt, &tables);
     Ok(())
 }
@@ -277,7 +278,7 @@ fn breaks_at_any_pull(rt: &impl Abort, tables: &Tables) {
 
 #[test]
 fn a_source_may_fail_at_any_pull(rt: HostRuntime) -> Result<(), Fail> {
-    let tables = small_tables(rt.alloc(), SMALL, &[0])?;
+    let tables = small_tables(rt.alloc(), SMALL)?;
     breaks_at_any_pull(&rt, &tables);
     Ok(())
 }

@@ -1,8 +1,9 @@
 //! The schedule of the output of the small tables.
 
-use crate::fixture::{SMALL, small_tables};
+use crate::fixture::SMALL;
 use dc_tables::Tables;
 use dc_transmit::Schedule;
+use dc_trials::small_tables;
 use std::process::Abort;
 use std::rt::HostRuntime;
 use std::test::Fail;
@@ -41,14 +42,14 @@ fn schedule(
 
 #[test]
 fn the_tables_have_their_quantities_in_ticks(rt: HostRuntime) -> Result<(), Fail> {
-    let tables = small_tables(rt.alloc(), SMALL, &[0])?;
+    let tables = small_tables(rt.alloc(), SMALL)?;
     quantities(&rt, &tables);
     Ok(())
 }
 
 #[test]
 fn one_entry_is_due_once_in_each_frame(rt: HostRuntime) -> Result<(), Fail> {
-    let tables = small_tables(rt.alloc(), SMALL, &[0])?;
+    let tables = small_tables(rt.alloc(), SMALL)?;
     let counts = [(0, 1), (14, 1), (15, 2), (30, 3)];
     schedule(&rt, &tables, &counts, (15, 30), (15, 15));
     Ok(())
@@ -56,7 +57,7 @@ fn one_entry_is_due_once_in_each_frame(rt: HostRuntime) -> Result<(), Fail> {
 
 #[test]
 fn two_entries_of_a_label_lie_5_and_10_ticks_apart(rt: HostRuntime) -> Result<(), Fail> {
-    let tables = small_tables(rt.alloc(), SMALL, &[5, 0])?;
+    let tables = small_tables(rt.alloc(), "offsets=5,0")?;
     let counts = [(0, 1), (4, 1), (5, 2), (14, 2), (15, 3), (20, 4)];
     schedule(&rt, &tables, &counts, (5, 15), (5, 10));
     Ok(())
