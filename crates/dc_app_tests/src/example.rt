@@ -1,7 +1,7 @@
 //! The tables of examples/small.toml, as they stand there: `scripts/examples` compares the two.
 
 use dc_check::are_small;
-use dc_trials::tables_of;
+use dc_toml::read_tables;
 use std::alloc::Global;
 use std::process::Abort;
 use std::rt::HostRuntime;
@@ -76,7 +76,7 @@ offsets = [0]               # the ticks of the frame in which the label is due
 
 /// The tables of a text are the small ones of the worked law, or they are not.
 fn says(rt: &impl Abort, alloc: Global, text: &str, small: bool) -> Result<(), Fail> {
-    let tables = tables_of(alloc, text)?;
+    let tables = read_tables(alloc, text.as_bytes())?;
     assert_eq!(rt; are_small(&tables), small);
     Ok(())
 }

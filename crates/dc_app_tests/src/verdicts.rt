@@ -2,7 +2,7 @@
 
 use crate::asking::check_says;
 use dc_app::{run_check, run_check_par};
-use dc_cert::Certificate;
+use dc_cert::{Certificate, read_cert};
 use dc_check::laws::no_fault_is_acceptance;
 use dc_check::{
     CertificateList, Certified, CheckFault, Condition, certify, check, job_fault, job_fault_given,
@@ -10,7 +10,8 @@ use dc_check::{
 };
 use dc_device::{MemSink, MemSource};
 use dc_tables::Tables;
-use dc_trials::{push_small_certificate, push_small_tables, small_certificate, small_tables};
+use dc_toml::read_tables;
+use dc_trials::{push_small_certificate, push_small_tables};
 use std::alloc::Global;
 use std::process::Abort;
 use std::rt::HostRuntime;
@@ -104,9 +105,14 @@ fn devices_that_fail(rt: HostRuntime) -> Result<(), Fail> {
 
 /// The tables and the certificate of a row.
 fn read(alloc: Global, row: &str) -> Result<(Tables, Certificate), Fail> {
-    let tables = small_tables(alloc, row)?;
-    let certificate = small_certificate(alloc, row)?;
-    Ok((tables, certificate))
+    let mut tables = String::new(alloc);
+    push_small_tables(&mut tables, row)?;
+    let mut certificate = String::new(alloc);
+    push_small_certificate(&mut certificate, row)?;
+    Ok((
+        read_tables(alloc, tables.as_bytes())?,
+        read_cert(alloc, certificate.as_bytes())?,
+    ))
 }
 
 /// A fault of the first member of a list.

@@ -1,13 +1,14 @@
 //! Tables that are driven, with a certificate that is accepted for them.
 
-use dc_cert::Certificate;
+use dc_cert::{Certificate, read_cert};
 use dc_check::{Certified, check};
 #[cfg(test)]
 use dc_find::{FindFault, find};
 use dc_tables::Tables;
+use dc_toml::read_tables;
 #[cfg(test)]
-use dc_trials::{Chance, ROOMY, random_tables};
-use dc_trials::{equal_certificate, equal_tables};
+use dc_trials::{Chance, ROOMY, push_tables};
+use dc_trials::{push_equal_certificate, push_equal_tables};
 use std::alloc::Global;
 use std::sync::Arc;
 #[cfg(test)]
@@ -20,6 +21,12 @@ pub struct Plan {
     pub certified: Certified,
 }
 
+/// Tables of this text. None where they can't be read, or memory ends.
+fn tables_of(alloc: Global, text: &str) -> Option<Arc<Tables>> {
+    let tables = read_tables(alloc, text.as_bytes()).ok()?;
+    Arc::new(alloc, tables).ok()
+}
+
 /// A certificate for tables. None where it is refused, or memory ends.
 fn plan_of(tables: Arc<Tables>, certificate: Certificate) -> Option<Plan> {
     let shared = Arc::try_clone(&tables).ok()?;
@@ -29,16 +36,20 @@ fn plan_of(tables: Arc<Tables>, certificate: Certificate) -> Option<Plan> {
 
 /// Tables of so many equal buses. None where memory ends.
 pub fn equal_plan(alloc: Global, buses: u32, policed: bool) -> Option<Plan> {
-    let certificate = equal_certificate(alloc, buses).ok()?;
-    let tables = equal_tables(alloc, buses, policed).ok()?;
-    let tables = Arc::new(alloc, tables).ok()?;
-    plan_of(tables, certificate)
+    let mut text = String::new(alloc);
+    push_equal_tables(&mut text, buses, policed).ok()?;
+    let mut certificate = String::new(alloc);
+    push_equal_certificate(&mut certificate, buses).ok()?;
+    let certificate = read_cert(alloc, certificate.as_bytes()).ok()?;
+    plan_of(tables_of(alloc, text.as_str())?, certificate)
 }
 
 /// Random tables with their least certificate, where one is accepted.
 #[cfg(test)]
 pub fn random_plan(alloc: Global, chance: &mut Chance) -> Result<Option<Plan>, Fail> {
-    let tables = Arc::new(alloc, random_tables(alloc, chance, &ROOMY)?)?;
+    let mut text = String::new(alloc);
+    push_tables(&mut text, chance, &ROOMY)?;
+    let tables = tables_of(alloc, text.as_str()).ok_or("no tables")?;
     match find(alloc, &tables) {
         Ok(certificate) => Ok(Some(plan_of(tables, certificate).ok_or("no plan")?)),
         Err(FindFault::Memory) => Err("memory ended".into()),

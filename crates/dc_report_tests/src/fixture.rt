@@ -1,10 +1,11 @@
 //! The pages of texts, and how a page is tested.
 
-use dc_cert::Certificate;
+use dc_cert::{Certificate, read_cert};
 use dc_check::verdict;
 use dc_report::page;
 use dc_tables::Tables;
-use dc_trials::{certificate_of, push_small_tables, tables_of};
+use dc_toml::read_tables;
+use dc_trials::push_small_tables;
 use std::alloc::Global;
 use std::process::Abort;
 use std::test::Fail;
@@ -21,8 +22,8 @@ pub fn judged_page(
 
 /// The page of two texts.
 pub fn page_of(alloc: Global, tables: &str, certificate: &str) -> Result<String, Fail> {
-    let certificate = certificate_of(alloc, certificate)?;
-    let tables = tables_of(alloc, tables)?;
+    let certificate = read_cert(alloc, certificate.as_bytes())?;
+    let tables = read_tables(alloc, tables.as_bytes())?;
     judged_page(alloc, &tables, &certificate)
 }
 

@@ -3,7 +3,7 @@
 use crate::fixture::{assert_holds, assert_lacks, judged_page};
 use dc_find::find;
 use dc_tables::Tables;
-use dc_trials::tables_of;
+use dc_toml::read_tables;
 use std::alloc::{AllocError, Global};
 use std::rt::HostRuntime;
 use std::test::Fail;
@@ -96,7 +96,7 @@ fn least_page(alloc: Global, tables: &Tables) -> Result<String, Fail> {
 }
 
 fn page_of_text(alloc: Global, text: &str) -> Result<String, Fail> {
-    let tables = tables_of(alloc, text)?;
+    let tables = read_tables(alloc, text.as_bytes())?;
     least_page(alloc, &tables)
 }
 

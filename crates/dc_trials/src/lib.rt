@@ -16,8 +16,7 @@ pub use equal::{push_equal_certificate, push_equal_tables};
 pub use events::{random_event, random_word};
 pub use large::push_large_certificate;
 pub use reading::{
-    certificate_of, equal_certificate, equal_tables, large_tables, random_tables,
-    small_certificate, small_tables, tables_of,
+    certificate_of, large_tables, random_tables, small_certificate, small_tables, tables_of,
 };
-pub use tables::{ROOMY, Shape, TIGHT};
+pub use tables::{ROOMY, Shape, TIGHT, push_tables};
 pub use texts::{push_filled, push_small_certificate, push_small_tables, value};

@@ -1,7 +1,6 @@
 //! The tables and certificates of texts.
 
 use crate::chance::Chance;
-use crate::equal::{push_equal_certificate, push_equal_tables};
 use crate::large::push_large_tables;
 use crate::tables::{Shape, push_tables};
 use crate::texts::{push_small_certificate, push_small_tables};
@@ -51,18 +50,4 @@ pub fn random_tables(
     let mut text = String::new(alloc);
     push_tables(&mut text, chance, shape)?;
     tables_of(alloc, text.as_str())
-}
-
-/// Tables of so many equal buses: of version 2 with policed buses, or of version 1.
-pub fn equal_tables(alloc: Global, buses: u32, policed: bool) -> Result<Tables, BuildError> {
-    let mut text = String::new(alloc);
-    push_equal_tables(&mut text, buses, policed)?;
-    tables_of(alloc, text.as_str())
-}
-
-/// Their certificate.
-pub fn equal_certificate(alloc: Global, buses: u32) -> Result<Certificate, CertFault> {
-    let mut text = String::new(alloc);
-    push_equal_certificate(&mut text, buses)?;
-    certificate_of(alloc, text.as_str())
 }
