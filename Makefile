@@ -1,11 +1,12 @@
-# `make run` shows the main job, `make build` proves and builds the program, `make test` is the whole gate.
+# `make run` shows the main job, `make build` proves and builds the program, `make test` is the whole gate, `make trials` tries the
+# built program.
 
 RT := rt
 
 # How many crates are proved side by side by `make build`: one a processor, at most four. Each takes 1 to 4 GB.
 JOBS := $(shell n=$$(nproc 2>/dev/null || echo 1); [ "$$n" -lt 4 ] || n=4; echo $$n)
 
-.PHONY: run build test edits edits-apply
+.PHONY: run build test trials edits edits-apply
 
 # Decodes one word, with no proof: about a minute from a fresh clone.
 run:
@@ -21,6 +22,13 @@ build:
 
 test:
 	@$(RT) ci
+
+# The built program on the rows of rows/, on texts by chance and of the largest sizes, at its edges, under refused memory and
+# failing devices: some minutes, no proof.
+trials: $(addprefix try-,rows chance crowds largest audits edges hostile pages refused)
+
+try-%:
+	@scripts/$*
 
 # The edits outside the gate, of one crate or of all: the prover must refuse each.
 edits:

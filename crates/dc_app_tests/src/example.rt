@@ -77,7 +77,7 @@ offsets = [0]               # the ticks of the frame in which the label is due
 /// The tables of a text are the small ones of the worked law, or they are not.
 fn says(rt: &impl Abort, alloc: Global, text: &str, small: bool) -> Result<(), Fail> {
     let tables = read_tables(alloc, text.as_bytes())?;
-    assert_eq!(rt; are_small(&tables), small);
+    assert!(rt; are_small(&tables) == small);
     Ok(())
 }
 

@@ -1,12 +1,8 @@
-//! Trials of the engines of the commands: whole texts of tables, certificates and traces in, lines and status out.
+//! Trials of the engines of the commands over devices in memory, and of calls that no command makes alone.
 #![tactic(auto)]
 
 #[cfg(test)]
-mod asking;
-#[cfg(test)]
 mod certificates;
-#[cfg(test)]
-mod conditions;
 #[cfg(test)]
 mod decodes;
 #[cfg(test)]
@@ -14,12 +10,6 @@ mod example;
 #[cfg(test)]
 mod finds;
 #[cfg(test)]
-mod large;
-#[cfg(test)]
 mod replays;
-#[cfg(test)]
-mod rows;
-#[cfg(test)]
-mod terminal;
 #[cfg(test)]
 mod verdicts;

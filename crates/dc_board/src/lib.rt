@@ -3,8 +3,6 @@
 
 mod limits;
 mod marks;
-#[cfg(test)]
-mod tests;
 mod view;
 
 pub use limits::MOST_WORDS;

@@ -18,6 +18,3 @@ pub use limits::{
     MOST_PLACES, MOST_SOURCES,
 };
 pub use service::{Paced, ServiceBound, Visits};
-
-#[cfg(test)]
-mod tests;

@@ -50,6 +50,3 @@ fn found_or_above(found: Option<u32>, ticks: u32, count: u64, limit: u64) -> Opt
     }
     found
 }
-
-#[cfg(test)]
-mod tests;

@@ -123,6 +123,3 @@ pub fn queue_law<A: ArrivalBound, S: ServiceBound>(
     ensures delay { QueueDelay (A.cap arrivals.now) (A.allows arrivals.now) (S.floor service.now) window delay }
     ensures in_time { QueueInTime (A.cap arrivals.now) (A.allows arrivals.now) (S.floor service.now) window delay }
 {}
-
-#[cfg(test)]
-mod tests;

@@ -11,8 +11,6 @@ mod names;
 mod queues;
 mod rules;
 mod small;
-#[cfg(test)]
-mod tests;
 
 pub use certified::Certified;
 pub use fault::{CertificateList, CheckFault, Condition};

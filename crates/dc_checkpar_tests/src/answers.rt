@@ -90,7 +90,7 @@ fn judges<R: Threads + Wait + Sync + Abort>(
             make(&mut certificate, *one);
         }
         let reported = answer(rt, alloc, tables, certificate, workers, &Open)?;
-        assert_eq!(rt; reported, wanted, "{workers} workers");
+        assert!(rt; reported == wanted, "{workers} workers");
     }
     Ok(())
 }
@@ -177,7 +177,7 @@ fn first_of_two<R: Threads + Wait + Sync + Abort>(
             make(&mut certificate, one);
         }
         let reported = answer(rt, alloc, tables, certificate, 4, &Open)?;
-        assert_eq!(rt; reported, refused(Condition::DelayTooSmall, 7, 1));
+        assert!(rt; reported == refused(Condition::DelayTooSmall, 7, 1));
     }
     Ok(())
 }
@@ -192,7 +192,7 @@ fn two_meet<R: Threads + Wait + Sync + Abort>(
         let certificate = certificate_of(alloc, MANY)?;
         let gate = Meeting::new();
         let reported = answer(rt, alloc, tables, certificate, workers, &gate)?;
-        assert_eq!(rt; reported, Ok(64), "{workers} workers");
+        assert!(rt; reported == Ok(64), "{workers} workers");
     }
     Ok(())
 }
@@ -209,11 +209,11 @@ fn lets_in<R: Threads + Wait + Sync + Abort>(
         let certificate = certificate_of(alloc, MANY)?;
         let gate = Counting::new(most);
         let reported = answer(rt, alloc, tables, certificate, workers, &gate)?;
-        assert_eq!(rt; reported, wanted, "{workers} workers");
+        assert!(rt; reported == wanted, "{workers} workers");
         let (entered, left) = gate.counts();
-        assert_eq!(rt; left, entered.min(most), "{workers} workers");
+        assert!(rt; left == entered.min(most), "{workers} workers");
         if reported.is_ok() {
-            assert_eq!(rt; entered, 66, "{workers} workers");
+            assert!(rt; entered == 66, "{workers} workers");
         }
     }
     Ok(())
@@ -278,7 +278,7 @@ fn says_the_same<R: Threads + Wait + Sync + Abort>(
         Err(fault) => Err(ParFault::Refused(fault)),
     };
     let reported = answer(rt, alloc, tables, certificate, workers, &Open)?;
-    assert_eq!(rt; reported, wanted, "{workers} workers");
+    assert!(rt; reported == wanted, "{workers} workers");
     Ok(())
 }
 

@@ -237,16 +237,3 @@ fn turn_outputs(outputs: &mut Vec<OutputState>)
         outputs[i].turn();
     }
 }
-
-#[cfg(test)]
-mod tests {
-    use super::*;
-
-    #[test]
-    fn sends_a_gap_apart_are_not_too_soon(rt: HostRuntime) {
-        assert!(rt; !is_soon(4, 0, None));
-        assert!(rt; is_soon(4, 7, Some(7)));
-        assert!(rt; is_soon(4, 10, Some(7)));
-        assert!(rt; !is_soon(4, 11, Some(7)));
-    }
-}

@@ -4,8 +4,6 @@
 mod device;
 mod memory;
 mod reader;
-#[cfg(test)]
-mod tests;
 mod whole;
 mod wrappers;
 mod writer;

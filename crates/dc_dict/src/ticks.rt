@@ -94,37 +94,3 @@ pub fn out_ticks(row: &Parameter, tick_us: u32) -> Result<Interval, DictFault>
         max,
     })
 }
-
-#[cfg(test)]
-mod tests {
-    use super::*;
-    use crate::parameter::Equipment;
-    use dc_word::{Format, Label};
-    use std::test::Fail;
-
-    #[test]
-    fn intervals_lean_to_the_safe_side(rt: HostRuntime) -> Result<(), Fail> {
-        let row = Parameter {
-            label: Label::new(0o203).ok_or("no label")?,
-            equipment: Equipment::new(0x001).ok_or("no equipment")?,
-            format: Format::Bnr,
-            min_us: 10_000,
-            max_us: 20_000,
-        };
-        assert_eq!(rt; in_minimum(10_000, 3000), 3);
-        assert_eq!(rt; in_maximum(20_000, 3000), 7);
-        assert_eq!(rt; jitter_ticks(0, 1000), 0);
-        assert_eq!(rt; jitter_ticks(1, 1000), 1);
-        assert_eq!(rt; jitter_ticks(10_000, 1000), 10);
-        assert_eq!(rt; out_minimum(10_000, 3000), 5);
-        assert_eq!(rt; out_maximum(20_000, 3000), 5);
-        assert_eq!(rt; in_ticks(&row, 1000), Ok(Interval { min: 10, max: 20 }));
-        assert_eq!(rt; in_ticks(&row, 3000), Ok(Interval { min: 3, max: 7 }));
-        assert_eq!(rt; in_ticks(&row, 10_001), Err(DictFault::NoTicks));
-        assert_eq!(rt; out_ticks(&row, 1000), Ok(Interval { min: 11, max: 19 }));
-        assert_eq!(rt; out_ticks(&row, 10_000), Err(DictFault::NoTicks));
-        assert_eq!(rt; DictFault::NoTicks.code(), 4);
-        assert_eq!(rt; row.equipment.code(), 1);
-        Ok(())
-    }
-}

@@ -108,7 +108,7 @@ fn watches<L: Ledger + Send + Sync, R: Threads + Wait + Abort + Sync>(
     let script = Script::bench(alloc, &tables, TICKS)?;
     let (hub, seats) = opened::<L>(alloc, blank, certified)?;
     let (seats, answer, fell) = watched(rt, alloc, &tables, &hub, seats, &script);
-    assert_eq!(rt; answer, Ok(()));
+    assert!(rt; answer == Ok(()));
     assert!(rt; !fell);
     judge_closed(rt, alloc, hub.close(seats), &script, None)
 }
@@ -184,6 +184,6 @@ fn draws_under_load<R: Threads + Wait + Abort + Sync>(rt: &R, alloc: Global) -> 
 #[test]
 fn hubs_of_random_tables_run(rt: HostRuntime) -> Result<(), Fail> {
     let count = draws_under_load(&rt, rt.alloc())?;
-    assert_eq!(&rt; count, DRIVES);
+    assert!(&rt; count == DRIVES);
     Ok(())
 }

@@ -36,7 +36,7 @@ fn are_in_their_ticks<R: Abort>(rt: &R, closed: &Closed, script: &Script) {
                 let words = script.words(bus);
                 assert!(rt; next[bus] < words.len());
                 if next[bus] < words.len() {
-                    assert_eq!(rt; words[next[bus]], Timed { tick, word });
+                    assert!(rt; words[next[bus]] == Timed { tick, word });
                     next[bus] += 1;
                 }
             }
@@ -62,15 +62,15 @@ fn keeps_all<R: Abort>(
     run: &[Event],
 ) -> Result<(), Fail> {
     let tables = certified.tables();
-    assert_eq!(rt; keeps_budgets(alloc, tables, run)?, None);
-    assert_eq!(rt; keeps_sources(alloc, tables, run)?, None);
-    assert_eq!(rt; claims(alloc, tables, certified.certificate(), run)?, None);
+    assert!(rt; keeps_budgets(alloc, tables, run)?.is_none());
+    assert!(rt; keeps_sources(alloc, tables, run)?.is_none());
+    assert!(rt; claims(alloc, tables, certified.certificate(), run)?.is_none());
     Ok(())
 }
 
 /// What a book holds: no overrun, each word in its tick, and what the certificate claims.
 fn judge<R: Abort>(rt: &R, alloc: Global, closed: &Closed, script: &Script) -> Result<(), Fail> {
-    assert_eq!(rt; closed.overruns(), 0);
+    assert!(rt; closed.overruns() == 0);
     are_in_their_ticks(rt, closed, script);
     let events = events(alloc, closed)?;
     keeps_all(rt, alloc, closed.certified(), &events)
@@ -87,7 +87,7 @@ pub fn judge_closed<R: Abort>(
 ) -> Result<(), Fail> {
     let closed = closed?;
     if let Some(entries) = entries {
-        assert_eq!(rt; closed.entries().len(), entries);
+        assert!(rt; closed.entries().len() == entries);
         let mark = closed.marks()[0];
         assert!(rt; mark == 1 || mark == 2);
     }
@@ -135,11 +135,11 @@ fn drives<L: Ledger + Send + Sync, R: Threads + Wait + Abort + Sync, G: Gate>(
     let answer = drive(rt, alloc, &tables, &hub, &mut seats, &script, gate);
     match wanted {
         Ok(entries) => {
-            assert_eq!(rt; answer, Ok(()));
+            assert!(rt; answer == Ok(()));
             judge_closed(rt, alloc, hub.close(seats), &script, entries)
         }
         Err(fault) => {
-            assert_eq!(rt; answer, Err(fault));
+            assert!(rt; answer == Err(fault));
             assert!(rt; hub.close(seats).is_ok());
             Ok(())
         }
@@ -212,6 +212,6 @@ fn a_gate_is_stuck_for_one_seat(rt: HostRuntime) -> Result<(), Fail> {
 fn each_step_enters_and_leaves(rt: HostRuntime) -> Result<(), Fail> {
     let gate = Counting::new(1000);
     runs_equal(&rt, rt.alloc(), 1, false, 30, &gate, Ok(Some(126)))?;
-    assert_eq!(&rt; gate.counts(), (126, 126));
+    assert!(&rt; gate.counts() == (126, 126));
     Ok(())
 }

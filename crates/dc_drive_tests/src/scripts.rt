@@ -9,11 +9,11 @@ use std::test::Fail;
 
 /// The first four words of bus A, and how many there are in 200 ticks.
 fn compare<R: Abort>(rt: &R, script: &Script) {
-    assert_eq!(rt; script.ticks(), 200);
-    assert_eq!(rt; script.bus_count(), 1);
+    assert!(rt; script.ticks() == 200);
+    assert!(rt; script.bus_count() == 1);
     if script.bus_count() == 1 {
         let words = script.words(0);
-        assert_eq!(rt; words.len(), 40);
+        assert!(rt; words.len() == 40);
         let first = [
             Timed {
                 tick: 0,
@@ -33,7 +33,7 @@ fn compare<R: Abort>(rt: &R, script: &Script) {
             },
         ];
         for (wanted, word) in first.iter().zip(words) {
-            assert_eq!(rt; *word, *wanted);
+            assert!(rt; *word == *wanted);
         }
     }
 }

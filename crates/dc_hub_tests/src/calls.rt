@@ -147,12 +147,12 @@ fn two_words<L: Ledger, R: Wait + Abort>(rt: &R, alloc: Global, blank: Blank) ->
         16,
     )?;
     let mut early = hub.split(&mut seats.watch);
-    assert_eq!(rt; hub.read(&mut seats.watch, 0), 0);
+    assert!(rt; hub.read(&mut seats.watch, 0) == 0);
     assert!(rt; arrive(rt, &hub, &mut seats.wires, 0, FIRST).is_ok());
     assert!(rt; arrive(rt, &hub, &mut seats.wires, 0, SECOND).is_ok());
-    assert_eq!(rt; hub.read(&mut seats.watch, 0), 2);
-    assert_eq!(rt; hub.read(&mut early, 0), 2);
-    assert_eq!(rt; hub.read(&mut early, 1), 0);
+    assert!(rt; hub.read(&mut seats.watch, 0) == 2);
+    assert!(rt; hub.read(&mut early, 0) == 2);
+    assert!(rt; hub.read(&mut early, 1) == 0);
     Ok(())
 }
 
@@ -174,7 +174,7 @@ fn does_not_open<L: Ledger, R: Abort>(
 {
     let certified = small_certified(alloc).ok_or("no tables")?;
     let fault = Hub::<L>::open(alloc, blank, certified, limit).err();
-    assert_eq!(rt; fault, Some(OpenFault::TraceLimit), "{limit}");
+    assert!(rt; fault == Some(OpenFault::TraceLimit), "{limit}");
     Ok(())
 }
 

@@ -157,7 +157,7 @@ fn compare<L: Ledger, R: Wait + Abort>(
 {
     let mut calls = 0;
     for step in steps {
-        assert_eq!(rt; call(rt, hub, seats, &step.0), expected(&mut calls, step));
+        assert!(rt; call(rt, hub, seats, &step.0) == expected(&mut calls, step));
     }
 }
 
@@ -219,6 +219,6 @@ pub fn answers<L: Ledger, R: Wait + Abort>(
     )?;
     compare(rt, &hub, &mut seats, steps);
     spoil(&mut seats.clock, end);
-    assert_eq!(rt; closed(hub, seats), wanted);
+    assert!(rt; closed(hub, seats) == wanted);
     Ok(())
 }

@@ -1,18 +1,16 @@
-//! Recorded runs, and what the second opinion says to them. Random runs of random small tables: the concentrator and the second opinion give the same replies and refusals. Floods
-//! of words on policed buses, which overrun no queue.
+//! The concentrator and the second opinion give the same replies and refusals, on worked runs and on random runs of random
+//! small tables. Steady runs keep the budgets. Traces are read in pieces of any size, up to their limit or a failure.
 #![tactic(auto)]
 
 #[cfg(test)]
-mod claimed;
-#[cfg(test)]
 mod fixture;
-#[cfg(test)]
-mod floods;
 #[cfg(test)]
 mod judging;
 #[cfg(test)]
 mod recorded;
 #[cfg(test)]
 mod runs;
+#[cfg(test)]
+mod traces;
 #[cfg(test)]
 mod worked;

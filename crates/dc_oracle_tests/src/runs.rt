@@ -81,10 +81,10 @@ fn refused(
     event: &Event,
     fault: &StepFault,
 ) -> Result<(), AllocError> {
-    assert_eq!(rt; refusal(tables, run.as_slice(), event), Some(*fault));
+    assert!(rt; refusal(tables, run.as_slice(), event) == Some(*fault));
     if *fault != StepFault::Unknown {
         let wanted = run.len().checked_add(1);
-        assert_eq!(rt; break_with(alloc, tables, run, event)?, wanted);
+        assert!(rt; break_with(alloc, tables, run, event)? == wanted);
     }
     Ok(())
 }
@@ -117,9 +117,9 @@ pub fn agrees(
     recording: &Recording,
 ) -> Result<(), AllocError> {
     let run = recording.run.as_slice();
-    assert_eq!(rt; keeps_budgets(alloc, tables, run)?, None);
+    assert!(rt; keeps_budgets(alloc, tables, run)?.is_none());
     let reported = outputs(alloc, tables, run)?;
-    assert_eq!(rt; reported.as_slice(), recording.replies.as_slice());
+    assert!(rt; reported.as_slice() == recording.replies.as_slice());
     Ok(())
 }
 

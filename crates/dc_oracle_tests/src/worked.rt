@@ -74,29 +74,8 @@ fn run_all(rt: &impl Abort, alloc: Global, queue: &str, offsets: &str) -> Result
 
 #[test]
 fn the_second_opinion_agrees_on_worked_runs(rt: HostRuntime) -> Result<(), Fail> {
-    assert_eq!(rt; run_all(&rt, rt.alloc(), "2", "0")?, 62);
-    assert_eq!(rt; run_all(&rt, rt.alloc(), "1", "0")?, 62);
-    assert_eq!(rt; run_all(&rt, rt.alloc(), "2", "1,0")?, 62);
-    Ok(())
-}
-
-/// A word comes before the step of this tick, counted from 0. In each tick there are a step, a send and a Tick.
-fn push_ticks(text: &mut String, arrival: u32) -> Result<(), AllocError> {
-    for tick in 0..31 {
-        if tick == arrival {
-            text.push_str("A A 600000C1\n")?;
-        }
-        text.push_str("R R1\nR R1\nS O\nT\n")?;
-    }
-    Ok(())
-}
-
-#[test]
-fn the_second_opinion_agrees_on_words_that_grow_stale(rt: HostRuntime) -> Result<(), Fail> {
-    for arrival in 7..9 {
-        let mut trace = String::new(rt.alloc());
-        push_ticks(&mut trace, arrival)?;
-        assert_eq!(rt; run_small(&rt, rt.alloc(), "2", "0", trace.as_str())?, 125);
-    }
+    assert!(rt; run_all(&rt, rt.alloc(), "2", "0")? == 62);
+    assert!(rt; run_all(&rt, rt.alloc(), "1", "0")? == 62);
+    assert!(rt; run_all(&rt, rt.alloc(), "2", "1,0")? == 62);
     Ok(())
 }

@@ -85,26 +85,3 @@ impl WordQueue {
         self.words.pop_front()
     }
 }
-
-#[cfg(test)]
-mod tests {
-    use super::*;
-    use std::test::Fail;
-
-    #[test]
-    fn first_in_first_out(rt: HostRuntime) -> Result<(), Fail> {
-        let mut queue = WordQueue::new(rt.alloc(), 2)?;
-        assert!(rt; queue.is_empty());
-        assert_eq!(rt; queue.put(Word(7)), Ok(1));
-        assert_eq!(rt; queue.put(Word(8)), Ok(2));
-        assert_eq!(rt; queue.put(Word(9)), Err(Full));
-        assert_eq!(rt; queue.len(), 2);
-        assert_eq!(rt; queue.take(), Some(Word(7)));
-        assert_eq!(rt; queue.put(Word(9)), Ok(2));
-        assert_eq!(rt; queue.take(), Some(Word(8)));
-        assert_eq!(rt; queue.take(), Some(Word(9)));
-        assert_eq!(rt; queue.take(), None);
-        assert!(rt; queue.is_empty());
-        Ok(())
-    }
-}

@@ -5,15 +5,15 @@ use dc_event::Event;
 use dc_tables::Tables;
 use dc_word::Word;
 
-/// The number of one of so many, or, once in a while, the first that is not there.
+// The number of one of so many, or, once in a while, the first that is not there.
 fn number(chance: &mut Chance, count: usize) -> usize {
     let cases = u32::try_from(count).unwrap_or(0).saturating_mul(16);
     let number = chance.below(cases.saturating_add(1)) / 16;
     number as usize
 }
 
-/// A word of label 203, 204, 205 or 206, mostly of odd parity.
-pub fn random_word(chance: &mut Chance) -> Word {
+// A word of label 203, 204, 205 or 206, mostly of odd parity.
+fn random_word(chance: &mut Chance) -> Word {
     let label = match chance.below(8) {
         0 => 0x61,
         1 => 0x21,

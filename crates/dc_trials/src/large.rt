@@ -1,5 +1,5 @@
-//! The text of tables of 64 buses of 16 streams, each with a router of its own, and of one output, by rows of values; and of
-//! their least certificate.
+//! The text of tables of 64 buses of 16 streams, each with a router of its own, and of one output, by rows of
+//! values.
 
 use crate::texts::push_filled;
 use std::alloc::AllocError;
@@ -58,11 +58,6 @@ age = 40
 offsets = [0]
 ";
 
-const INPUT_CLAIM: &str = "{\"backlog\":9,\"bus\":\"B<bus>\",\"delay\":4,\"window\":9},";
-
-const LAST_CLAIMS: &str =
-    "{\"backlog\":<backlog=9>,\"bus\":\"B63\",\"delay\":<delay=4>,\"window\":<window=9>}],\"labels\":[{\"age\":<age=30>,\"label\":\"x\"}],\"outputs\":[{\"delay\":2,\"output\":\"O\",\"window\":3}],\"version\":1}";
-
 /// Adds the parameters.
 fn push_parameters(text: &mut String) -> Result<(), AllocError> {
     for label in LABELS.split(' ') {
@@ -103,13 +98,4 @@ pub fn push_large_tables(text: &mut String, row: &str) -> Result<(), AllocError>
     push_buses(text, row)?;
     push_routers(text)?;
     text.push_str(OUTPUT)
-}
-
-/// Adds their least certificate to a text, with the values of a row for the last bus and the label.
-pub fn push_large_certificate(text: &mut String, row: &str) -> Result<(), AllocError> {
-    text.push_str("{\"inputs\":[")?;
-    for bus in BUSES.split(' ') {
-        push_filled(text, INPUT_CLAIM, "", bus, "")?;
-    }
-    push_filled(text, LAST_CLAIMS, row, "", "")
 }

@@ -13,10 +13,7 @@ mod texts;
 
 pub use chance::Chance;
 pub use equal::{push_equal_certificate, push_equal_tables};
-pub use events::{random_event, random_word};
-pub use large::push_large_certificate;
-pub use reading::{
-    certificate_of, large_tables, random_tables, small_certificate, small_tables, tables_of,
-};
+pub use events::random_event;
+pub use reading::{certificate_of, large_tables, random_tables, small_tables, tables_of};
 pub use tables::{ROOMY, Shape, TIGHT, push_tables};
-pub use texts::{push_filled, push_small_certificate, push_small_tables, value};
+pub use texts::{push_small_certificate, push_small_tables};

@@ -3,7 +3,7 @@
 use crate::chance::Chance;
 use crate::large::push_large_tables;
 use crate::tables::{Shape, push_tables};
-use crate::texts::{push_small_certificate, push_small_tables};
+use crate::texts::push_small_tables;
 use dc_cert::{CertFault, Certificate, read_cert};
 use dc_parts::BuildError;
 use dc_tables::Tables;
@@ -25,13 +25,6 @@ pub fn small_tables(alloc: Global, row: &str) -> Result<Tables, BuildError> {
     let mut text = String::new(alloc);
     push_small_tables(&mut text, row)?;
     tables_of(alloc, text.as_str())
-}
-
-/// Their certificate with the values of a row.
-pub fn small_certificate(alloc: Global, row: &str) -> Result<Certificate, CertFault> {
-    let mut text = String::new(alloc);
-    push_small_certificate(&mut text, row)?;
-    certificate_of(alloc, text.as_str())
 }
 
 /// The large tables with the values of a row.

@@ -71,18 +71,3 @@ impl Sdi {
         number
     }
 }
-
-#[cfg(test)]
-mod tests {
-    use super::*;
-    use std::test::Fail;
-
-    #[test]
-    fn numbers_of_labels_and_sdis(rt: HostRuntime) -> Result<(), Fail> {
-        assert_eq!(rt; Label::new(0), None);
-        assert_eq!(rt; Label::new(0o377).ok_or("no label")?.number(), 255);
-        assert_eq!(rt; Sdi::new(3).ok_or("no SDI")?.number(), 3);
-        assert_eq!(rt; Sdi::new(4), None);
-        Ok(())
-    }
-}

@@ -57,31 +57,3 @@ impl Format {
         }
     }
 }
-
-#[cfg(test)]
-mod tests {
-    use super::*;
-
-    #[test]
-    fn table_of_the_sign_status_matrix(rt: HostRuntime) {
-        let table = [
-            (Format::Bnr, 0, Status::FailureWarning, false),
-            (Format::Bnr, 1, Status::NoComputedData, false),
-            (Format::Bnr, 2, Status::FunctionalTest, false),
-            (Format::Bnr, 3, Status::Normal, true),
-            (Format::Bcd, 0, Status::Plus, true),
-            (Format::Bcd, 1, Status::NoComputedData, false),
-            (Format::Bcd, 2, Status::FunctionalTest, false),
-            (Format::Bcd, 3, Status::Minus, true),
-            (Format::Disc, 0, Status::Verified, true),
-            (Format::Disc, 1, Status::NoComputedData, false),
-            (Format::Disc, 2, Status::FunctionalTest, false),
-            (Format::Disc, 3, Status::FailureWarning, false),
-        ];
-        for (format, ssm, status, usable) in table {
-            assert!(rt; ssm < 4);
-            assert_eq!(rt; format.status(ssm), status, "{format:?} {ssm}");
-            assert_eq!(rt; format.is_usable(ssm), usable, "{format:?} {ssm}");
-        }
-    }
-}

@@ -1,9 +1,9 @@
 //! What each reader of tables answers, as lines of a text. A row that is not there has no line.
 
-use super::super::{label, name, sdi};
+use super::super::name;
 use dc_bound::{ArrivalBound, LONGEST_SPAN, ServiceBound};
 use dc_parts::Name;
-use dc_tables::{Entry, Numbers, Stream, Tables};
+use dc_tables::{Numbers, Stream, Tables};
 use dc_word::Word;
 use std::alloc::AllocError;
 use std::test::Fail;
@@ -19,12 +19,12 @@ pub struct Asked {
     pub cursors: &'static [usize],
     /// Names, one a line.
     pub names: &'static str,
-    /// Words by bus and label.
-    pub words: &'static [(usize, u8)],
-    /// Labels that each stream of the first bus is asked for.
-    pub declared: &'static [u8],
-    /// What is received, by bus and ticks.
-    pub received: &'static [(usize, u32)],
+    /// Bits of words, each with the bus that is asked for its stream.
+    pub words: &'static [(usize, u32)],
+    /// Bits of words that each stream of the first bus is asked for.
+    pub declared: &'static [u32],
+    /// The ticks in which each of these buses receives.
+    pub received: &'static [u32],
     /// The ticks in which the first output sends.
     pub sent: &'static [u32],
 }
@@ -36,19 +36,22 @@ fn write_name(text: &mut String, name: &Name) -> Result<(), AllocError> {
     Ok(())
 }
 
-// One of the counts or numbers of a line.
-fn write_count(text: &mut String, kind: &str, number: usize) -> Result<(), AllocError> {
-    write!(text, " {kind} {number}")
+// How many there are of a kind, or the number of one, where there is one.
+fn write_number(text: &mut String, kind: &str, number: Option<usize>) -> Result<(), AllocError> {
+    match number {
+        None => Ok(()),
+        Some(number) => write!(text, " {kind} {number}"),
+    }
 }
 
 fn write_counts(text: &mut String, tables: &Tables) -> Result<(), AllocError> {
     write!(text, "tick {}", tables.tick_us())?;
-    write_count(text, "parameters", tables.parameter_count())?;
-    write_count(text, "buses", tables.bus_count())?;
-    write_count(text, "streams", tables.stream_count())?;
-    write_count(text, "routers", tables.router_count())?;
-    write_count(text, "outputs", tables.output_count())?;
-    write_count(text, "labels", tables.label_count())?;
+    write_number(text, "parameters", Some(tables.parameter_count()))?;
+    write_number(text, "buses", Some(tables.bus_count()))?;
+    write_number(text, "streams", Some(tables.stream_count()))?;
+    write_number(text, "routers", Some(tables.router_count()))?;
+    write_number(text, "outputs", Some(tables.output_count()))?;
+    write_number(text, "labels", Some(tables.label_count()))?;
     text.push_str("\n")
 }
 
@@ -173,13 +176,6 @@ fn write_visit(
     write!(text, "  at {cursor} bus {bus} then {next}\n")
 }
 
-fn write_entries(text: &mut String, entries: &[Entry]) -> Result<(), AllocError> {
-    for entry in entries {
-        write!(text, ", label {} at {}", entry.label, entry.offset)?;
-    }
-    text.push_str("\n")
-}
-
 fn write_output(text: &mut String, tables: &Tables, output: usize) -> Result<(), AllocError> {
     if output >= tables.output_count() {
         return Ok(());
@@ -198,15 +194,25 @@ fn write_output(text: &mut String, tables: &Tables, output: usize) -> Result<(),
         row.entries.len(),
         row.entries.is_empty()
     )?;
-    write_entries(text, row.entries.as_slice())
+    for entry in row.entries.as_slice() {
+        write!(text, ", label {} at {}", entry.label, entry.offset)?;
+    }
+    text.push_str("\n")
 }
 
-// What a label is, takes from and keeps.
-fn write_label_row(text: &mut String, tables: &Tables, label: usize) -> Result<(), AllocError> {
+fn write_label(text: &mut String, tables: &Tables, label: usize) -> Result<(), AllocError> {
     if label >= tables.label_count() {
         return Ok(());
     }
     let row = tables.label(label);
+    write!(text, "label {label} ")?;
+    write_name(text, tables.label_name(label))?;
+    write!(
+        text,
+        " equipment {} offsets {:?}",
+        tables.label_equipment(label).code(),
+        tables.label_offsets(label)
+    )?;
     write!(
         text,
         " output {} label {:o} sdi {} {:?} stale {} age {} every {}..{} sources",
@@ -219,31 +225,8 @@ fn write_label_row(text: &mut String, tables: &Tables, label: usize) -> Result<(
         row.minimum,
         row.maximum
     )?;
-    write_numbers(text, &row.sources)
-}
-
-fn write_label(text: &mut String, tables: &Tables, label: usize) -> Result<(), AllocError> {
-    if label >= tables.label_count() {
-        return Ok(());
-    }
-    write!(text, "label {label} ")?;
-    write_name(text, tables.label_name(label))?;
-    write!(
-        text,
-        " equipment {} offsets {:?}",
-        tables.label_equipment(label).code(),
-        tables.label_offsets(label)
-    )?;
-    write_label_row(text, tables, label)?;
+    write_numbers(text, &row.sources)?;
     text.push_str("\n")
-}
-
-// The number of a row of this kind, where there is one.
-fn write_number(text: &mut String, kind: &str, number: Option<usize>) -> Result<(), AllocError> {
-    match number {
-        None => Ok(()),
-        Some(number) => write_count(text, kind, number),
-    }
 }
 
 // Which row of each kind has a name.
@@ -255,38 +238,32 @@ fn write_named(text: &mut String, tables: &Tables, named: &Name) -> Result<(), A
     write_number(text, "label", tables.label_named(named))
 }
 
-// A word of this label.
-fn word(number: u8) -> Result<Word, Fail> {
-    Ok(Word::compose(label(number)?, sdi(2)?, 7, 3))
-}
-
-// Which stream of a bus declares a word of this label.
-fn write_found(text: &mut String, tables: &Tables, bus: usize, label: u8) -> Result<(), Fail> {
-    let stream = tables.stream_of(bus, word(label)?);
+// Which stream of a bus declares a word.
+fn write_found(
+    text: &mut String,
+    tables: &Tables,
+    bus: usize,
+    word: Word,
+) -> Result<(), AllocError> {
+    let label = word.label_number();
+    let stream = tables.stream_of(bus, word);
     write!(text, "word {label:o} on bus {bus}:")?;
     write_number(text, "stream", stream)?;
-    text.push_str("\n")?;
-    Ok(())
+    text.push_str("\n")
 }
 
-// Which of some streams declare a word, on the first bus and on the second.
-fn write_declaring(text: &mut String, streams: &[Stream], word: Word) -> Result<(), AllocError> {
-    for stream in streams {
+// Which streams of the first bus declare a word, on that bus and on the second.
+fn write_declared(text: &mut String, tables: &Tables, word: Word) -> Result<(), AllocError> {
+    if tables.bus_count() == 0 {
+        return Ok(());
+    }
+    for stream in tables.bus_streams(0) {
         write!(
             text,
             "declares on bus 0 {} on bus 1 {}\n",
             stream.declares(0, word),
             stream.declares(1, word)
         )?;
-    }
-    Ok(())
-}
-
-// Which streams of the first bus declare a word of this label.
-fn write_declared(text: &mut String, tables: &Tables, label: u8) -> Result<(), Fail> {
-    let word = word(label)?;
-    if tables.bus_count() > 0 {
-        write_declaring(text, tables.bus_streams(0), word)?;
     }
     Ok(())
 }
@@ -316,7 +293,8 @@ fn write_sent(text: &mut String, tables: &Tables, ticks: u32) -> Result<(), Allo
     write!(text, "in {ticks} output 0 is due {most} sends {least}\n")
 }
 
-fn write_inputs(text: &mut String, tables: &Tables, asked: &Asked) -> Result<(), AllocError> {
+// The rows that are asked, and the first output and label.
+fn write_rows(text: &mut String, tables: &Tables, asked: &Asked) -> Result<(), AllocError> {
     for parameter in asked.parameters {
         write_parameter(text, tables, *parameter)?;
     }
@@ -326,51 +304,28 @@ fn write_inputs(text: &mut String, tables: &Tables, asked: &Asked) -> Result<(),
     for stream in asked.streams {
         write_stream(text, tables, *stream)?;
     }
-    Ok(())
-}
-
-fn write_routers(text: &mut String, tables: &Tables, asked: &Asked) -> Result<(), AllocError> {
     for router in asked.routers {
         write_router(text, tables, *router)?;
         for cursor in asked.cursors {
             write_visit(text, tables, *router, *cursor)?;
         }
     }
-    Ok(())
+    write_output(text, tables, 0)?;
+    write_label(text, tables, 0)
 }
 
-fn write_outputs(text: &mut String, tables: &Tables) -> Result<(), AllocError> {
-    for output in 0..tables.output_count() {
-        write_output(text, tables, output)?;
-    }
-    for label in 0..tables.label_count() {
-        write_label(text, tables, label)?;
-    }
-    Ok(())
-}
-
-// The rows of names and of words.
+// Which rows have a name, and which streams declare a word.
 fn write_searches(text: &mut String, tables: &Tables, asked: &Asked) -> Result<(), Fail> {
     for row in asked.names.lines() {
         write!(text, "named {row}:")?;
         write_named(text, tables, &name(row)?)?;
         text.push_str("\n")?;
     }
-    for (bus, label) in asked.words {
-        write_found(text, tables, *bus, *label)?;
+    for (bus, word) in asked.words {
+        write_found(text, tables, *bus, Word(*word))?;
     }
-    for label in asked.declared {
-        write_declared(text, tables, *label)?;
-    }
-    Ok(())
-}
-
-fn write_bounds(text: &mut String, tables: &Tables, asked: &Asked) -> Result<(), AllocError> {
-    for (bus, ticks) in asked.received {
-        write_received(text, tables, *bus, *ticks)?;
-    }
-    for ticks in asked.sent {
-        write_sent(text, tables, *ticks)?;
+    for word in asked.declared {
+        write_declared(text, tables, Word(*word))?;
     }
     Ok(())
 }
@@ -378,10 +333,15 @@ fn write_bounds(text: &mut String, tables: &Tables, asked: &Asked) -> Result<(),
 /// Adds what tables answer.
 pub fn write_answers(text: &mut String, tables: &Tables, asked: &Asked) -> Result<(), Fail> {
     write_counts(text, tables)?;
-    write_inputs(text, tables, asked)?;
-    write_routers(text, tables, asked)?;
-    write_outputs(text, tables)?;
+    write_rows(text, tables, asked)?;
     write_searches(text, tables, asked)?;
-    write_bounds(text, tables, asked)?;
+    for bus in asked.buses {
+        for ticks in asked.received {
+            write_received(text, tables, *bus, *ticks)?;
+        }
+    }
+    for ticks in asked.sent {
+        write_sent(text, tables, *ticks)?;
+    }
     Ok(())
 }

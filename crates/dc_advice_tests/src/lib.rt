@@ -1,7 +1,0 @@
-//! Whole texts through the engine of `margins`.
-#![tactic(auto)]
-
-#[cfg(test)]
-mod asking;
-#[cfg(test)]
-mod small;

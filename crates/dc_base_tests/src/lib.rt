@@ -1,0 +1,17 @@
+//! Tests of the lowest crates: words, parameters, devices, queues, bounds, windows and the board.
+#![tactic(auto)]
+
+#[cfg(test)]
+mod board;
+#[cfg(test)]
+mod bounds;
+#[cfg(test)]
+mod devices;
+#[cfg(test)]
+mod parameters;
+#[cfg(test)]
+mod queues;
+#[cfg(test)]
+mod windows;
+#[cfg(test)]
+mod words;

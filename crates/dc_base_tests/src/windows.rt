@@ -1,0 +1,268 @@
+//! Worked windows, the dense searches, and the number of calls of a long search.
+
+ghost use Rattle.std.specs.Prelude.{◌≡◌, ℕ, ◌+◌, ◌^◌, ◌≤◌, ◌++◌, List, [], ◌∷◌};
+ghost use Rattle.dc_bound.specs.Window.{count_in, ticks_of, IsNextJump};
+ghost use Rattle.dc_bound.specs.Moves.{routed_tick, passed};
+ghost use Rattle.dc_bound.specs.Moves.Move.{Tick, In, Visit};
+
+use dc_bound::{
+    ArrivalBound, Both, Capped, Cyclic, Jittered, Paced, ServiceBound, Sporadic, SumOf, Visits,
+    Wire,
+};
+use dc_busy::{
+    backlog_fails, closes, delay_fails, failures_between, first_failures, least_delay,
+    least_window, most_backlog, queue_law,
+};
+use std::cell::Cell;
+use std::process::Abort;
+
+// `backlog_fails`, where each number of ticks is looked at.
+fn backlog_fails_densely<A: ArrivalBound, S: ServiceBound>(
+    arrivals: &A,
+    service: &S,
+    window: u32,
+    backlog: u64,
+) -> Option<u32>
+    requires { window ≤ 100000 }
+{
+    for ticks in 1..=window {
+        let visits = service.at_least(ticks.saturating_sub(2));
+        if arrivals.at_most(ticks).saturating_sub(visits) > backlog {
+            return Some(ticks);
+        }
+    }
+    None
+}
+
+// `delay_fails`, where each number of ticks is looked at.
+fn delay_fails_densely<A: ArrivalBound, S: ServiceBound>(
+    arrivals: &A,
+    service: &S,
+    window: u32,
+    delay: u32,
+) -> Option<u32>
+    requires window { window ≤ 100000 }
+    requires delay { delay ≤ 100000 }
+{
+    for ticks in 1..=window {
+        if arrivals.at_most(ticks) > service.at_least(ticks - 1 + delay) {
+            return Some(ticks);
+        }
+    }
+    None
+}
+
+// The searches by jumps and the dense ones agree at each small window, backlog and delay.
+fn assert_same<A: ArrivalBound, S: ServiceBound>(rt: &impl Abort, arrivals: &A, service: &S) {
+    for window in 1..40 {
+        for bound in 0..12 {
+            let backlog = bound as u64;
+            let overfull = backlog_fails(arrivals, service, window, backlog);
+            let overdue = delay_fails(arrivals, service, window, bound);
+            assert!(rt;
+                overfull == backlog_fails_densely(arrivals, service, window, backlog),
+                "backlog {backlog} in {window}"
+            );
+            assert!(rt;
+                overdue == delay_fails_densely(arrivals, service, window, bound),
+                "delay {bound} in {window}"
+            );
+            let both = first_failures(arrivals, service, window, backlog, bound);
+            assert!(rt; both == (overfull, overdue), "{bound} in {window}");
+        }
+    }
+}
+
+// The first window up to `longest` that closes, where each is looked at.
+fn least_window_densely<A: ArrivalBound, S: ServiceBound>(
+    arrivals: &A,
+    service: &S,
+    longest: u32,
+) -> Option<u32>
+    requires { longest ≤ 100000 }
+{
+    for window in 1..=longest {
+        if closes(arrivals, service, window) {
+            return Some(window);
+        }
+    }
+    None
+}
+
+// In each small window the least numbers pass, and one less fails.
+fn assert_least<A: ArrivalBound, S: ServiceBound>(rt: &impl Abort, arrivals: &A, service: &S) {
+    assert!(rt; least_window(arrivals, service) == least_window_densely(arrivals, service, 1000));
+    for window in 1..40 {
+        let backlog = most_backlog(arrivals, service, window);
+        assert!(rt; backlog_fails(arrivals, service, window, backlog).is_none());
+        if backlog > 0 {
+            let lower = backlog_fails(arrivals, service, window, backlog - 1);
+            assert!(rt; lower.is_some(), "backlog {backlog} in {window}");
+        }
+        let delay = least_delay(arrivals, service, window).expect(rt, "a delay");
+        assert!(rt; delay <= 100_000);
+        assert!(rt; delay_fails(arrivals, service, window, delay).is_none());
+        if delay > 0 {
+            let lower = delay_fails(arrivals, service, window, delay - 1);
+            assert!(rt; lower.is_some(), "delay {delay} in {window}");
+        }
+    }
+}
+
+// A bound that counts the calls of its cap.
+#[derive(Drop)]
+struct Counted<'a, A: ArrivalBound> {
+    inner: &'a A,
+    calls: Cell<u64>,
+}
+
+impl<'a, A: ArrivalBound> ArrivalBound for Counted<'a, A> {
+    ghost cap = { λ x d. A.cap x.inner.now d };
+
+    ghost allows = { λ x xs. A.allows x.inner.now xs };
+
+    fn at_most(&self, d: u32) -> u64 {
+        self.calls.set(self.calls.get().wrapping_add(1));
+        self.inner.at_most(d)
+    }
+
+    fn at_most_and_jump(&self, d: u32) -> (u64, Option<u32>) {
+        self.calls.set(self.calls.get().wrapping_add(1));
+        self.inner.at_most_and_jump(d)
+    }
+
+    ghost cap_zero = { λ x. A.cap_zero x.inner.now };
+
+    ghost cap_monotone = { λ x d e h. A.cap_monotone x.inner.now d e h };
+
+    ghost cap_bounded = { λ x d h. A.cap_bounded x.inner.now d h };
+
+    ghost cap_holds = { λ x xs u d h. A.cap_holds x.inner.now xs u d h };
+
+    ghost allows_prefix = { λ x xs ys h. A.allows_prefix x.inner.now xs ys h };
+}
+
+#[test]
+fn small_bus_closes_at_three_ticks(rt: HostRuntime) {
+    let streams = [Sporadic::new(10), Sporadic::new(10)];
+    let bus = Both::new(SumOf::new(0, &streams), Wire::new(1000, 350));
+    let router = Paced::new(1, 1);
+    assert!(rt; !closes(&bus, &router, 2));
+    assert!(rt; closes(&bus, &router, 3));
+    assert!(rt; backlog_fails(&bus, &router, 3, 1) == Some(1));
+    assert!(rt; backlog_fails(&bus, &router, 3, 2).is_none());
+    assert!(rt; delay_fails(&bus, &router, 3, 1) == Some(1));
+    assert!(rt; delay_fails(&bus, &router, 3, 2).is_none());
+    assert!(rt; first_failures(&bus, &router, 3, 1, 2) == (Some(1), None));
+    assert!(rt; first_failures(&bus, &router, 3, 2, 1) == (None, Some(1)));
+    queue_law(&bus, &router, 3, 2, 2);
+    assert!(rt; least_window(&bus, &router) == Some(3));
+    assert!(rt; most_backlog(&bus, &router, 3) == 2);
+    assert!(rt; least_delay(&bus, &router, 3) == Some(2));
+}
+
+#[test]
+fn jitter_asks_for_more_and_a_wire_for_less(rt: HostRuntime) {
+    let streams = [Jittered::new(10, 10), Jittered::new(10, 10)];
+    let free = Capped::new(SumOf::new(0, &streams), Some(Wire::new(1000, 350)));
+    let policed = Capped::new(SumOf::new(0, &streams), None);
+    let router = Paced::new(1, 1);
+    assert!(rt; least_window(&free, &router) == Some(5));
+    assert!(rt; most_backlog(&free, &router, 5) == 4);
+    assert!(rt; least_delay(&free, &router, 5) == Some(3));
+    assert!(rt; least_window(&policed, &router) == Some(5));
+    assert!(rt; most_backlog(&policed, &router, 5) == 4);
+    assert!(rt; least_delay(&policed, &router, 5) == Some(4));
+}
+
+#[test]
+fn least_numbers_pass_and_lower_ones_fail(rt: HostRuntime) {
+    let streams = [Sporadic::new(10), Sporadic::new(7), Sporadic::new(3)];
+    let bus = Both::new(SumOf::new(0, &streams), Wire::new(1000, 1350));
+    let visits = [0, 1, 0, 2];
+    assert_least(&rt, &bus, &Paced::new(2, 3));
+    assert_least(&rt, &bus, &Visits::new(Paced::new(3, 2), &visits, 0));
+    assert_least(&rt, &Sporadic::new(5), &Paced::new(1, 6));
+    assert_least(&rt, &Wire::new(100, 2450), &Paced::new(1, 20));
+    assert_least(&rt, &Cyclic::new(10, &[0, 1, 5]), &Paced::new(1, 3));
+}
+
+#[test]
+fn no_window_closes_where_none_is_served(rt: HostRuntime) {
+    let idle = Paced::new(0, 1);
+    assert!(rt; least_window(&Sporadic::new(5), &idle).is_none());
+    assert!(rt; least_delay(&Sporadic::new(5), &idle, 1).is_none());
+    assert!(rt; most_backlog(&Sporadic::new(5), &idle, 11) == 3);
+}
+
+#[test]
+fn the_longest_window_is_found(rt: HostRuntime) {
+    let slow = Paced::new(1, 99_999);
+    assert!(rt; least_window(&Sporadic::new(200_000), &slow) == Some(100_000));
+    assert!(rt; least_window(&Sporadic::new(200_000), &Paced::new(1, 100_000)).is_none());
+}
+
+#[test]
+fn jumps_find_what_dense_searches_find(rt: HostRuntime) {
+    let streams = [Sporadic::new(10), Sporadic::new(7), Sporadic::new(3)];
+    let bus = Both::new(SumOf::new(0, &streams), Wire::new(1000, 1350));
+    let visits = [0, 1, 0, 2];
+    assert_same(&rt, &bus, &Paced::new(2, 3));
+    assert_same(&rt, &bus, &Visits::new(Paced::new(3, 2), &visits, 0));
+    assert_same(&rt, &Sporadic::new(5), &Paced::new(1, 6));
+    assert_same(&rt, &Wire::new(100, 2450), &Paced::new(1, 20));
+    assert_same(&rt, &Cyclic::new(10, &[0, 1, 5]), &Paced::new(1, 3));
+}
+
+#[test]
+fn long_search_goes_by_jumps_alone(rt: HostRuntime) {
+    let streams = [Sporadic::new(10); 16];
+    let bus = Both::new(SumOf::new(0, &streams), Wire::new(1000, 350));
+    let counted = Counted {
+        inner: &bus,
+        calls: Cell::new(0),
+    };
+    assert!(rt; backlog_fails(&counted, &Paced::new(2, 1), 100_000, 14).is_none());
+    assert!(rt; delay_fails(&counted, &Paced::new(2, 1), 100_000, 6).is_none());
+    assert!(rt; first_failures(&counted, &Paced::new(2, 1), 100_000, 14, 6) == (None, None));
+    assert!(rt; counted.calls.get() <= 30_015);
+}
+
+#[test]
+fn least_numbers_are_found_by_jumps_alone(rt: HostRuntime) {
+    let streams = [Sporadic::new(10); 16];
+    let bus = Both::new(SumOf::new(0, &streams), Wire::new(1000, 350));
+    let counted = Counted {
+        inner: &bus,
+        calls: Cell::new(0),
+    };
+    let never = Paced::new(16, 11);
+    assert!(rt; least_window(&counted, &never).is_none());
+    assert!(rt; most_backlog(&counted, &never, 100_000) == 14_576);
+    assert!(rt; least_delay(&counted, &never, 100_000) == Some(10_010));
+    assert!(rt; counted.calls.get() <= 30_015);
+}
+
+// In Visit, In, In, Tick, Visit, Tick, Visit the first visit finds nothing, and each later one takes one word.
+fn second_in_waits()
+    ensures first { routed_tick 4 0 (Visit ∷ In (0, 0) ∷ In (1, 0) ∷ Tick ∷ Visit ∷ Tick ∷ Visit ∷ []) ≡ 1 }
+    ensures second { routed_tick 4 1 (Visit ∷ In (0, 0) ∷ In (1, 0) ∷ Tick ∷ Visit ∷ Tick ∷ Visit ∷ []) ≡ 2 }
+    ensures all { passed (Visit ∷ In (0, 0) ∷ In (1, 0) ∷ Tick ∷ Visit ∷ Tick ∷ Visit ∷ []) ≡ 2 }
+{}
+
+#[test]
+fn second_in_is_taken_in_tick_two() {
+    second_in_waits();
+}
+
+#[test]
+fn a_stretch_tells_its_own_first_failing_windows(rt: HostRuntime) {
+    let streams = [Sporadic::new(10), Sporadic::new(10)];
+    let bus = Both::new(SumOf::new(0, &streams), Wire::new(1000, 350));
+    let router = Paced::new(1, 1);
+    assert!(rt; failures_between(&bus, &router, 1, 3, 1, 1) == (Some(1), Some(1)));
+    assert!(rt; failures_between(&bus, &router, 2, 3, 1, 1) == (Some(2), None));
+    assert!(rt; failures_between(&bus, &router, 2, 3, 2, 0) == (None, Some(2)));
+    assert!(rt; failures_between(&bus, &router, 3, 3, 1, 0) == (None, None));
+    assert!(rt; failures_between(&bus, &router, 3, 2, 0, 0) == (None, None));
+}

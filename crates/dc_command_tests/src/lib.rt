@@ -1,5 +1,0 @@
-//! Command lines, and what they ask.
-#![tactic(auto)]
-
-#[cfg(test)]
-mod lines;

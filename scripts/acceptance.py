@@ -1,0 +1,221 @@
+"""Which certificates are accepted, as docs/definitions.md and docs/formats.md say it: conditions, margins, the least certificate.
+
+A certificate is what its text reads as: {"inputs": [{"bus", "window", "backlog", "delay"}], "outputs": [..], "labels": [..]}.
+Each bound is asked of one window after another, and what is least is searched for.
+"""
+import json
+from fractions import Fraction
+from functools import cached_property, lru_cache
+from typing import NamedTuple
+
+LONGEST = 100_000
+
+
+class Bound:
+    """An input or an output: what may come at most (cap) and what is taken at least (floor) in so many ticks, and its queue.
+
+    `comes` and `leaves` are what cap and floor are on the average: in w ticks cap is never less, and floor never more."""
+
+    def __init__(self, part, row, cap, floor, comes, leaves):
+        self.part, self.name, self.queue, self.comes, self.leaves = part, row.name, getattr(row, "queue", None), comes, leaves
+        self.cap = lru_cache(None)(lambda d: cap(d) if d > 0 else 0)
+        self.floor = lru_cache(None)(lambda d: floor(d) if d > 0 else 0)
+
+    def closes(self, window):
+        """Whether as many are taken in the window's ticks but the first as come in all of them."""
+        return self.cap(window) <= self.floor(window - 1)
+
+    def waiting(self, w):
+        """How many may wait in the w-th tick of a window."""
+        return max(self.cap(w) - self.floor(w - 2), 0)
+
+    def needed(self, w):
+        """The least delay with which all that come in w ticks are taken, one over the longest where none does."""
+        return next((delay for delay in range(LONGEST + 1) if self.cap(w) <= self.floor(w - 1 + delay)), LONGEST + 1)
+
+    @cached_property
+    def least_window(self):
+        """The least window that closes, or None. None does where on the average as much comes as is taken."""
+        windows = range(1, LONGEST + 1) if self.comes < self.leaves else ()
+        return next((window for window in windows if self.closes(window)), None)
+
+    @cached_property
+    def least(self):
+        """The least window that closes, and the least backlog and delay in it; None where no window closes."""
+        if self.least_window is None:
+            return None
+        windows = range(1, self.least_window + 1)
+        return {"window": self.least_window, "backlog": max(map(self.waiting, windows)), "delay": max(map(self.needed, windows))}
+
+
+def sums(weights, k):
+    """What k consecutive numbers weigh, from each number of the first round on, where the weights come again and again."""
+    return [k // len(weights) * sum(weights) + sum(weights[(first + it) % len(weights)] for it in range(k % len(weights)))
+            for first in range(len(weights))]
+
+
+def input_bound(tables, bus):
+    """The bound of a bus: of a policed one the sum of its streams' caps, else the lesser of that and its wire's."""
+    row, streams = tables.buses[bus], [number for number, it in enumerate(tables.streams) if it.bus == bus]
+    router = next(it for it in tables.routers if bus in it.visits)
+    visits = [int(it == bus) for it in router.visits]
+    comes, wire = sum(Fraction(1, tables.streams[it].minimum) for it in streams), Fraction(tables.tick, row.spacing)
+
+    def cap(d):
+        of_streams = sum(tables.cap(it, d) for it in streams)
+        return of_streams if row.police else min(of_streams, tables.wire(bus, d))
+
+    return Bound("input", row, cap, lambda d: min(sums(visits, router.steps * (d // router.within))),
+                 comes if row.police else min(comes, wire), Fraction(router.steps * sum(visits), router.within * len(visits)))
+
+
+def output_bound(row):
+    """The bound of an output: the most entries of its frame that are due, and its sends."""
+    offsets = {offset for offset, _ in row.entries}
+    due = [int(it in offsets) for it in range(row.frame)]
+    return Bound("output", row, lambda d: max(sums(due, d)), lambda d: row.steps * (d // row.within),
+                 Fraction(len(offsets), row.frame), Fraction(row.steps, row.within))
+
+
+# ---- conditions
+
+
+class Condition(NamedTuple):
+    """A condition at its place: whether it holds, its first failing window, its margin (None where not told), what decides it."""
+
+    part: str
+    name: str
+    code: str
+    holds: bool = True
+    margin: object = None
+    by: str = "-"
+    window: object = None
+
+    @property
+    def line(self):
+        unit = "words" if self.code in ("C03", "C04", "C05") else "ticks"
+        return f"{self.part:<6} {self.name:<16} {self.code} {'-' if self.margin is None else self.margin:>7} {unit} {self.by}"
+
+    @property
+    def refusal(self):
+        return f"refused {self.code} {self.part} {self.name}" + (f" window {self.window}" if self.window else "")
+
+    @property
+    def is_law_kept(self):
+        """Whether the margin is negative exactly where the condition fails."""
+        return self.margin is None or self.holds == (self.margin != "none" and self.margin >= 0)
+
+
+def told(in_range, condition):
+    """A condition that rests on a number in range; where it is not, that number's own condition fails, and nothing is told here."""
+    return condition if in_range else Condition(condition.part, condition.name, condition.code)
+
+
+def queue_conditions(bound, row):
+    """C02 to C07 of an input or an output, in their order."""
+    place, window, delay = (bound.part, bound.name), row["window"], row["delay"]
+    in_range = 1 <= window <= LONGEST
+    windows = range(1, window + 1) if in_range else [1]
+    yield Condition(*place, "C02", in_range, min(window - 1, LONGEST - window))
+    yield Condition(*place, "C07", delay <= LONGEST, LONGEST - delay)
+    yield told(in_range, Condition(*place, "C03", bound.closes(window), bound.floor(window - 1) - bound.cap(window)))
+    if bound.part == "input":
+        backlog, peak = row["backlog"], max(windows, key=bound.waiting)
+        first = next((w for w in windows if bound.waiting(w) > backlog), None)
+        yield told(in_range, Condition(*place, "C04", not first, backlog - bound.waiting(peak), f"window={peak}", first))
+        yield Condition(*place, "C05", backlog <= bound.queue, bound.queue - backlog)
+    peak = max(windows, key=bound.needed)
+    first = next((w for w in windows if bound.cap(w) > bound.floor(w - 1 + delay)), None)
+    margin = delay - bound.needed(peak) if bound.needed(peak) <= LONGEST else "none"
+    yield told(in_range and delay <= LONGEST, Condition(*place, "C06", not first, margin, f"window={peak}", first))
+
+
+def label_conditions(tables, label, certificate):
+    """C08 to C12 of a label, in their order."""
+    row, age, place = tables.labels[label], certificate["labels"][label]["age"], ("label", tables.labels[label].name)
+    late, minimum, maximum = certificate["outputs"][row.output]["delay"], row.minimum, row.maximum
+    offsets = [offset for offset, it in tables.outputs[row.output].entries if it == label]
+    gaps = [later - offset for offset, later in zip(offsets, [*offsets[1:], offsets[0] + tables.outputs[row.output].frame])]
+    in_range, least, most = late <= LONGEST, min(gaps), max(gaps)
+    yield told(in_range, Condition(*place, "C08", all(minimum + late <= gap for gap in gaps), least - minimum - late, f"gap={least}"))
+    yield told(in_range, Condition(*place, "C09", all(gap + late <= maximum for gap in gaps), maximum - most - late, f"gap={most}"))
+    delays = {it: certificate["inputs"][tables.streams[it].bus]["delay"] for it in row.sources}
+    silences = {it: delay + tables.streams[it].maximum for it, delay in delays.items()}
+    in_range, slowest, rarest = max(delays.values()) <= LONGEST, max(delays, key=delays.get), max(silences, key=silences.get)
+    yield told(in_range, Condition(*place, "C10", all(row.stale + delay <= age for delay in delays.values()),
+                                   age - row.stale - delays[slowest], f"source={tables.streams[slowest].name}"))
+    yield Condition(*place, "C11", age <= row.limit, row.limit - age)
+    yield told(in_range, Condition(*place, "C12", all(silence <= row.stale for silence in silences.values()),
+                                   row.stale - silences[rarest], f"source={tables.streams[rarest].name}"))
+
+
+class Judge:
+    """The judge of certificates for tables."""
+
+    def __init__(self, tables):
+        self.tables = tables
+        self.bounds = [*(input_bound(tables, bus) for bus in range(len(tables.buses))), *map(output_bound, tables.outputs)]
+
+    def conditions(self, certificate, parts=None):
+        """The conditions of the first so many parts, the inputs, the outputs and the labels in one row."""
+        rows = [*certificate["inputs"], *certificate["outputs"]]
+        each = [queue_conditions(*it) for it in zip(self.bounds, rows)]
+        each += [label_conditions(self.tables, label, certificate) for label in range(len(certificate["labels"]))]
+        return [condition for part in each[:parts] for condition in part]
+
+    def misnaming(self, certificate):
+        """C01: the inputs are not the tables' buses, once each in their order; or the outputs, or the labels likewise."""
+        kinds = (("inputs", "bus", self.tables.buses), ("outputs", "output", self.tables.outputs), ("labels", "label", self.tables.labels))
+        for part, key, rows in kinds:
+            if [it[key] for it in certificate[part]] != [it.name for it in rows]:
+                return f"refused C01 {part}"
+        return None
+
+    def accepted(self):
+        return f"accepted inputs {len(self.tables.buses)} outputs {len(self.tables.outputs)} labels {len(self.tables.labels)}"
+
+    def verdict(self, certificate):
+        """The line of `check`: the first condition that fails, if any does."""
+        if misnaming := self.misnaming(certificate):
+            return misnaming
+        return next((it.refusal for it in self.conditions(certificate) if not it.holds), self.accepted())
+
+    def margins(self, certificate):
+        """The lines of `margins`."""
+        lines = [] if self.misnaming(certificate) else [it.line for it in self.conditions(certificate)]
+        return [self.verdict(certificate), *lines]
+
+    @cached_property
+    def least(self):
+        """The least numbers, as far as there are any; in how many parts, and what stands in the way of a certificate, or None."""
+        certificate, parts = {"inputs": [], "labels": [], "outputs": [], "version": 1}, 0
+        for bound in self.bounds:
+            if bound.least is None:
+                return certificate, parts, f"refused F1 {bound.part} {bound.name}"
+            key = "bus" if bound.part == "input" else "output"
+            certificate[f"{bound.part}s"].append({key: bound.name, **bound.least})
+            parts += 1
+            if key == "output":
+                del certificate["outputs"][-1]["backlog"]
+            elif bound.least["backlog"] > bound.queue:
+                return certificate, parts, f"refused F2 input {bound.name}"
+        for row in self.tables.labels:
+            delays = [certificate["inputs"][self.tables.streams[it].bus]["delay"] for it in row.sources]
+            certificate["labels"].append({"age": row.stale + max(delays), "label": row.name})
+        broken = next((it for it in self.conditions(certificate) if not it.holds), None)
+        return certificate, parts + len(self.tables.labels), broken and f"refused F3 label {broken.name} {broken.code}"
+
+    def found(self):
+        """The line of `find`."""
+        certificate, _, obstacle = self.least
+        return obstacle or text_of(certificate)
+
+    def least_margins(self):
+        """The lines of `margins` without a certificate."""
+        certificate, parts, obstacle = self.least
+        return [obstacle, *(it.line for it in self.conditions(certificate, parts))] if obstacle else self.margins(certificate)
+
+
+def text_of(certificate):
+    """The text of a certificate in the compact form, keys in the order of their bytes."""
+    return json.dumps(certificate, sort_keys=True, separators=(",", ":"))
