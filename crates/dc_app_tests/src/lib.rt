@@ -1,4 +1,5 @@
-//! Trials of the engines of the commands over devices in memory, and of calls that no command makes alone.
+//! Trials of the engines of the commands, and of the reader of traces, over devices in memory, and of calls that no command
+//! makes alone.
 #![tactic(auto)]
 
 #[cfg(test)]
@@ -10,6 +11,10 @@ mod example;
 #[cfg(test)]
 mod finds;
 #[cfg(test)]
+mod lookups;
+#[cfg(test)]
 mod replays;
+#[cfg(test)]
+mod traces;
 #[cfg(test)]
 mod verdicts;

@@ -7,7 +7,7 @@ use dc_find::{FindFault, find};
 use dc_tables::Tables;
 use dc_toml::read_tables;
 #[cfg(test)]
-use dc_trials::{Chance, ROOMY, push_tables};
+use dc_trials::{Chance, push_tables};
 use dc_trials::{push_equal_certificate, push_equal_tables};
 use std::alloc::Global;
 use std::sync::Arc;
@@ -48,7 +48,7 @@ pub fn equal_plan(alloc: Global, buses: u32, policed: bool) -> Option<Plan> {
 #[cfg(test)]
 pub fn random_plan(alloc: Global, chance: &mut Chance) -> Result<Option<Plan>, Fail> {
     let mut text = String::new(alloc);
-    push_tables(&mut text, chance, &ROOMY)?;
+    push_tables(&mut text, chance)?;
     let tables = tables_of(alloc, text.as_str()).ok_or("no tables")?;
     match find(alloc, &tables) {
         Ok(certificate) => Ok(Some(plan_of(tables, certificate).ok_or("no plan")?)),

@@ -1,8 +1,5 @@
 //! The tables and certificates of texts.
 
-use crate::chance::Chance;
-use crate::large::push_large_tables;
-use crate::tables::{Shape, push_tables};
 use crate::texts::push_small_tables;
 use dc_cert::{CertFault, Certificate, read_cert};
 use dc_parts::BuildError;
@@ -24,23 +21,5 @@ pub fn certificate_of(alloc: Global, text: &str) -> Result<Certificate, CertFaul
 pub fn small_tables(alloc: Global, row: &str) -> Result<Tables, BuildError> {
     let mut text = String::new(alloc);
     push_small_tables(&mut text, row)?;
-    tables_of(alloc, text.as_str())
-}
-
-/// The large tables with the values of a row.
-pub fn large_tables(alloc: Global, row: &str) -> Result<Tables, BuildError> {
-    let mut text = String::new(alloc);
-    push_large_tables(&mut text, row)?;
-    tables_of(alloc, text.as_str())
-}
-
-/// Random tables of a shape.
-pub fn random_tables(
-    alloc: Global,
-    chance: &mut Chance,
-    shape: &Shape,
-) -> Result<Tables, BuildError> {
-    let mut text = String::new(alloc);
-    push_tables(&mut text, chance, shape)?;
     tables_of(alloc, text.as_str())
 }

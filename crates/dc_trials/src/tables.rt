@@ -4,31 +4,14 @@
 use crate::chance::Chance;
 use std::alloc::AllocError;
 
-/// How tables are drawn: the longest queue; the least and the greatest frame of an output, and number of ticks that a
-/// source stays fresh; and whether a label is due twice in a frame.
-#[derive(Clone, Copy, Debug)]
-pub struct Shape {
-    pub queue: u32,
-    pub frames: [u32; 2],
-    pub stales: [u32; 2],
-    pub twice: bool,
-}
+/// The longest queue.
+const QUEUE: u32 = 8;
 
-/// Queues are short, words go stale soon, frames are short: so each reply and refusal comes within a few ticks.
-pub const TIGHT: Shape = Shape {
-    queue: 3,
-    frames: [4, 9],
-    stales: [1, 8],
-    twice: true,
-};
+/// The least and the greatest number of ticks that a source stays fresh.
+const STALES: [u32; 2] = [24, 50];
 
-/// Often some certificate is accepted: queues are long, words stay fresh, and a label is sent at its pace.
-pub const ROOMY: Shape = Shape {
-    queue: 8,
-    frames: [13, 17],
-    stales: [24, 50],
-    twice: false,
-};
+/// The least and the greatest frame of an output.
+const FRAMES: [u32; 2] = [13, 17];
 
 /// The parameters 203, 204 and 205, of one format.
 fn push_parameters(text: &mut String, chance: &mut Chance) -> Result<(), AllocError> {
@@ -108,9 +91,8 @@ fn push_bus(
     version: u32,
     bus: u32,
     streams: u32,
-    longest: u32,
 ) -> Result<(), AllocError> {
-    let queue = chance.between(1, longest);
+    let queue = chance.between(1, QUEUE);
     write!(
         text,
         "[[bus]]\nname = \"B{bus}\"\nspeed = \"high\"\nqueue = {queue}\n"
@@ -153,20 +135,14 @@ fn push_label(
     output: u32,
     place: u32,
     streams: u32,
-    shape: &Shape,
 ) -> Result<(), AllocError> {
-    let [least, greatest] = shape.stales;
+    let [least, greatest] = STALES;
     let stale = chance.between(least, greatest);
     let first = chance.below(streams);
     write!(
         text,
-        "[[output.label]]\nname = \"L{output}{place}\"\nlabel = \"203\"\nequipment = \"001\"\nsdi = {place}\nstale = {stale}\nage = 90\noffsets = ["
+        "[[output.label]]\nname = \"L{output}{place}\"\nlabel = \"203\"\nequipment = \"001\"\nsdi = {place}\nstale = {stale}\nage = 90\noffsets = [{place}]\nsources = [\"S{first}\""
     )?;
-    if shape.twice {
-        let offset = place.wrapping_add(2);
-        write!(text, "{offset}, ")?;
-    }
-    write!(text, "{place}]\nsources = [\"S{first}\"")?;
     for more in 0..chance.below(streams.min(8)) {
         let source = first.wrapping_add(more).wrapping_add(1) % streams.max(1);
         write!(text, ", \"S{source}\"")?;
@@ -180,7 +156,6 @@ fn push_output(
     chance: &mut Chance,
     output: u32,
     streams: u32,
-    shape: &Shape,
 ) -> Result<(), AllocError> {
     let steps = chance.between(1, 2);
     let (speed, gap) = if chance.once_in(2) {
@@ -189,34 +164,31 @@ fn push_output(
         ("high", 1)
     };
     let within = chance.below(3).wrapping_add(steps.wrapping_mul(gap));
-    let [least, greatest] = shape.frames;
+    let [least, greatest] = FRAMES;
     let frame = chance.between(least, greatest);
     write!(
         text,
         "[[output]]\nname = \"O{output}\"\nspeed = \"{speed}\"\nsteps = {steps}\nwithin = {within}\nframe = {frame}\n"
     )?;
     for place in 0..chance.between(1, 2) {
-        push_label(text, chance, output, place, streams, shape)?;
+        push_label(text, chance, output, place, streams)?;
     }
     Ok(())
 }
 
-/// Adds tables of the shape to a text.
+/// Adds tables to a text for which often some certificate is accepted: queues are long, words stay fresh, and a label is sent
+/// at its pace.
 ///
 /// # Errors
 /// Out of memory.
-pub fn push_tables(
-    text: &mut String,
-    chance: &mut Chance,
-    shape: &Shape,
-) -> Result<(), AllocError> {
+pub fn push_tables(text: &mut String, chance: &mut Chance) -> Result<(), AllocError> {
     let version = chance.between(1, 2);
     write!(text, "version = {version}\ntick_us = 1000\n")?;
     push_parameters(text, chance)?;
     let buses = chance.between(1, 3);
     let streams = chance.between(1, 3);
     for bus in 0..buses {
-        push_bus(text, chance, version, bus, streams, shape.queue)?;
+        push_bus(text, chance, version, bus, streams)?;
     }
     if buses > 1 && chance.once_in(2) {
         push_router(text, chance, 0, 1, buses)?;
@@ -225,7 +197,7 @@ pub fn push_tables(
         push_router(text, chance, 0, 0, buses)?;
     }
     for output in 0..chance.between(1, 2) {
-        push_output(text, chance, output, buses.wrapping_mul(streams), shape)?;
+        push_output(text, chance, output, buses.wrapping_mul(streams))?;
     }
     Ok(())
 }

@@ -3,7 +3,7 @@
 use std::alloc::AllocError;
 
 /// The value that a row of fields `name=value` gives a name, or its usual one.
-pub fn value<'a>(row: &'a str, name: &str, usual: &'a str) -> &'a str {
+fn value<'a>(row: &'a str, name: &str, usual: &'a str) -> &'a str {
     for field in row.split(' ') {
         if let Some((named, value)) = field.split_once('=') {
             if named == name {
@@ -14,28 +14,17 @@ pub fn value<'a>(row: &'a str, name: &str, usual: &'a str) -> &'a str {
     usual
 }
 
-/// Adds a template to a text: each `<name=usual>` in it is the value of a row, or the usual one, and `<bus>` and
-/// `<label>` are these.
-pub fn push_filled(
-    text: &mut String,
-    template: &str,
-    row: &str,
-    bus: &str,
-    label: &str,
-) -> Result<(), AllocError> {
+/// Adds a template to a text: each `<name=usual>` in it is the value of a row, or the usual one.
+fn push_filled(text: &mut String, template: &str, row: &str) -> Result<(), AllocError> {
     for part in template.split('<') {
-        if let Some((hole, rest)) = part.split_once('>') {
-            if let Some((name, usual)) = hole.split_once('=') {
-                text.push_str(value(row, name, usual))?;
-            } else if hole == "bus" {
-                text.push_str(bus)?;
-            } else {
-                text.push_str(label)?;
-            }
-            text.push_str(rest)?;
-        } else {
+        let Some((hole, rest)) = part.split_once('>') else {
             text.push_str(part)?;
+            continue;
+        };
+        if let Some((name, usual)) = hole.split_once('=') {
+            text.push_str(value(row, name, usual))?;
         }
+        text.push_str(rest)?;
     }
     Ok(())
 }
@@ -132,17 +121,17 @@ const CERTIFICATE: &str =
 /// Adds the small tables to a text, with the values of a row. With `streams=3` bus A has a third stream, with `buses=2`
 /// there is a bus B after it.
 pub fn push_small_tables(text: &mut String, row: &str) -> Result<(), AllocError> {
-    push_filled(text, HEAD, row, "", "")?;
+    push_filled(text, HEAD, row)?;
     if value(row, "streams", "2") == "3" {
         text.push_str(THIRD)?;
     }
     if value(row, "buses", "1") == "2" {
         text.push_str(SECOND)?;
     }
-    push_filled(text, TAIL, row, "", "")
+    push_filled(text, TAIL, row)
 }
 
 /// Adds the certificate of the small tables to a text, with the values of a row.
 pub fn push_small_certificate(text: &mut String, row: &str) -> Result<(), AllocError> {
-    push_filled(text, CERTIFICATE, row, "", "")
+    push_filled(text, CERTIFICATE, row)
 }

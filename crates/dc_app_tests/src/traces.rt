@@ -1,6 +1,5 @@
 //! Traces that come in pieces of any size, pass their limit, or break off.
 
-use crate::fixture::SMALL;
 use dc_device::{MemSource, Source};
 use dc_event::{Event, LineRule, TraceFault, TraceReader, TraceStop};
 use dc_tables::Tables;
@@ -71,7 +70,7 @@ fn reads_text(
     events: &[Event],
     stop: TraceStop,
 ) -> Result<(), Fail> {
-    let tables = small_tables(alloc, SMALL)?;
+    let tables = small_tables(alloc, "")?;
     reads(rt, &tables, text, limit, events, stop);
     Ok(())
 }
@@ -94,7 +93,7 @@ fn reads_unlimited(rt: &impl Abort, tables: &Tables) {
 fn a_trace_is_read_in_pieces_of_any_size(rt: HostRuntime) -> Result<(), Fail> {
     reads_text(&rt, rt.alloc(), TRACE, 24, &events(), TraceStop::End)?;
     reads_text(&rt, rt.alloc(), b"", 0, &[], TraceStop::End)?;
-    let tables = small_tables(rt.alloc(), SMALL)?;
+    let tables = small_tables(rt.alloc(), "")?;
     reads_unlimited(&rt, &tables);
     Ok(())
 }
@@ -139,7 +138,7 @@ fn breaks_at_any_pull(rt: &impl Abort, tables: &Tables) {
 
 #[test]
 fn a_source_may_fail_at_any_pull(rt: HostRuntime) -> Result<(), Fail> {
-    let tables = small_tables(rt.alloc(), SMALL)?;
+    let tables = small_tables(rt.alloc(), "")?;
     breaks_at_any_pull(&rt, &tables);
     Ok(())
 }

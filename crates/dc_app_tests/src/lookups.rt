@@ -1,0 +1,82 @@
+//! Look-ups in valid tables that no command makes, and parts that no text of tables can have.
+
+use dc_parts::{BuildError, Name, Parts, Section, TableFault, TableRule, Version};
+use dc_tables::Tables;
+use dc_trials::small_tables;
+use dc_word::Word;
+use std::alloc::{AllocError, Global};
+use std::process::Abort;
+use std::rt::HostRuntime;
+use std::test::Fail;
+
+/// A word of label 204.
+const OF_204: Word = Word(0xE000_0021);
+
+fn name(text: &str) -> Result<Name, Fail> {
+    Ok(Name::new(text.as_bytes()).ok_or("no name")?)
+}
+
+/// Streams and labels by their names.
+fn assert_named(rt: &impl Abort, tables: &Tables, stream: &Name, label: &Name) {
+    assert!(rt; tables.stream_named(stream) == Some(1));
+    assert!(rt; tables.stream_named(label).is_none());
+    assert!(rt; tables.label_named(label) == Some(0));
+    assert!(rt; tables.label_named(stream).is_none());
+}
+
+/// How many streams of the first bus declare a word.
+fn declaring(tables: &Tables, word: Word) -> usize {
+    if tables.bus_count() == 0 {
+        return 0;
+    }
+    let streams = tables.bus_streams(0);
+    streams
+        .iter()
+        .filter(|stream| stream.declares(0, word))
+        .count()
+}
+
+#[test]
+fn streams_and_labels_are_found(rt: HostRuntime) -> Result<(), Fail> {
+    let stream = name("A-204")?;
+    let label = name("x")?;
+    let tables = small_tables(rt.alloc(), "")?;
+    assert_named(&rt, &tables, &stream, &label);
+    assert!(rt; declaring(&tables, OF_204) == 1);
+    Ok(())
+}
+
+#[test]
+fn names_have_1_to_16_characters(rt: HostRuntime) {
+    for text in ["7", "Aa-0_9zZAa-0_9zZ"] {
+        assert!(rt; Name::new(text.as_bytes()).is_some(), "{text}");
+    }
+    for text in ["", "Aa-0_9zZAa-0_9zZ1", "A 1", "A.", "\u{e9}"] {
+        assert!(rt; Name::new(text.as_bytes()).is_none(), "{text}");
+    }
+}
+
+/// The fault of parts without a row, of this tick; want of memory is none.
+fn fault_of(alloc: Global, tick_us: u32) -> Result<Option<TableFault>, AllocError> {
+    let parts = Parts::new(alloc, Version::One, tick_us);
+    match Tables::build(alloc, parts).err() {
+        None => Ok(None),
+        Some(BuildError::Memory(error)) => Err(error),
+        Some(BuildError::Refused(fault)) => Ok(Some(fault)),
+    }
+}
+
+/// A text is refused for its shape before its parts are handed in.
+#[test]
+fn a_tick_is_100_to_10000_microseconds(rt: HostRuntime) -> Result<(), Fail> {
+    let refused = TableFault {
+        rule: TableRule::NumberOutOfRange,
+        section: Section::Top,
+        index: 0,
+    };
+    assert!(rt; fault_of(rt.alloc(), 99)? == Some(refused));
+    assert!(rt; fault_of(rt.alloc(), 100)?.is_none());
+    assert!(rt; fault_of(rt.alloc(), 10_000)?.is_none());
+    assert!(rt; fault_of(rt.alloc(), 10_001)? == Some(refused));
+    Ok(())
+}

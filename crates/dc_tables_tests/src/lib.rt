@@ -1,5 +1,0 @@
-//! Tests of tables.
-#![tactic(auto)]
-
-#[cfg(test)]
-mod tests;
