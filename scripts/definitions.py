@@ -10,7 +10,7 @@ import math
 import tomllib
 from bisect import bisect_left, bisect_right
 from collections import Counter
-from itertools import accumulate
+from itertools import accumulate, product
 from types import SimpleNamespace as Row
 
 IN_SPACING = {"high": 350, "low": 2450}
@@ -346,6 +346,27 @@ def first_breach(tables, run):
             return place, breach
         budgets.add(event)
     return None
+
+
+# ---- a bench
+
+
+def words_of_bench(tables, ticks):
+    """How many words the wires of a bench bring: in each tick one of each stream, as soon as its minimum and the wire let it come."""
+    words = 0
+    for bus, row in enumerate(tables.buses):
+        streams, free, last = [stream for stream in tables.streams if stream.bus == bus], 0, {}
+        for tick, (number, stream) in product(range(ticks), enumerate(streams)):
+            time = max(tick * tables.tick, free)
+            if tick - last.get(number, -stream.minimum) >= stream.minimum and time < (tick + 1) * tables.tick:
+                free, last[number], words = time + row.spacing, tick, words + 1
+    return words
+
+
+def bench(tables, ticks):
+    """The lines of a bench of an accepted certificate: its entries are its words and the steps of the steady run."""
+    steps = ticks * (1 + sum(row.most for row in tables.routers)) + sum(up(ticks, row.gap) for row in tables.outputs)
+    return [f"ticks {ticks}", f"entries {words_of_bench(tables, ticks) + steps}", "overruns 0", "claims hold"]
 
 
 # ---- what the commands say of a run

@@ -1,7 +1,5 @@
-//! Trials of the check by several threads: the answers of one thread, gates, and certificates by chance.
+//! Trials of the check by several threads: gates that hold a worker until a second has come, get stuck, or count.
 #![tactic(auto)]
 
 #[cfg(test)]
-mod answers;
-#[cfg(test)]
-mod fixture;
+mod gates;

@@ -1,23 +1,21 @@
-//! A monitor beside a hub that is driven, and hubs of random tables that are driven two at a time.
+//! A monitor beside a hub that is driven.
 
 ghost use Rattle.std.specs.Prelude.{◌≡◌, ◌≤◌, IsSome};
 ghost use Rattle.dc_board.specs.Marks.{IsSeatOf};
 ghost use Rattle.dc_drive.specs.Played.{AreOfHub};
 
-use crate::drives::{judge_closed, opened, runs};
-use crate::fixture::{Plan, equal_plan, random_plan};
+use crate::drives::{judge_closed, opened};
+use crate::fixture::{Plan, equal_plan};
 use dc_checkpar::Open;
 use dc_drive::{DriveFault, drive};
 use dc_hub::{Hub, MOST_ACTORS, Seats, Watch};
 use dc_script::Script;
 use dc_tables::Tables;
-use dc_trials::Chance;
 use std::alloc::Global;
 use std::marker::Brand;
 use std::process::Abort;
 use std::rt::HostRuntime;
 use std::sync::Wait;
-use std::sync::atomic::{AtomicBool, Ordering};
 use std::sync::ledger::{Blank, Ledger};
 use std::test::Fail;
 use std::thread;
@@ -26,13 +24,8 @@ use std::thread::Threads;
 /// How often the monitor reads all buses.
 const ROUNDS: u32 = 400;
 
-/// How many hubs of random tables are driven, and for how many ticks each.
-const DRIVES: u32 = 100;
-
+/// For how many ticks the hub is driven.
 const TICKS: u64 = 60;
-
-/// How often a busy thread draws numbers at most.
-const TURNS: u64 = 100_000_000;
 
 /// Reads of all buses: whether an answer fell.
 fn monitor<L: Ledger>(hub: &Hub<L>, mut watch: Watch) -> bool
@@ -117,73 +110,4 @@ fn watches<L: Ledger + Send + Sync, R: Threads + Wait + Abort + Sync>(
 fn a_monitor_reads_beside(rt: HostRuntime) -> Result<(), Fail> {
     let plan = equal_plan(rt.alloc(), 64, false).ok_or("no tables")?;
     watches::<Brand, HostRuntime>(&rt, rt.alloc(), Blank::new(MOST_ACTORS), plan)
-}
-
-/// Draws tables until their certificate is found, and drives a hub over them: whether there were such tables.
-fn draws<R: Threads + Wait + Abort + Sync>(
-    rt: &R,
-    alloc: Global,
-    chance: &mut Chance,
-) -> Result<bool, Fail> {
-    for _draw in 0..100 {
-        if let Some(plan) = random_plan(alloc, chance)? {
-            runs(rt, alloc, plan, TICKS, &Open, Ok(None))?;
-            return Ok(true);
-        }
-    }
-    Ok(false)
-}
-
-/// Hubs over random tables, one after another: how many.
-fn draws_all<R: Threads + Wait + Abort + Sync>(rt: &R, alloc: Global) -> Result<u32, Fail> {
-    let mut chance = Chance::new(1);
-    let mut count: u32 = 0;
-    for _drive in 0..DRIVES {
-        if draws(rt, alloc, &mut chance)? {
-            count = count.wrapping_add(1);
-        }
-    }
-    Ok(count)
-}
-
-/// Draws numbers, and lets others run, until all is over: the last number.
-fn busy(over: &AtomicBool, seed: u64) -> u32 {
-    let mut chance = Chance::new(seed);
-    for _turn in 0..TURNS {
-        if over.load(Ordering::SeqCst) {
-            break;
-        }
-        for _word in 0..1000 {
-            chance.word();
-        }
-        thread::yield_now();
-    }
-    chance.word()
-}
-
-/// Two threads that are busy until all is over.
-fn two_busy<R: Threads>(rt: &R, over: &AtomicBool, seed: u64) -> (u32, u32) {
-    thread::join(rt, || busy(over, seed), || busy(over, seed))
-}
-
-/// Hubs over random tables beside four threads that are busy: how many.
-fn draws_under_load<R: Threads + Wait + Abort + Sync>(rt: &R, alloc: Global) -> Result<u32, Fail> {
-    let over = AtomicBool::new(false);
-    let (count, _) = thread::join(
-        rt,
-        || {
-            let count = draws_all(rt, alloc);
-            over.store(true, Ordering::SeqCst);
-            count
-        },
-        || thread::join(rt, || two_busy(rt, &over, 2), || two_busy(rt, &over, 3)),
-    );
-    count
-}
-
-#[test]
-fn hubs_of_random_tables_run(rt: HostRuntime) -> Result<(), Fail> {
-    let count = draws_under_load(&rt, rt.alloc())?;
-    assert!(&rt; count == DRIVES);
-    Ok(())
 }

@@ -2,17 +2,11 @@
 
 use dc_cert::{Certificate, read_cert};
 use dc_check::{Certified, check};
-#[cfg(test)]
-use dc_find::{FindFault, find};
 use dc_tables::Tables;
 use dc_toml::read_tables;
-#[cfg(test)]
-use dc_trials::{Chance, push_tables};
 use dc_trials::{push_equal_certificate, push_equal_tables};
 use std::alloc::Global;
 use std::sync::Arc;
-#[cfg(test)]
-use std::test::Fail;
 
 /// Tables, and the same with a certificate that is accepted for them.
 #[derive(Drop)]
@@ -42,17 +36,4 @@ pub fn equal_plan(alloc: Global, buses: u32, policed: bool) -> Option<Plan> {
     push_equal_certificate(&mut certificate, buses).ok()?;
     let certificate = read_cert(alloc, certificate.as_bytes()).ok()?;
     plan_of(tables_of(alloc, text.as_str())?, certificate)
-}
-
-/// Random tables with their least certificate, where one is accepted.
-#[cfg(test)]
-pub fn random_plan(alloc: Global, chance: &mut Chance) -> Result<Option<Plan>, Fail> {
-    let mut text = String::new(alloc);
-    push_tables(&mut text, chance)?;
-    let tables = tables_of(alloc, text.as_str()).ok_or("no tables")?;
-    match find(alloc, &tables) {
-        Ok(certificate) => Ok(Some(plan_of(tables, certificate).ok_or("no plan")?)),
-        Err(FindFault::Memory) => Err("memory ended".into()),
-        Err(_) => Ok(None),
-    }
 }

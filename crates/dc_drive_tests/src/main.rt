@@ -1,5 +1,4 @@
-//! Trials of hubs that are driven, over small tables, over tables of 64 buses and over random ones. The program drives a
-//! hub, and another one where memory was refused to the first.
+//! Trials of hubs that are driven, over small tables and over tables of 64 buses. The program drives a hub, and another one where memory was refused to the first.
 #![tactic(auto)]
 
 #[cfg(test)]
