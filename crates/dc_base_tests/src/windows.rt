@@ -1,113 +1,16 @@
-//! Worked windows, the dense searches, and the number of calls of a long search.
+//! Worked windows, and the number of calls of a long search.
 
 ghost use Rattle.std.specs.Prelude.{◌≡◌, ℕ, ◌+◌, ◌^◌, ◌≤◌, ◌++◌, List, [], ◌∷◌};
 ghost use Rattle.dc_bound.specs.Window.{count_in, ticks_of, IsNextJump};
 ghost use Rattle.dc_bound.specs.Moves.{routed_tick, passed};
 ghost use Rattle.dc_bound.specs.Moves.Move.{Tick, In, Visit};
 
-use dc_bound::{
-    ArrivalBound, Both, Capped, Cyclic, Jittered, Paced, ServiceBound, Sporadic, SumOf, Visits,
-    Wire,
-};
+use dc_bound::{ArrivalBound, Both, Capped, Jittered, Paced, Sporadic, SumOf, Wire};
 use dc_busy::{
     backlog_fails, closes, delay_fails, failures_between, first_failures, least_delay,
     least_window, most_backlog, queue_law,
 };
 use std::cell::Cell;
-use std::process::Abort;
-
-// `backlog_fails`, where each number of ticks is looked at.
-fn backlog_fails_densely<A: ArrivalBound, S: ServiceBound>(
-    arrivals: &A,
-    service: &S,
-    window: u32,
-    backlog: u64,
-) -> Option<u32>
-    requires { window ≤ 100000 }
-{
-    for ticks in 1..=window {
-        let visits = service.at_least(ticks.saturating_sub(2));
-        if arrivals.at_most(ticks).saturating_sub(visits) > backlog {
-            return Some(ticks);
-        }
-    }
-    None
-}
-
-// `delay_fails`, where each number of ticks is looked at.
-fn delay_fails_densely<A: ArrivalBound, S: ServiceBound>(
-    arrivals: &A,
-    service: &S,
-    window: u32,
-    delay: u32,
-) -> Option<u32>
-    requires window { window ≤ 100000 }
-    requires delay { delay ≤ 100000 }
-{
-    for ticks in 1..=window {
-        if arrivals.at_most(ticks) > service.at_least(ticks - 1 + delay) {
-            return Some(ticks);
-        }
-    }
-    None
-}
-
-// The searches by jumps and the dense ones agree at each small window, backlog and delay.
-fn assert_same<A: ArrivalBound, S: ServiceBound>(rt: &impl Abort, arrivals: &A, service: &S) {
-    for window in 1..40 {
-        for bound in 0..12 {
-            let backlog = bound as u64;
-            let overfull = backlog_fails(arrivals, service, window, backlog);
-            let overdue = delay_fails(arrivals, service, window, bound);
-            assert!(rt;
-                overfull == backlog_fails_densely(arrivals, service, window, backlog),
-                "backlog {backlog} in {window}"
-            );
-            assert!(rt;
-                overdue == delay_fails_densely(arrivals, service, window, bound),
-                "delay {bound} in {window}"
-            );
-            let both = first_failures(arrivals, service, window, backlog, bound);
-            assert!(rt; both == (overfull, overdue), "{bound} in {window}");
-        }
-    }
-}
-
-// The first window up to `longest` that closes, where each is looked at.
-fn least_window_densely<A: ArrivalBound, S: ServiceBound>(
-    arrivals: &A,
-    service: &S,
-    longest: u32,
-) -> Option<u32>
-    requires { longest ≤ 100000 }
-{
-    for window in 1..=longest {
-        if closes(arrivals, service, window) {
-            return Some(window);
-        }
-    }
-    None
-}
-
-// In each small window the least numbers pass, and one less fails.
-fn assert_least<A: ArrivalBound, S: ServiceBound>(rt: &impl Abort, arrivals: &A, service: &S) {
-    assert!(rt; least_window(arrivals, service) == least_window_densely(arrivals, service, 1000));
-    for window in 1..40 {
-        let backlog = most_backlog(arrivals, service, window);
-        assert!(rt; backlog_fails(arrivals, service, window, backlog).is_none());
-        if backlog > 0 {
-            let lower = backlog_fails(arrivals, service, window, backlog - 1);
-            assert!(rt; lower.is_some(), "backlog {backlog} in {window}");
-        }
-        let delay = least_delay(arrivals, service, window).expect(rt, "a delay");
-        assert!(rt; delay <= 100_000);
-        assert!(rt; delay_fails(arrivals, service, window, delay).is_none());
-        if delay > 0 {
-            let lower = delay_fails(arrivals, service, window, delay - 1);
-            assert!(rt; lower.is_some(), "delay {delay} in {window}");
-        }
-    }
-}
 
 // A bound that counts the calls of its cap.
 #[derive(Drop)]
@@ -176,18 +79,6 @@ fn jitter_asks_for_more_and_a_wire_for_less(rt: HostRuntime) {
 }
 
 #[test]
-fn least_numbers_pass_and_lower_ones_fail(rt: HostRuntime) {
-    let streams = [Sporadic::new(10), Sporadic::new(7), Sporadic::new(3)];
-    let bus = Both::new(SumOf::new(0, &streams), Wire::new(1000, 1350));
-    let visits = [0, 1, 0, 2];
-    assert_least(&rt, &bus, &Paced::new(2, 3));
-    assert_least(&rt, &bus, &Visits::new(Paced::new(3, 2), &visits, 0));
-    assert_least(&rt, &Sporadic::new(5), &Paced::new(1, 6));
-    assert_least(&rt, &Wire::new(100, 2450), &Paced::new(1, 20));
-    assert_least(&rt, &Cyclic::new(10, &[0, 1, 5]), &Paced::new(1, 3));
-}
-
-#[test]
 fn no_window_closes_where_none_is_served(rt: HostRuntime) {
     let idle = Paced::new(0, 1);
     assert!(rt; least_window(&Sporadic::new(5), &idle).is_none());
@@ -200,18 +91,6 @@ fn the_longest_window_is_found(rt: HostRuntime) {
     let slow = Paced::new(1, 99_999);
     assert!(rt; least_window(&Sporadic::new(200_000), &slow) == Some(100_000));
     assert!(rt; least_window(&Sporadic::new(200_000), &Paced::new(1, 100_000)).is_none());
-}
-
-#[test]
-fn jumps_find_what_dense_searches_find(rt: HostRuntime) {
-    let streams = [Sporadic::new(10), Sporadic::new(7), Sporadic::new(3)];
-    let bus = Both::new(SumOf::new(0, &streams), Wire::new(1000, 1350));
-    let visits = [0, 1, 0, 2];
-    assert_same(&rt, &bus, &Paced::new(2, 3));
-    assert_same(&rt, &bus, &Visits::new(Paced::new(3, 2), &visits, 0));
-    assert_same(&rt, &Sporadic::new(5), &Paced::new(1, 6));
-    assert_same(&rt, &Wire::new(100, 2450), &Paced::new(1, 20));
-    assert_same(&rt, &Cyclic::new(10, &[0, 1, 5]), &Paced::new(1, 3));
 }
 
 #[test]
