@@ -9,8 +9,6 @@ mod decodes;
 #[cfg(test)]
 mod example;
 #[cfg(test)]
-mod finds;
-#[cfg(test)]
 mod lookups;
 #[cfg(test)]
 mod replays;
