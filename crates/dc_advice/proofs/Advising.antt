@@ -10,13 +10,10 @@ use Rattle.dc_answer.specs.declared.exit.Outcome.TheVariants.{Unreadable}
 use Rattle.dc_answer.specs.declared.inputs.Unloaded.TheVariants.{Refused}
 use Rattle.dc_answer.specs.lemmas.Judgments.{judged_as, one_said}
 use Rattle.dc_device.specs.Lines.{spelled}
-use Rattle.dc_cert.specs.Bounds.{CertificateRows, numbers_of}
-use Rattle.dc_cert.specs.Faults.{fault_text}
+use Rattle.dc_cert.specs.Bounds.{numbers_of}
 use Rattle.dc_cert.specs.NamedRows.{NamedRows}
 use Rattle.dc_cert.specs.Reading.{certificate_of}
-use Rattle.dc_cert.specs.declared.fault.Fault.{Fault}
 use Rattle.dc_check.specs.Verdict.{misnaming, verdict_of}
-use Rattle.dc_check.specs.declared.fault.CheckFault.{CheckFault}
 use Rattle.dc_margin.specs.Lines.{margin_lines_of}
 use Rattle.dc_parts.specs.FaultText.{table_fault_text}
 use Rattle.dc_parts.specs.declared.fault.BuildError.TheVariants.{Refused as RefusedTables}
@@ -37,14 +34,6 @@ lines_judged wanted first rest line text outcome same is lines ends =
 pub named-lines : (t : TableRows) (claims : NamedRows) → misnaming t claims ≡ None → (answer_margins t claims).lines ≡ verdict_line t (verdict_of t claims) ∷ map (margin_text t) (margin_lines_of t (numbers_of claims))
 named-lines t claims named = ap (λ m. verdict_line t (verdict_of t claims) ∷ lines_where m t (numbers_of claims)) named
 
--- of one with others
-no-lines : (m : Option CheckFault) (t : TableRows) (c : CertificateRows) → m ≢ None → lines_where m t c ≡ []
-no-lines None t c some = absurd (some refl)
-no-lines (Some fault) t c some = refl
-
-pub misnamed-lines : (t : TableRows) (claims : NamedRows) → misnaming t claims ≢ None → (answer_margins t claims).lines ≡ verdict_line t (verdict_of t claims) ∷ []
-misnamed-lines t claims some = ap (λ lines. verdict_line t (verdict_of t claims) ∷ lines) (no-lines (misnaming t claims) t (numbers_of claims) some)
-
 -- one line was kept, or memory was refused
 pub line_kept : (Is : Answer → Type 0) (text line printed : List ℕ) (result : Result Outcome Failure) → printed ≡ line → Is (one_line line Unreadable)
     → IfOk result (λ x. text ≡ printed) → IfOk result (λ o. o ≡ Unreadable) → IfErr result (λ e. e ≡ Memory) → Judged Is text result
@@ -60,14 +49,6 @@ pub claims_judged : (t : TableRows) (r : Option (List ℕ)) (text : List ℕ) (n
     → Answers (answer_claims t (Ok named)) text result → IfSome r (λ given. Answers (answer_claims t (certificate_of given)) text result)
 claims_judged t None text named result loads judged = tt
 claims_judged t (Some given) text named result loads judged = rw loads judged
-
--- its first fault was kept
-pub claims_unread : (t : TableRows) (r : Option (List ℕ)) (text line : List ℕ) (fault printed : Fault) (result : Result Outcome Failure) → IfSome r (λ given. certificate_of given ≡ Err fault) → printed ≡ fault
-    → line ≡ codes "unreadable " ++ fault_text printed → IfOk result (λ x. text ≡ line) → IfOk result (λ o. o ≡ Unreadable) → IfErr result (λ e. e ≡ Memory)
-    → IfSome r (λ given. Answers (answer_claims t (certificate_of given)) text result)
-claims_unread t None text line fault printed result loads at is kept ends failed = tt
-claims_unread t (Some given) text line fault printed result loads at is kept ends failed =
-    rw loads (line_kept (λ answer. answer ≡ answer_claims t (Err fault)) text (codes "unreadable " ++ fault_text fault) line result (is ∙ ap (λ f. codes "unreadable " ++ fault_text f) at) refl kept ends failed)
 
 -- ---- both texts
 

@@ -61,8 +61,8 @@ fn judge_obstacle(
     }
 }
 
-// Finds the least certificate for tables, and keeps its verdict and the lines of its margins; where none is accepted, what
-// stands in the way, and the lines of what the finder reached.
+// Finds the least certificate for tables, and keeps its verdict and the lines of its margins; where none is accepted,
+// what stands in the way, and the lines of what the finder reached.
 fn judge_least(alloc: Global, tables: &Tables, text: &mut Vec<u8>) -> Result<Outcome, Failure>
     ensures answer { Judged (AnswersRows tables.now) text.new.items result }
     ensures memory { IfErr result (λ e. e ≡ Failure.Memory) }
@@ -93,9 +93,9 @@ fn judge_alone<T: Source>(
 }
 
 /// Writes what `run_margins` writes of the least certificate for tables, which are read whole from their source, onto a
-/// sink; where none is accepted, a line that says what stands first in the way of every certificate, and then the lines of
-/// the inputs, outputs and labels that the finder reached, with their least numbers: those before it; the input itself too,
-/// where its queue is too short; all, where a rule on a label is broken.
+/// sink; where none is accepted, a line that says what stands first in the way of every certificate, and then the lines
+/// of the inputs, outputs and labels that the finder reached, with their least numbers: those before it; the input
+/// itself too, where its queue is too short; all, where a rule on a label is broken.
 ///
 /// It ends `Done` where a certificate was found, `Refused` where none is accepted, `Unreadable` where the tables can't
 /// be read; `Failed` where a device failed or memory was refused: `failed memory` alone was written, or `failed device`

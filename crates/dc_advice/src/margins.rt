@@ -210,13 +210,13 @@ fn judge_sources<T: Source, C: Source>(
 }
 
 /// Judges a certificate for tables, both read whole from their sources, the tables first, and writes the verdict onto a
-/// sink, and then a line for each condition of each input, output and label: how far it is from failing, and what decides
-/// that. A certificate with other names than the tables' has the verdict alone.
+/// sink, and then a line for each condition of each input, output and label: how far it is from failing, and what
+/// decides that. A certificate with other names than the tables' has the verdict alone.
 ///
 /// It ends `Done` where the certificate is accepted, `Refused` where it is refused, `Unreadable` where a text can't be
-/// read; `Failed` where a device failed or memory was refused: `failed memory` alone was written, or `failed device` behind
-/// whole lines of a front of the answer; where a push or flush failed, a front of one of these or of the answer. That
-/// call is the last of the sink, and at most one pull of each source gives no byte.
+/// read; `Failed` where a device failed or memory was refused: `failed memory` alone was written, or `failed device`
+/// behind whole lines of a front of the answer; where a push or flush failed, a front of one of these or of the answer.
+/// That call is the last of the sink, and at most one pull of each source gives no byte.
 pub fn run_margins<T: Source, C: Source, K: Sink>(
     alloc: Global,
     tables: &mut T,

@@ -4,13 +4,9 @@ use Rattle.std.specs.Global.{Vec}
 use Rattle.dc_cert.specs.NamedRows.{NamedRows, named_rows}
 use Rattle.dc_cert.specs.Reading.{Reading as CertificateReading}
 use Rattle.dc_cert.specs.declared.certificate.Certificate.{Certificate}
-use Rattle.dc_cert.specs.declared.fault.CertRule.TheVariants.{NotJson}
 use Rattle.dc_cert.specs.declared.fault.Fault.{Fault}
-use Rattle.dc_cert.specs.declared.fault.TextPlace.TheVariants.{Top as TopPlace}
 use Rattle.dc_parts.specs.FaultText.{table_fault_text}
 use Rattle.dc_parts.specs.declared.fault.BuildError.TheVariants.{Refused as RefusedTables}
-use Rattle.dc_parts.specs.declared.fault.TableRule.TheVariants.{NotToml}
-use Rattle.dc_parts.specs.declared.fault.Section.TheVariants.{Top}
 use Rattle.dc_parts.specs.declared.fault.TableFault.{TableFault}
 use Rattle.dc_tables.specs.TableRows.{TableRows}
 use Rattle.dc_toml.specs.Faults.{Reading}
@@ -21,14 +17,6 @@ use Rattle.dc_answer.specs.Answer.{Answer, unreadable}
 use Rattle.dc_answer.specs.declared.answer.Failure.TheVariants.{Source, Sink, Memory}
 use Rattle.dc_answer.specs.declared.inputs.Unloaded.{Unloaded}
 use Rattle.dc_answer.specs.declared.inputs.Unloaded.TheVariants.{Refused, Failed}
-
--- the fault of a text that is too long, not UTF-8 or no TOML document
-abbrev pub no_document : TableFault
-no_document = record { rule = NotToml; section = Top; index = 0 }
-
--- the fault of a text that is too long, not UTF-8 or no JSON document
-abbrev pub no_json : Fault
-no_json = record { rule = NotJson; place = TopPlace }
 
 -- the whole text, or this fault where it is longer than a text may be; something else may fail with any text
 abbrev pub ReadsText : {F : Type 0} → F → List ℕ → Result (Vec ℕ) (Unloaded F) → Type 0

@@ -9,15 +9,18 @@ use crate::exit::{Exit, Outcome};
 use dc_device::{Broken, LineReader, LineWriter, Sink, Source};
 use dc_print::{Text, append, append_number};
 
-/// What failed: a device, or memory was refused.
+/// What kept an engine from its end.
 #[derive(Clone, Copy, Debug, PartialEq, Eq)]
 pub enum Failure {
+    /// A source failed.
     Source,
+    /// The sink failed.
     Sink,
+    /// Memory was refused.
     Memory,
 }
 
-/// The line of a fault.
+/// The line of a fault, `unreadable <code> at line <number>`. The code has at most 8 bytes.
 pub fn print_fault(text: &mut Text, code: &[u8], number: u64)
     requires { length code.now ≤ 8 }
     ensures { text.new.items ≡ fault_text code.now number }
@@ -29,7 +32,10 @@ pub fn print_fault(text: &mut Text, code: &[u8], number: u64)
     append_number(text, number);
 }
 
-/// Writes the last line, and pushes all that waits.
+/// Writes the last line, pushes all that waits, and lets everyone see it.
+///
+/// # Errors
+/// `Broken` where the sink failed: that call is its last.
 pub fn end_with<K: Sink>(writer: &mut LineWriter, sink: &mut K, line: &[u8]) -> Result<(), Broken>
     requires { K.failed sink.old + 1 < 2 ^ 64 }
     ensures bytes { Writes (K.contents sink.old) (K.contents sink.new)
@@ -43,7 +49,11 @@ pub fn end_with<K: Sink>(writer: &mut LineWriter, sink: &mut K, line: &[u8]) -> 
     writer.flush(sink)
 }
 
-/// Ends with the fault of a line.
+/// Ends as `Unreadable` with the line of a fault, pushes all that waits, and lets everyone see it. The code has at most
+/// 8 bytes.
+///
+/// # Errors
+/// `Sink` where the sink failed: that call is its last.
 pub fn end_at<K: Sink>(
     writer: &mut LineWriter,
     sink: &mut K,
@@ -68,7 +78,10 @@ pub fn end_at<K: Sink>(
     }
 }
 
-/// Asks the source for more, when everyone sees all that was written.
+/// Asks the source for more, when everyone sees all that was written: whether more came.
+///
+/// # Errors
+/// `Sink` where the sink failed: that call is its last; `Source` where the source failed.
 pub fn ask<S: Source, K: Sink>(
     reader: &mut LineReader,
     source: &mut S,
@@ -99,6 +112,9 @@ pub fn ask<S: Source, K: Sink>(
 }
 
 /// Writes the line of what was judged, where there is one.
+///
+/// # Errors
+/// As was judged; `Sink` where the sink failed: that call is its last.
 pub fn say<K: Sink>(
     judged: Result<Outcome, Failure>,
     line: &[u8],

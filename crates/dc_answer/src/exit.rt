@@ -5,13 +5,13 @@ ghost use Rattle.dc_answer.specs.Exits.{exit_code, exit_with};
 /// What a command ends with.
 #[derive(Clone, Copy, Debug, PartialEq, Eq)]
 pub enum Exit {
-    /// What was asked for was done: words decoded, a certificate accepted or found, all claims hold.
+    /// 0: what was asked for was done: words decoded, a certificate accepted or found, all claims hold.
     Done,
-    /// A certificate, an event or a claim was refused.
+    /// 1: a certificate, an event or a claim was refused.
     Refused,
-    /// A text can't be read.
+    /// 2: a text can't be read.
     Unreadable,
-    /// A device failed, memory was refused, or a thread could not be started.
+    /// 3: a device failed, memory was refused, or `failed threads` was answered.
     Failed,
 }
 

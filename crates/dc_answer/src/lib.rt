@@ -1,5 +1,5 @@
-//! What the engines of the commands do alike: they read tables and certificates from sources, write an answer onto a sink,
-//! and end with an exit.
+//! What the engines of the commands do alike: they read tables and certificates from sources, write an answer onto a
+//! sink, and end with an exit.
 #![tactic(auto)]
 
 mod answer;

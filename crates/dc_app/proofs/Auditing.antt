@@ -1,6 +1,5 @@
 -- What `audit` answers and reports, exit by exit.
 use Rattle.std.proofs.Common.{◌≡◌, ◌≢◌, ℕ, ◌++◌, List, [], ◌∷◌, refl, sym, ◌∙◌, ap, codes, Option, Some, None, IfSome, Result, Ok, Err, ◌⊎◌, inl, inr}
-use Rattle.dc_cert.specs.Bounds.{numbers_of}
 use Rattle.dc_cert.specs.Faults.{fault_text as certificate_fault_text}
 use Rattle.dc_cert.specs.NamedRows.{NamedRows}
 use Rattle.dc_cert.specs.Reading.{certificate_of}
@@ -24,10 +23,9 @@ use Rattle.dc_app.specs.Audit.{AnswersAudit, AnswersClaims, AnswersRun, AnswersV
 use Rattle.dc_app.specs.Check.{Certifies, Judges, answer_verdict}
 use Rattle.dc_answer.specs.Inputs.{Loads}
 use Rattle.dc_answer.specs.declared.answer.Failure.{Failure}
-use Rattle.dc_answer.specs.declared.answer.Failure.TheVariants.{Sink}
 use Rattle.dc_answer.specs.declared.exit.Outcome.{Outcome}
-use Rattle.dc_answer.specs.declared.exit.Outcome.TheVariants.{Done as WasDone, Refused as WasRefused, Unreadable as WasUnreadable}
-use Rattle.dc_answer.specs.lemmas.Judgments.{failed_texts, judged_as, one_said}
+use Rattle.dc_answer.specs.declared.exit.Outcome.TheVariants.{Done as WasDone, Unreadable as WasUnreadable}
+use Rattle.dc_answer.specs.lemmas.Judgments.{judged_as, one_said}
 use Rattle.dc_app.specs.declared.audit.Findings.{Findings}
 use Rattle.dc_answer.specs.declared.inputs.Unloaded.TheVariants.{Refused}
 use Rattle.dc_app.proofs.Numbers.{run_numbered}
@@ -63,18 +61,7 @@ module _ (t : TableRows) (ages : List ℕ) (events : Option (List ℕ)) where
 
 -- ---- the verdict
 
-none_where_done : (t : TableRows) (text : List ℕ) (outcome : Outcome) (verdict : Option CheckFault) → one_line text outcome ≡ answer_verdict t verdict → outcome ≡ WasDone → verdict ≡ None
-none_where_done t text outcome None is done = refl
-none_where_done t text outcome (Some fault) is done = let refused : outcome ≡ WasRefused = ap (λ (a : Answer). a.outcome) is in absurd (cc)
-
 module _ (t : TableRows) (claims : NamedRows) (events : Option (List ℕ)) (text : List ℕ) where
-  -- the certificate is accepted, and the run was judged
-  pub accepted_judged : (line : List ℕ) (outcome : Outcome) (result : Result Outcome Failure) → Judges t (Ok claims) line (Ok outcome) → outcome ≡ WasDone
-      → IfSome events (λ trace. Judged (λ answer. AnswersRun t (numbers_of claims).ages answer (run_of t trace)) text result) → IfSome events (λ trace. Judged (λ answer. AnswersClaims t trace answer (Ok claims)) text result)
-  accepted_judged line outcome result (is, certified) done judged =
-      let none : verdict_of t claims ≡ None = none_where_done t line outcome (verdict_of t claims) is done in
-      rw none judged
-
   verdict_judged : (outcome : Outcome) (trace : List ℕ) (verdict : Option CheckFault) → one_line text outcome ≡ answer_verdict t verdict → outcome ≢ WasDone → Judged (λ answer. AnswersVerdict t claims trace answer verdict) text (Ok outcome)
   verdict_judged outcome trace None is other = absurd (other (ap (λ (a : Answer). a.outcome) is))
   verdict_judged outcome trace (Some fault) is other = (one_line text outcome, is, refl, refl)
@@ -114,13 +101,6 @@ module _ (t : TableRows) (r events : Option (List ℕ)) (text : List ℕ) where
         → IfSome from (λ claims. IfSome events (λ trace. Judged (λ answer. AnswersClaims t trace answer (certificate_of claims)) text (Ok WasUnreadable)))
     by None loads = tt
     by (Some claims) loads = rw loads (said events)
-
-  -- nothing was judged
-  pub failed_claims : (failure : Failure) → failure ≢ Sink → IfSome r (λ claims. IfSome events (λ trace. Judged (λ answer. AnswersClaims t trace answer (certificate_of claims)) text (Err failure)))
-  failed_claims failure other = by r where
-    by : (from : Option (List ℕ)) → IfSome from (λ claims. IfSome events (λ trace. Judged (λ answer. AnswersClaims t trace answer (certificate_of claims)) text (Err failure)))
-    by None = tt
-    by (Some claims) = failed_texts events (λ trace answer. AnswersClaims t trace answer (certificate_of claims)) text failure other
 
 -- what follows it was asked for where it is accepted
 pub certified_order : (t : TableRows) (r : Option (List ℕ)) (named : NamedRows) (untouched : Type 0) → IfSome r (λ claims. certificate_of claims ≡ Ok named)

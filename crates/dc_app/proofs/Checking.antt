@@ -1,11 +1,11 @@
 -- What `check` answers and reports, exit by exit.
-use Rattle.std.proofs.Common.{◌≡◌, ◌≢◌, ℕ, ◌+◌, ◌≤◌, ◌++◌, List, [], refl, sym, ◌∙◌, ap, codes, Option, Some, None, IfErr, IfOk, IfSome, Result, Ok, Err}
+use Rattle.std.proofs.Common.{◌≡◌, ◌≢◌, ◌↔◌, ℕ, ◌+◌, ◌≤◌, ◌++◌, List, [], refl, sym, ◌∙◌, ap, subst, codes, Option, Some, None, IfErr, IfOk, IfSome, Result, Ok, Err}
 use Rattle.dc_cert.specs.NamedRows.{NamedRows}
 use Rattle.dc_cert.specs.Faults.{fault_text}
 use Rattle.dc_cert.specs.Reading.{certificate_of}
 use Rattle.dc_cert.specs.declared.fault.Fault.{Fault}
 use Rattle.dc_check.specs.Accepts.{Accepts}
-use Rattle.dc_check.specs.Certified.{AcceptedKeepTheirClaims}
+use Rattle.dc_check.specs.Certified.{KeepsItsClaims}
 use Rattle.dc_check.specs.Verdict.{verdict_of}
 use Rattle.dc_parts.specs.FaultText.{table_fault_text}
 use Rattle.dc_tables.specs.TableRows.{TableRows}
@@ -30,11 +30,23 @@ use Rattle.dc_answer.specs.declared.inputs.Unloaded.TheVariants.{Refused}
 
 -- ---- a certificate for tables
 
--- it is accepted
-pub accepted_judged : (t : TableRows) (claims : NamedRows) (line : List ℕ) → AcceptedKeepTheirClaims t → Accepts t claims → verdict_of t claims ≡ None → line ≡ accepted_text t
-    → Judges t (Ok claims) line (Ok WasDone)
-accepted_judged t claims line keep ok none is =
-    (rw (none, is) refl, (λ zero_is. record { claims = claims; read = refl; accepted = ok; kept = keep claims ok }))
+module _ (t : TableRows) (claims : NamedRows) (line : List ℕ) where
+  -- it is accepted, and that was printed
+  pub kept_judged : KeepsItsClaims t claims → Accepts t claims → verdict_of t claims ≡ None → line ≡ accepted_text t → Judges t (Ok claims) line (Ok WasDone)
+  kept_judged kept ok none is = (rw (none, is) refl, (λ zero_is. record { claims = claims; read = refl; accepted = ok; kept = kept }))
+
+  -- it is accepted for shared tables, and that was printed
+  pub shared_judged : (shared lawful printed : TableRows) → shared ≡ t → lawful ≡ t → printed ≡ t → KeepsItsClaims shared claims
+      → ((c : NamedRows) → (verdict_of lawful c ≡ None) ↔ Accepts lawful c) → verdict_of shared claims ≡ None → line ≡ accepted_text printed → Judges t (Ok claims) line (Ok WasDone)
+  shared_judged shared lawful printed same law_same print_same kept law none is =
+      let here = subst (λ u. verdict_of u claims ≡ None) same none in
+      let laws = subst (λ u. (c : NamedRows) → (verdict_of u c ≡ None) ↔ Accepts u c) law_same law in
+      kept_judged (subst (λ u. KeepsItsClaims u claims) same kept) ((laws claims).0 here) here (subst (λ u. line ≡ accepted_text u) print_same is)
+
+-- it was judged for shared tables
+pub judged_shared : (t shared : TableRows) (r : Option (List ℕ)) (line : List ℕ) (result : Result Outcome Failure) → shared ≡ t
+    → IfSome r (λ text. Judges shared (certificate_of text) line result) → IfSome r (λ text. Judges t (certificate_of text) line result)
+judged_shared t shared r line result same judges = subst (λ u. IfSome r (λ text. Judges u (certificate_of text) line result)) same judges
 
 -- it can't be read, and its fault was printed
 pub unread_judged : (t : TableRows) (r : Option (List ℕ)) (line : List ℕ) (fault printed : Fault) → IfSome r (λ text. certificate_of text ≡ Err fault) → printed ≡ fault
@@ -43,10 +55,10 @@ unread_judged t None line fault printed loads at is = tt
 unread_judged t (Some text) line fault printed loads at is = (rw (loads, is, at) refl, (λ e. absurd (cc)))
 
 -- it was read, and judged
-pub read_judged : (t : TableRows) (r : Option (List ℕ)) (line : List ℕ) (named : NamedRows) (outcome : Outcome) → IfSome r (λ text. certificate_of text ≡ Ok named)
-    → Judges t (Ok named) line (Ok outcome) → IfSome r (λ text. Judges t (certificate_of text) line (Ok outcome))
-read_judged t None line named outcome loads judges = tt
-read_judged t (Some text) line named outcome loads judges = rw loads judges
+pub read_judged : (t : TableRows) (r : Option (List ℕ)) (line : List ℕ) (named : NamedRows) (result : Result Outcome Failure) → IfSome r (λ text. certificate_of text ≡ Ok named)
+    → Judges t (Ok named) line result → IfSome r (λ text. Judges t (certificate_of text) line result)
+read_judged t None line named result loads judges = tt
+read_judged t (Some text) line named result loads judges = rw loads judges
 
 -- ---- both texts
 

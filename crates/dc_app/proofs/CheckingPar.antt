@@ -2,11 +2,7 @@
 use Rattle.std.proofs.Common.{◌≡◌, ◌≢◌, ◌↔◌, ◌⊎◌, ℕ, List, refl, subst, Option, None, IfOk, Result, Ok, Err, inl, inr}
 use Rattle.dc_cert.specs.NamedRows.{NamedRows}
 use Rattle.dc_cert.specs.Reading.{Reading, certificate_of}
-use Rattle.dc_check.specs.Accepts.{Accepts}
-use Rattle.dc_check.specs.Certified.{KeepsItsClaims}
-use Rattle.dc_check.specs.Verdict.{verdict_of}
 use Rattle.dc_parts.specs.declared.fault.BuildError.TheVariants.{Refused as RefusedTables, Memory as NoMemory}
-use Rattle.dc_print.specs.Verdicts.{accepted_text}
 use Rattle.dc_tables.specs.TableRows.{TableRows}
 use Rattle.dc_answer.specs.Answer.{Answer, Reported, WholeOrNone, one_line}
 use Rattle.dc_answer.specs.Exits.{exit_with, is_answered}
@@ -19,18 +15,6 @@ use Rattle.dc_answer.specs.declared.exit.Outcome.{Outcome}
 use Rattle.dc_answer.specs.declared.exit.Outcome.TheVariants.{Done as WasDone, Refused as WasRefused, Unreadable as WasUnreadable}
 use Rattle.dc_app.specs.Check.{AnswersCheck, AnswersVerdict, AreCertified, Certifies, Judges, ReportsCheck, answer_claims}
 use Rattle.dc_app.specs.Texts.{AnswersClaims, AnswersTexts}
-
-module _ (t : TableRows) (claims : NamedRows) (line : List ℕ) where
-  kept_judged : KeepsItsClaims t claims → Accepts t claims → verdict_of t claims ≡ None → line ≡ accepted_text t → Judges t (Ok claims) line (Ok WasDone)
-  kept_judged kept ok none is = (rw (none, is) refl, (λ zero_is. record { claims = claims; read = refl; accepted = ok; kept = kept }))
-
-  -- a certificate is accepted for shared tables, and that was printed
-  pub shared_judged : (shared lawful printed : TableRows) → shared ≡ t → lawful ≡ t → printed ≡ t → KeepsItsClaims shared claims
-      → ((c : NamedRows) → (verdict_of lawful c ≡ None) ↔ Accepts lawful c) → verdict_of shared claims ≡ None → line ≡ accepted_text printed → Judges t (Ok claims) line (Ok WasDone)
-  shared_judged shared lawful printed same law_same print_same kept law none is =
-      let here = subst (λ u. verdict_of u claims ≡ None) same none in
-      let laws = subst (λ u. (c : NamedRows) → (verdict_of u c ≡ None) ↔ Accepts u c) law_same law in
-      kept_judged (subst (λ u. KeepsItsClaims u claims) same kept) ((laws claims).0 here) here (subst (λ u. line ≡ accepted_text u) print_same is)
 
 -- what was judged is an answer of one line
 lines_judged : (t : TableRows) (claims : NamedRows) (line : List ℕ) (judged : Result Outcome Failure) → Judges t (Ok claims) line judged → Judged (AnswersVerdict t claims) line judged

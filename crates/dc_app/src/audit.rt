@@ -12,22 +12,25 @@ ghost use Rattle.dc_event.specs.declared.trace_reader.TheConstants.{TRACE_LIMIT}
 ghost use Rattle.dc_toml.specs.declared.read.TheConstants.{TEXT_LIMIT};
 ghost use Rattle.dc_answer.specs.Answer.{Any, LeavesSink, Raises, Reported};
 ghost use Rattle.dc_app.specs.Audit.{AnswersAudit, AnswersClaims, AnswersRun, AreFound, OnlyCertified, ReportsAudit, answer_findings, claims_text, findings_lines, holds_text, run_of};
-ghost use Rattle.dc_app.specs.Check.{Certifies};
+ghost use Rattle.dc_app.specs.Check.{Certifies, Judges};
 ghost use Rattle.dc_answer.specs.Inputs.{OnlyBehind};
 ghost use Rattle.dc_answer.specs.Judging.{Judged};
 ghost use Rattle.dc_print.specs.declared.text.TheConstants.{TEXT_CAPACITY};
 
-use crate::check::judge;
 use crate::recording::load_run;
 use crate::replay::code_of;
 use dc_answer::{
     Exit, Failure, Outcome, Unloaded, load, load_certificate, print_fault, report, say,
 };
 use dc_cert::Certificate;
+use dc_check::laws::{accepted_certificates_keep_their_claims, no_fault_is_acceptance};
+use dc_check::verdict;
 use dc_device::{LineWriter, Sink, Source};
 use dc_event::{Claim, Event};
 use dc_oracle::{claims, keeps_budgets, keeps_sources};
-use dc_print::{Text, append, append_number, print_cert_fault, print_table_fault};
+use dc_print::{
+    Text, append, append_number, print_accepted, print_cert_fault, print_refused, print_table_fault,
+};
 use dc_tables::Tables;
 use std::alloc::{AllocError, Global};
 
@@ -77,7 +80,8 @@ fn append_holds(text: &mut Text, subject: &[u8], place: Option<usize>)
     }
 }
 
-/// Puts the line of the claims at the end.
+/// Puts the line of the claims at the end, `claims hold`, or which claim fails at which place. The text has room for 56
+/// bytes more.
 pub fn append_claims(text: &mut Text, failure: Option<(Claim, usize)>)
     requires { array_vec_len text.old + 56 ≤ TEXT_CAPACITY }
     ensures { text.new.items ≡ text.old.items ++ claims_text failure }
@@ -161,6 +165,24 @@ fn audit_trace<S: Source>(
     }
 }
 
+// Judges a certificate, and prints the verdict.
+fn judge(tables: &Tables, certificate: &Certificate, text: &mut Text) -> Outcome
+    ensures { Judges tables.now (Ok (named_rows certificate.now)) text.new.items (Ok result) }
+{
+    accepted_certificates_keep_their_claims(tables);
+    no_fault_is_acceptance(tables);
+    match verdict(tables, certificate) {
+        Ok(()) => {
+            print_accepted(text, tables);
+            Outcome::Done
+        }
+        Err(fault) => {
+            print_refused(text, tables, fault);
+            Outcome::Refused
+        }
+    }
+}
+
 // Judges a certificate, and then the run of a trace.
 fn audit_certificate<S: Source>(
     alloc: Global,
@@ -241,15 +263,16 @@ fn audit_sources<T: Source, C: Source, S: Source>(
     }
 }
 
-/// Audits a recorded run: judges a certificate for tables, and then, by the definitions over the whole history, whether the
-/// run of a trace keeps the budgets, what is asked of the sources, and the four claims by the certificate's ages. Each of
-/// the three is reported in a line, with the first place at which it fails.
+/// Audits a recorded run: judges a certificate for tables, and then, by the definitions over the whole history, whether
+/// the run of a trace keeps the budgets, what is asked of the sources, and the four claims by the certificate's ages.
+/// Each of the three is reported in a line, with the first place at which it fails.
 ///
 /// It ends `Done` where all three hold, `Refused` where one fails or the certificate is refused, `Unreadable` where a
 /// text can't be read, `Failed` where a device failed or memory was refused: `failed memory` alone was written, or
-/// `failed device` behind whole lines of a front of the answer; where a push or flush failed, a front of one of these or
-/// of the answer. That call is the last of the sink, and at most one pull of each source gives no byte. The certificate
-/// is asked for only where the tables are in order, and the trace only where the certificate is accepted for them.
+/// `failed device` behind whole lines of a front of the answer; where a push or flush failed, a front of one of these
+/// or of the answer. That call is the last of the sink, and at most one pull of each source gives no byte. The
+/// certificate is asked for only where the tables are in order, and the trace only where the certificate is accepted
+/// for them.
 pub fn run_audit<T: Source, C: Source, S: Source, K: Sink>(
     alloc: Global,
     tables: &mut T,

@@ -1,9 +1,13 @@
 //! `check`: the verdict on a certificate, in one line.
-ghost use Rattle.std.specs.Prelude.{◌≡◌, ◌≢◌, ℕ, List, ◌+◌, ◌^◌, ◌<◌, ◌≤◌, IfErr, IfOk, IfSome, Some, Ok};
+ghost use Rattle.std.specs.Prelude.{◌≡◌, ◌≢◌, ℕ, List, ◌+◌, ◌^◌, ◌<◌, ◌≤◌, IfErr, IfOk, IfSome, MatchResult, None, Some, Ok};
+ghost use Rattle.std.specs.Arc.{arc_value};
 ghost use Rattle.dc_device.specs.Device.{AsksUpTo};
 ghost use Rattle.dc_toml.specs.Reading.{tables_of};
 ghost use Rattle.dc_cert.specs.NamedRows.{named_rows};
 ghost use Rattle.dc_cert.specs.Reading.{certificate_of};
+ghost use Rattle.dc_check.specs.Certified.{KeepsItsClaims};
+ghost use Rattle.dc_check.specs.Placed.{IsPlaced};
+ghost use Rattle.dc_check.specs.Verdict.{verdict_of};
 ghost use Rattle.dc_toml.specs.declared.read.TheConstants.{TEXT_LIMIT};
 ghost use Rattle.dc_answer.specs.Answer.{Any, LeavesSink, Raises, Reported};
 ghost use Rattle.dc_app.specs.Check.{Judges, JudgesTexts, ReportsCheck};
@@ -11,27 +15,47 @@ ghost use Rattle.dc_answer.specs.Inputs.{OnlyBehind};
 
 use dc_answer::{Exit, Failure, Outcome, Unloaded, load, load_certificate, report, say};
 use dc_cert::Certificate;
-use dc_check::laws::{accepted_certificates_keep_their_claims, no_fault_is_acceptance};
-use dc_check::verdict;
+use dc_check::laws::no_fault_is_acceptance;
+use dc_check::{CheckFault, check};
 use dc_device::{LineWriter, Sink, Source};
 use dc_print::{Text, print_accepted, print_cert_fault, print_refused, print_table_fault};
 use dc_tables::Tables;
 use std::alloc::Global;
+use std::sync::Arc;
 
-/// Judges a certificate, and prints the verdict.
-pub fn judge(tables: &Tables, certificate: &Certificate, line: &mut Text) -> Outcome
-    ensures { Judges tables.now (Ok (named_rows certificate.now)) line.new.items (Ok result) }
+// Whether a certificate is accepted for tables, or its first fault.
+fn verdict_for(tables: Arc<Tables>, certificate: Certificate) -> Result<(), CheckFault>
+    ensures claims { IfOk result (λ _. KeepsItsClaims (arc_value tables) (named_rows certificate)) }
+    ensures place { IfErr result (λ fault. IsPlaced (arc_value tables) fault) }
+    ensures exact { MatchResult result (λ _. verdict_of (arc_value tables) (named_rows certificate) ≡ None) (λ fault. verdict_of (arc_value tables) (named_rows certificate) ≡ Some fault) }
 {
-    accepted_certificates_keep_their_claims(tables);
+    match check(tables, certificate) {
+        Ok(_) => Ok(()),
+        Err(fault) => Err(fault),
+    }
+}
+
+// Judges a certificate, and prints the verdict; or memory was refused.
+fn judge(
+    tables: &Arc<Tables>,
+    certificate: Certificate,
+    line: &mut Text,
+) -> Result<Outcome, Failure>
+    ensures answer { Judges (arc_value tables.now) (Ok (named_rows certificate)) line.new.items result }
+    ensures memory { IfErr result (λ e. e ≡ Failure.Memory) }
+{
+    let Ok(shared) = Arc::try_clone(tables) else {
+        return Err(Failure::Memory);
+    };
     no_fault_is_acceptance(tables);
-    match verdict(tables, certificate) {
+    match verdict_for(shared, certificate) {
         Ok(()) => {
             print_accepted(line, tables);
-            Outcome::Done
+            Ok(Outcome::Done)
         }
         Err(fault) => {
             print_refused(line, tables, fault);
-            Outcome::Refused
+            Ok(Outcome::Refused)
         }
     }
 }
@@ -39,23 +63,42 @@ pub fn judge(tables: &Tables, certificate: &Certificate, line: &mut Text) -> Out
 // Judges the text of a certificate that a source gives.
 fn judge_source<C: Source>(
     alloc: Global,
-    tables: &Tables,
+    tables: &Arc<Tables>,
     certificate: &mut C,
     line: &mut Text,
 ) -> Result<Outcome, Failure>
     requires { C.failed certificate.old + 1 < 2 ^ 64 }
-    ensures answer { IfSome (C.remaining certificate.old) (λ text. Judges tables.now (certificate_of text) line.new.items result) }
+    ensures answer { IfSome (C.remaining certificate.old) (λ text. Judges (arc_value tables.now) (certificate_of text) line.new.items result) }
     ensures source { Raises (C.failed certificate.old) (C.failed certificate.new) result }
     ensures asks { AsksUpTo TEXT_LIMIT (C.asked certificate.old) (C.asked certificate.new) (C.dry certificate.old) (C.dry certificate.new) }
     ensures sink { IfErr result (λ e. e ≢ Failure.Sink) }
 {
     match load_certificate(alloc, certificate) {
-        Ok(certificate) => Ok(judge(tables, &certificate, line)),
+        Ok(certificate) => judge(tables, certificate, line),
         Err(Unloaded::Refused(fault)) => {
             print_cert_fault(line, fault);
             Ok(Outcome::Unreadable)
         }
         Err(Unloaded::Failed(cause)) => Err(cause),
+    }
+}
+
+// The same, for tables that were read.
+fn judge_for<C: Source>(
+    alloc: Global,
+    tables: Tables,
+    certificate: &mut C,
+    line: &mut Text,
+) -> Result<Outcome, Failure>
+    requires { C.failed certificate.old + 1 < 2 ^ 64 }
+    ensures answer { IfSome (C.remaining certificate.old) (λ text. Judges tables (certificate_of text) line.new.items result) }
+    ensures source { Raises (C.failed certificate.old) (C.failed certificate.new) result }
+    ensures asks { AsksUpTo TEXT_LIMIT (C.asked certificate.old) (C.asked certificate.new) (C.dry certificate.old) (C.dry certificate.new) }
+    ensures sink { IfErr result (λ e. e ≢ Failure.Sink) }
+{
+    match Arc::new(alloc, tables) {
+        Ok(tables) => judge_source(alloc, &tables, certificate, line),
+        Err(_) => Err(Failure::Memory),
     }
 }
 
@@ -77,7 +120,7 @@ fn judge_sources<T: Source, C: Source>(
     ensures sink { IfErr result (λ e. e ≢ Failure.Sink) }
 {
     match load(alloc, tables) {
-        Ok(tables) => judge_source(alloc, &tables, certificate, line),
+        Ok(tables) => judge_for(alloc, tables, certificate, line),
         Err(Unloaded::Refused(fault)) => {
             print_table_fault(line, fault);
             Ok(Outcome::Unreadable)

@@ -115,7 +115,7 @@ fn answer<S: Source, K: Sink>(
     }
 }
 
-/// Decodes the words on a source, one a line, onto a sink, with no memory but fixed buffers.
+/// Decodes the words on a source, one a line, onto a sink. It is lent no allocator.
 ///
 /// It ends `Done` at the end of the text; `Unreadable` at the first faulty line, whose fault was written after the
 /// lines before it; `Failed` where a device failed. Where a pull alone failed, whole lines of a front of the answer and

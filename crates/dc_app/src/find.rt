@@ -21,6 +21,9 @@ use dc_tables::Tables;
 use std::alloc::Global;
 
 /// Keeps a text for an outcome.
+///
+/// # Errors
+/// `Memory` where memory was refused.
 pub fn keep(bytes: &[u8], outcome: Outcome, line: &mut Vec<u8>) -> Result<Outcome, Failure>
     ensures kept { IfOk result (λ _. line.new.items ≡ bytes.now) }
     ensures len { IfOk result (λ _. vec_len line.new ≡ length bytes.now) }
@@ -54,7 +57,10 @@ fn keep_certificate(
     }
 }
 
-/// Keeps what stands in the way, where that is not want of memory.
+/// Keeps the line of what stands in the way, for `Refused`.
+///
+/// # Errors
+/// `Memory` where memory was refused, now or before.
 pub fn keep_obstacle(
     tables: &Tables,
     fault: FindFault,
@@ -74,7 +80,10 @@ pub fn keep_obstacle(
     keep(text.as_slice(), Outcome::Refused, line)
 }
 
-/// Keeps the first fault of the tables' text.
+/// Keeps the line of the first fault of the tables' text, for `Unreadable`.
+///
+/// # Errors
+/// `Memory` where memory was refused.
 pub fn keep_unreadable(fault: TableFault, line: &mut Vec<u8>) -> Result<Outcome, Failure>
     ensures kept { IfOk result (λ _. line.new.items ≡ codes "unreadable " ++ table_fault_text fault) }
     ensures outcome { IfOk result (λ o. o ≡ Outcome.Unreadable) }
@@ -121,9 +130,9 @@ fn judge_source<T: Source>(
 ///
 /// It ends `Done` where a certificate was found, and then it keeps its claims in every admissible run of the tables;
 /// `Refused` where none is accepted; `Unreadable` where the tables can't be read; `Failed` where a device failed or
-/// memory was refused: `failed memory` alone was written, or `failed device` behind the line or nothing; where a push or
-/// flush failed, a front of one of these or of the line. That call is the last of the sink, and at most one pull of the
-/// source gives no byte.
+/// memory was refused: `failed memory` alone was written, or `failed device` behind the line or nothing; where a push
+/// or flush failed, a front of one of these or of the line. That call is the last of the sink, and at most one pull of
+/// the source gives no byte.
 pub fn run_find<T: Source, K: Sink>(alloc: Global, tables: &mut T, sink: &mut K) -> Exit
     requires tables { T.failed tables.old + 1 < 2 ^ 64 }
     requires sink { K.failed sink.old + 1 < 2 ^ 64 }

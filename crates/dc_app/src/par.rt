@@ -102,14 +102,16 @@ impl Judge for Workers {
     }
 }
 
-/// Judges a certificate for tables by so many workers, 1 to [`MOST_WORKERS`](dc_checkpar::MOST_WORKERS), as [`run_check`](crate::run_check) does by one thread:
-/// both texts are read whole from their sources, the tables first, and the verdict is written as one line onto a sink.
+/// Judges a certificate for tables by so many workers, 1 to [`MOST_WORKERS`](dc_checkpar::MOST_WORKERS), as
+/// [`run_check`](crate::run_check) does by one thread: both texts are read whole from their sources, the tables first,
+/// and the verdict is written as one line onto a sink.
 ///
 /// It ends `Done` where the certificate is accepted, and then it keeps its claims in every admissible run of the
-/// tables; `Refused` where it is refused; `Unreadable` where a text can't be read; `Failed` where a device failed,
-/// memory was refused or a thread could not be started: `failed memory` or `failed threads` alone was written, or
-/// `failed device` behind the line or nothing; where a push or flush failed, a front of one of these or of the line.
-/// That call is the last of the sink, and at most one pull of each source gives no byte.
+/// tables; `Refused` where it is refused; `Unreadable` where a text can't be read; `Failed` where a device failed or
+/// memory was refused, `failed memory` alone being written, or `failed device` behind the line or nothing; and `Failed`
+/// with `failed threads` alone, of which no clause says when: that it is where a thread could not be started is tested.
+/// Where a push or flush failed, a front of one of these or of the line was written. That call is the last of the sink,
+/// and at most one pull of each source gives no byte. The certificate is asked for only where the tables are in order.
 pub fn run_check_par<T: Source, C: Source, K: Sink, R: Threads + Wait + Sync>(
     rt: &R,
     alloc: Global,

@@ -14,8 +14,8 @@ use std::alloc::Global;
 /// How many events are audited at most.
 const MOST_EVENTS: usize = 100_000;
 
-/// The run that the trace of a source tells, read up to its first fault. A trace of more than [`MOST_EVENTS`] events has
-/// its fault at the next.
+/// The run that the trace of a source tells, read up to its first fault. A trace of more than [`MOST_EVENTS`] events
+/// has its fault at the next.
 ///
 /// # Errors
 /// `Refused` with the trace's first fault; `Failed` where the source failed or memory was refused.

@@ -255,15 +255,16 @@ fn replay<T: Source, S: Source, K: Sink>(
     answer_on(alloc, tables, all, trace, writer, sink)
 }
 
-/// Replays a recorded trace through the concentrator of a tables' text, onto a sink: each reply as a line, or only those
-/// that tell of a word that is sent or lost.
+/// Replays a recorded trace through the concentrator of a tables' text, onto a sink: each reply as a line where `all`,
+/// else only those that tell of a word that is sent, refused or lost.
 ///
 /// It ends `Done` at the end of the trace; `Refused` at the first event that may not follow, `Unreadable` at the first
-/// fault of the tables or of the trace, whose line was written after the lines before it; `Failed` where a device failed or
-/// memory was refused. Where no push or flush failed, whole lines of a front of the answer and then `failed device` were
-/// written, or, where memory was refused, `failed memory` alone. A push or flush that failed is the last call of the
-/// sink, and at most one pull of each source gives no byte. Where a pull found the end of the trace, the lines of all its
-/// events that are printed had been seen before it.
+/// fault of the tables or of the trace, whose line was written after the lines before it; `Failed` where a device
+/// failed or memory was refused. Where no push or flush failed, whole lines of a front of the answer and then
+/// `failed device` were written, or, where memory was refused, `failed memory` alone. A push or flush that failed is
+/// the last call of the sink, and at most one pull of each source gives no byte. Where a pull found the end of the
+/// trace, the lines of all its events that are printed had been seen before it. The trace is asked for only where the
+/// tables are in order.
 pub fn run_replay<T: Source, S: Source, K: Sink>(
     alloc: Global,
     all: bool,

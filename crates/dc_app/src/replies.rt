@@ -151,7 +151,7 @@ fn is_reported(reply: Reply) -> bool
     }
 }
 
-/// Whether a reply is printed: each one, or those that tell of a word that is sent or lost.
+/// Whether a reply is printed: each one, or those that tell of a word that is sent, refused or lost.
 pub fn is_printed(all: bool, reply: Reply) -> bool
     ensures { result ≡ (all || is_reported_reply reply) }
 {

@@ -4,32 +4,41 @@ ghost use Rattle.dc_core.specs.CoreSteps.{rows_of};
 ghost use Rattle.dc_event.specs.Time.{ends};
 ghost use Rattle.dc_event.specs.declared.event.Event.{Event};
 ghost use Rattle.dc_app.specs.Steps.{StandsAt, Steps};
-ghost use Rattle.dc_core.specs.declared.limits.TheConstants.{LAST_TICK};
+ghost use Rattle.dc_transmit.specs.declared.limits.TheConstants.{LAST_TICK};
 
 use dc_core::{Core, StepFault};
 use dc_event::{Event, Reply};
 
-/// A concentrator, its running tick, up to `LAST_TICK`, and the number of the trace's next line.
+/// A concentrator, and how far the trace was carried out.
 #[derive(Drop)]
 pub struct Progress {
+    /// The concentrator.
     pub core: Core,
+    /// The running tick, up to [`LAST_TICK`](dc_transmit::LAST_TICK).
     pub tick: u64,
+    /// The number of the trace's next line, from 1.
     pub number: u64,
 }
 
-/// An event that was carried out, its reply, and its tick: for a Tick the new one.
+/// An event that was carried out.
 #[derive(Clone, Copy, Debug, PartialEq, Eq)]
 pub struct Step {
+    /// Its tick, for a Tick the new one.
     pub tick: u64,
+    /// The event.
     pub event: Event,
+    /// Its reply.
     pub reply: Reply,
 }
 
-/// An event that was refused, and the number of its line.
+/// An event that was refused.
 #[derive(Clone, Copy, Debug, PartialEq, Eq)]
 pub struct Refusal {
+    /// The event.
     pub event: Event,
+    /// Why it may not follow those before it.
     pub fault: StepFault,
+    /// The number of its line, from 1.
     pub number: u64,
 }
 

@@ -25,7 +25,7 @@ use std::marker::Sync;
 use std::sync::{Arc, Wait};
 use std::thread::Threads;
 
-/// What is told as `failed threads`: a thread that could not be started, or a gate that was stuck.
+/// What is told as `failed threads`. No clause says when; that it is where a thread could not be started is tested.
 #[derive(Clone, Copy, Debug, PartialEq, Eq)]
 pub struct NoThread;
 
@@ -40,7 +40,7 @@ pub trait Judge {
     /// Judges a certificate, and prints the answer.
     ///
     /// # Errors
-    /// `NoThread` for threads; within, `Memory` where memory was refused.
+    /// `NoThread`, of which no clause says when; within, `Memory` where memory was refused.
     fn judge<R: Threads + Wait + Sync>(
         &self,
         rt: &R,
@@ -147,13 +147,15 @@ fn end_without_thread<K: Sink>(writer: &mut LineWriter, sink: &mut K) -> Exit
     Exit::Failed
 }
 
-/// Judges the texts of tables and of a certificate, both read whole from their sources, the tables first, for tables that
-/// threads share, and writes the answer onto a sink.
+/// Judges the texts of tables and of a certificate, both read whole from their sources, the tables first, for tables
+/// that threads share, and writes the answer onto a sink.
 ///
-/// It ends as was judged; as `Unreadable` where a text can't be read; `Failed` where a device failed, memory was refused or
-/// a thread could not be started: `failed memory` or `failed threads` alone was written, or `failed device` behind whole
-/// lines of a front of the answer; where a push or flush failed, a front of one of these or of the answer. That call is
-/// the last of the sink, and at most one pull of each source gives no byte.
+/// It ends as was judged; as `Unreadable` where a text can't be read; `Failed` where a device failed or memory was
+/// refused, `failed memory` alone being written, or `failed device` behind whole lines of a front of the answer; and
+/// `Failed` with `failed threads` alone, of which no clause says when: that it is where a thread could not be started
+/// is tested. Where a push or flush failed, a front of one of these or of the answer was written. That call is the last
+/// of the sink, and at most one pull of each source gives no byte. The certificate is asked for only where the tables
+/// are in order.
 pub fn run_in_threads<J: Judge, T: Source, C: Source, K: Sink, R: Threads + Wait + Sync>(
     rt: &R,
     alloc: Global,

@@ -7,8 +7,6 @@ mod certificates;
 #[cfg(test)]
 mod decodes;
 #[cfg(test)]
-mod example;
-#[cfg(test)]
 mod lookups;
 #[cfg(test)]
 mod replays;

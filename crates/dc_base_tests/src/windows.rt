@@ -102,6 +102,7 @@ fn long_search_goes_by_jumps_alone(rt: HostRuntime) {
         calls: Cell::new(0),
     };
     assert!(rt; backlog_fails(&counted, &Paced::new(2, 1), 100_000, 14).is_none());
+    assert!(rt; counted.calls.get() <= 10_005);
     assert!(rt; delay_fails(&counted, &Paced::new(2, 1), 100_000, 6).is_none());
     assert!(rt; first_failures(&counted, &Paced::new(2, 1), 100_000, 14, 6) == (None, None));
     assert!(rt; counted.calls.get() <= 30_015);

@@ -50,7 +50,7 @@ fn bench_certificate<R: Threads + Wait + Sync>(
     }
 }
 
-// A bench, and for how many ticks, 1 to 1,000, its hub runs.
+// A bench, and for how many ticks, 1 to `LONGEST_SCRIPT`, its hub is to run.
 #[derive(Clone, Copy, Debug, PartialEq, Eq)]
 struct Bench {
     ticks: u16,
@@ -73,15 +73,18 @@ impl Judge for Bench {
     }
 }
 
-/// Judges a certificate for tables, and where it is accepted runs a hub over them for so many ticks, 1 to 1,000, with a
-/// thread for each actor but the clock; then closes it, and writes what is seen of its book: a line each for the ticks,
-/// the entries, the overruns, and the claims by the certificate's ages. No clause says that the book is that hub's.
+/// Judges a certificate for tables, both read whole from their sources, the tables first, and where it is accepted
+/// writes onto a sink what is seen of a closed book: a line each for the ticks, 1 to
+/// [`LONGEST_SCRIPT`](dc_script::LONGEST_SCRIPT), the entries, the overruns, and the claims by the ages of the book's
+/// certificate; or that the hub refused. That the book is of a hub over these tables that ran for so many ticks is
+/// tested.
 ///
 /// It ends `Done` where the claims hold; `Refused` where one fails, the certificate is refused or the hub refused;
-/// `Unreadable` where a text can't be read; `Failed` where a device failed, memory was refused or a thread could not be
-/// started: `failed memory` or `failed threads` alone was written, or `failed device` behind whole lines of a front of the
-/// answer; where a push or flush failed, a front of one of these or of the answer. That call is the last of the sink, and
-/// at most one pull of each source gives no byte.
+/// `Unreadable` where a text can't be read; `Failed` where a device failed or memory was refused, `failed memory` alone
+/// being written, or `failed device` behind whole lines of a front of the answer; and `Failed` with `failed threads`
+/// alone, of which no clause says when: that it is where a thread could not be started is tested. Where a push or flush
+/// failed, a front of one of these or of the answer was written. That call is the last of the sink, and at most one
+/// pull of each source gives no byte. The certificate is asked for only where the tables are in order.
 pub fn run_bench<T: Source, C: Source, K: Sink, R: Threads + Wait + Sync>(
     rt: &R,
     alloc: Global,

@@ -214,8 +214,8 @@ fn run_hub<L: Ledger + Send + Sync, R: Threads + Wait + Sync>(
     }
 }
 
-/// Runs a hub over certified tables for so many ticks by the script of a bench, closes it, and prints what is seen of its
-/// book.
+/// Runs a hub over certified tables for so many ticks by the script of a bench, closes it, and prints what is seen of
+/// its book.
 pub fn run_certified<R: Threads + Wait + Sync>(
     rt: &R,
     alloc: Global,

@@ -69,7 +69,7 @@ impl Model for BoardSeat {
 }
 
 impl Board {
-    /// A board with a word for each cap, and a seat that has noted and seen nothing.
+    /// A board with a word for each cap, at most [`MOST_WORDS`], and a seat that has noted and seen nothing.
     ///
     /// # Errors
     /// Out of memory.
@@ -83,7 +83,7 @@ impl Board {
         Ok((Board { caps, table }, BoardSeat { seat }))
     }
 
-    /// The most that the word can hold.
+    /// The most that the word of this number, from 0, can hold.
     pub fn cap(&self, i: usize) -> u64
         requires { i < length self.now.1 }
         ensures { result ≡ slice_index self.now.1 i }
@@ -91,7 +91,7 @@ impl Board {
         self.caps[i]
     }
 
-    /// Notes a mark in one step: the word is at least as great from then on.
+    /// Notes a mark, at most the word's cap, in one step: the word is at least as great from then on.
     pub fn note(&self, seat: &mut BoardSeat, i: usize, mark: u64)
         requires seat { IsSeatOf self.now seat.old }
         requires index { i < length self.now.1 }

@@ -40,8 +40,3 @@ pace_from m n (t ∷ ts) = pace_from m (max t n + m) ts
 -- from 0 at the start
 unfoldable pub pace_of : (m : ℕ) → List ℕ → ℕ
 pace_of m ts = pace_from m 0 ts
-
--- of offered ticks in order, those that the number n lets through: a word of tick t is early where t + j is below it
-abbrev pub let_through : (m j n : ℕ) → List ℕ → List ℕ
-let_through m j n [] = []
-let_through m j n (t ∷ ts) = cond (nat_lt (t + j) n) (let_through m j n ts) (t ∷ let_through m j (max t n + m) ts)

@@ -1,6 +1,5 @@
 -- Entries that are due at fixed offsets in each frame.
-use Rattle.std.specs.Prelude.{◌≡◌, ℕ, ◌+◌, ◌*◌, ◌/◌, ◌%◌, ◌≤◌, ◌<◌, ◌↔◌, nat_le, List, length, slice_index, slice_index_or}
-use Rattle.std.specs.List.{count_by}
+use Rattle.std.specs.Prelude.{◌≡◌, ℕ, ◌+◌, ◌*◌, ◌/◌, ◌%◌, ◌≤◌, ◌<◌, nat_le, List, length, slice_index, slice_index_or}
 use Rattle.dc_bound.specs.Window.{count_in, ticks_of}
 use Rattle.dc_bound.specs.Places.{count_below}
 use Rattle.dc_bound.specs.Rounds.{most_among}
@@ -42,14 +41,6 @@ pub record IsFrame {E : Type 0} (off : E → ℕ) (z : E) (frame : ℕ) (es : Li
 -- how many entries are due at a tick or before it. No entry of a greater number than the tick is, since due ticks ascend
 unfoldable pub due_by : (ℕ → ℕ) → ℕ → ℕ
 due_by due tick = count_below (λ n. nat_le (due n) tick) (tick + 1)
-
--- the same from the offsets: whole frames, and the part of the last
-abbrev pub due_by_frames : {E : Type 0} → (E → ℕ) → ℕ → List E → ℕ → ℕ
-due_by_frames off frame es tick = tick / frame * length es + count_by (λ e. nat_le (off e) (tick % frame)) es
-
--- `count` tells the number of entries due by each tick: entry n is among them where it is due
-abbrev pub IsDueCount : (due count : ℕ → ℕ) → Type 0
-IsDueCount due count = (n t : ℕ) → (n < count t) ↔ (due n ≤ t)
 
 -- `least` is the least span of k + 1 neighbouring entries that begin with one below n, and is met
 pub record IsLeastSpan (frame : ℕ) (offsets : List ℕ) (k n least : ℕ) : Type 0 where

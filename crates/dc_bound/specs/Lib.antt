@@ -3,7 +3,6 @@ pub mod Window
 pub mod Run
 pub mod Places
 pub mod Moves
-pub mod KeepsUp
 -- ---- the words of the bounds
 pub mod Tags
 pub mod Rounds

@@ -10,6 +10,7 @@ pub mod Least
 pub mod FirstPlaces
 pub mod PlacesPush
 pub mod Queued
+pub mod KeepsUp
 pub mod QueueTimes
 pub mod QueuePush
 pub mod Items

@@ -35,8 +35,8 @@ pub trait ArrivalBound {
         ensures most { result.0 ≡ cap self.now d }
         ensures jump { IsNextJump (cap self.now) d result.1 };
 
-    /// The least number of ticks above `d`, up to [`LONGEST_SPAN`], in which more may come than in `d`; `None` where there is
-    /// none. `d` is at most [`LONGEST_SPAN`].
+    /// The least number of ticks above `d`, up to [`LONGEST_SPAN`], in which more may come than in `d`; `None` where
+    /// there is none. `d` is at most [`LONGEST_SPAN`].
     fn next_jump(&self, d: u32) -> Option<u32>
         requires { d ≤ LONGEST_SPAN }
         ensures { IsNextJump (cap self.now) d result }
@@ -121,8 +121,8 @@ pub struct Wire {
 }
 
 impl Wire {
-    /// The bound of a wire whose words lie `spacing` microseconds apart, 1 or more, in ticks of `tick` microseconds, 1 to
-    /// [`LONGEST_TICK`].
+    /// The bound of a wire whose words lie `spacing` microseconds apart, 1 or more, in ticks of `tick` microseconds, 1
+    /// to [`LONGEST_TICK`].
     pub fn new(tick: u32, spacing: u32) -> Wire
         requires some_tick { 1 ≤ tick }
         requires short_tick { tick ≤ LONGEST_TICK }

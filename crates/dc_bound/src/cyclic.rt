@@ -22,8 +22,9 @@ pub struct Cyclic<'a> {
 }
 
 impl<'a> Cyclic<'a> {
-    /// The bound of entries that are due in each frame of `frame` ticks, at most [`LONGEST_FRAME`](crate::LONGEST_FRAME),
-    /// at `offsets` from its start: 1 to [`MOST_OFFSETS`](crate::MOST_OFFSETS) of them, ascending and below the frame.
+    /// The bound of entries that are due in each frame of `frame` ticks, at most
+    /// [`LONGEST_FRAME`](crate::LONGEST_FRAME), at `offsets` from its start: 1 to [`MOST_OFFSETS`](crate::MOST_OFFSETS)
+    /// of them, ascending and below the frame.
     pub fn new(frame: u32, offsets: &'a [u32]) -> Cyclic<'a>
         requires framed { Offsets frame offsets.now }
         requires short { frame ≤ LONGEST_FRAME }

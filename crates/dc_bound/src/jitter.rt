@@ -9,8 +9,8 @@ ghost use Rattle.dc_bound.specs.declared.limits.TheConstants.{GREATEST_JITTER};
 
 use crate::arrival::{ArrivalBound, Wire, jump_at, later};
 
-/// A source whose words come at least `minimum` ticks apart, but up to `jitter` ticks late: any d consecutive ticks hold
-/// at most (d + jitter) / minimum, rounded up.
+/// A source whose words come at least `minimum` ticks apart, but up to `jitter` ticks late: any d consecutive ticks
+/// hold at most (d + jitter) / minimum, rounded up.
 #[derive(Clone, Copy, Debug)]
 pub struct Jittered {
     /// The least number of ticks from a word to the next without jitter, at least 1.

@@ -12,9 +12,11 @@ Serves s ms = (u d : ℕ) → d ≤ LONGEST_SPAN → u + d ≤ ticks_in ms → s
 abbrev pub Closes : (a s : ℕ → ℕ) → ℕ → Type 0
 Closes a s window = a window ≤ s (window - 1)
 
+-- the most that comes in w ticks, less the fewest visits in w - 2, is at most the backlog
 abbrev pub BacklogAt : (a s : ℕ → ℕ) (backlog : ℕ) → ℕ → Type 0
 BacklogAt a s backlog w = a w - s (w - 2) ≤ backlog
 
+-- the most that comes in w ticks is at most the fewest visits in w - 1 + delay
 abbrev pub DelayAt : (a s : ℕ → ℕ) (delay : ℕ) → ℕ → Type 0
 DelayAt a s delay w = a w ≤ s (w - 1 + delay)
 
@@ -22,9 +24,11 @@ DelayAt a s delay w = a w ≤ s (w - 1 + delay)
 abbrev pub EachWindow : (ℕ → Type 0) → ℕ → Type 0
 EachWindow P window = (w : ℕ) → 1 ≤ w → w ≤ window → P w
 
+-- the backlog is enough for each number of ticks from 1 to the window
 abbrev pub BacklogBounded : (a s : ℕ → ℕ) (window backlog : ℕ) → Type 0
 BacklogBounded a s window backlog = EachWindow (BacklogAt a s backlog) window
 
+-- the delay is enough for each number of ticks from 1 to the window
 abbrev pub DelayBounded : (a s : ℕ → ℕ) (window delay : ℕ) → Type 0
 DelayBounded a s window delay = EachWindow (DelayAt a s delay) window
 

@@ -8,8 +8,8 @@ use dc_bound::{ArrivalBound, ServiceBound};
 
 /// The first of the numbers of ticks from `first`, at least 1, to `last`, at most
 /// [`LONGEST_WINDOW`](crate::LONGEST_WINDOW), in which more than `backlog` may come above the visits in the whole ticks
-/// inside them, and the first in which more may come than is visited in as many ticks less one and `delay` more, at most
-/// as many as the longest window. `None` where there is none.
+/// inside them, and the first in which more may come than is visited in as many ticks less one and `delay` more, at
+/// most as many as the longest window. `None` where there is none.
 pub fn failures_between<A: ArrivalBound, S: ServiceBound>(
     arrivals: &A,
     service: &S,

@@ -10,8 +10,8 @@ ghost use Rattle.dc_busy.specs.declared.limits.TheConstants.{LONGEST_WINDOW};
 use crate::LONGEST_WINDOW;
 use dc_bound::{ArrivalBound, ServiceBound};
 
-/// The greatest number by which what may come in some number of ticks up to `window`, 1 to [`LONGEST_WINDOW`], is above the visits
-/// in the whole ticks inside them, two less; 0 where it is never above. It is the least backlog of which
+/// The greatest number by which what may come in some number of ticks up to `window`, 1 to [`LONGEST_WINDOW`], is above
+/// the visits in the whole ticks inside them, two less; 0 where it is never above. It is the least backlog of which
 /// [`crate::backlog_fails`] finds nothing.
 pub fn most_backlog<A: ArrivalBound, S: ServiceBound>(arrivals: &A, service: &S, window: u32) -> u64
     requires least { 1 ≤ window }
@@ -32,8 +32,8 @@ pub fn most_backlog<A: ArrivalBound, S: ServiceBound>(arrivals: &A, service: &S,
     greatest
 }
 
-/// The least delay up to [`LONGEST_WINDOW`] of which [`crate::delay_fails`] finds nothing in `window`, 1 to as many ticks; `None`
-/// where there is none.
+/// The least delay up to [`LONGEST_WINDOW`] of which [`crate::delay_fails`] finds nothing in `window`, 1 to as many
+/// ticks; `None` where there is none.
 pub fn least_delay<A: ArrivalBound, S: ServiceBound>(
     arrivals: &A,
     service: &S,
@@ -88,8 +88,8 @@ fn first_served<S: ServiceBound>(service: &S, count: u64, from: u32, to: u32) ->
     least_ticks(service, count, from, to)
 }
 
-// The least number of ticks from `from` to `to`, at most the longest span, that hold at least `count` visits; `None` where
-// there is none.
+// The least number of ticks from `from` to `to`, at most the longest span, that hold at least `count` visits; `None`
+// where there is none.
 fn least_ticks<S: ServiceBound>(service: &S, count: u64, from: u32, to: u32) -> Option<u32>
     requires order { from ≤ to }
     requires far { to ≤ LONGEST_SPAN }

@@ -29,8 +29,8 @@ pub fn closes<A: ArrivalBound, S: ServiceBound>(arrivals: &A, service: &S, windo
     arrivals.at_most(window) <= service.at_least(window - 1)
 }
 
-/// The first number of ticks up to `window`, 1 to [`LONGEST_WINDOW`], in which more than `backlog` may come above the visits in
-/// the whole ticks inside them, two less; `None` where there is none.
+/// The first number of ticks up to `window`, 1 to [`LONGEST_WINDOW`], in which more than `backlog` may come above the
+/// visits in the whole ticks inside them, two less; `None` where there is none.
 pub fn backlog_fails<A: ArrivalBound, S: ServiceBound>(
     arrivals: &A,
     service: &S,
@@ -55,8 +55,8 @@ pub fn backlog_fails<A: ArrivalBound, S: ServiceBound>(
     None
 }
 
-/// The first number of ticks up to `window`, 1 to [`LONGEST_WINDOW`], in which more may come than is visited in as many ticks less
-/// one and `delay` more, at most [`LONGEST_WINDOW`]; `None` where there is none.
+/// The first number of ticks up to `window`, 1 to [`LONGEST_WINDOW`], in which more may come than is visited in as many
+/// ticks less one and `delay` more, at most [`LONGEST_WINDOW`]; `None` where there is none.
 pub fn delay_fails<A: ArrivalBound, S: ServiceBound>(
     arrivals: &A,
     service: &S,
@@ -100,8 +100,8 @@ pub fn first_failures<A: ArrivalBound, S: ServiceBound>(
     failures_between(arrivals, service, 1, window, backlog, delay)
 }
 
-/// The busy-window law. Take any queue whose arrivals the bound allows and in which any `d` whole ticks hold at least as
-/// many visits as the floor at `d` says. Where the window closes:
+/// The busy-window law. Take any queue whose arrivals the bound allows and in which any `d` whole ticks hold at least
+/// as many visits as the floor at `d` says. Where the window closes:
 ///
 /// - if `backlog_fails` finds nothing, then at each place of the run what has come less what has been taken is at most
 ///   `backlog`;

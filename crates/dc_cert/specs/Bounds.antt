@@ -30,12 +30,15 @@ output_bound c o = slice_index_or c.outputs o (record { window = 0; delay = 0 })
 
 -- ---- the numbers of claims
 
+-- those of an input bus: its window in ticks, its backlog in words, its delay in ticks
 abbrev pub input_numbers : NamedInput → InputBound
 input_numbers claim = record { window = claim.window; backlog = claim.backlog; delay = claim.delay }
 
+-- those of an output: its window and delay, in ticks
 abbrev pub output_numbers : NamedOutput → OutputBound
 output_numbers claim = record { window = claim.window; delay = claim.delay }
 
+-- those of all claims in their order; of a label the age, in ticks
 abbrev pub numbers_of : NamedRows → CertificateRows
 numbers_of claims = record { inputs = map input_numbers claims.inputs; outputs = map output_numbers claims.outputs; ages = map (λ l. l.age) claims.labels }
 

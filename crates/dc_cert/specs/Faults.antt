@@ -8,6 +8,7 @@ use Rattle.dc_cert.specs.declared.fault.Fault.{Fault}
 use Rattle.dc_cert.specs.declared.fault.CertFault.{CertFault}
 use Rattle.dc_cert.specs.declared.fault.CertFault.TheVariants.{Memory, Unreadable}
 
+-- the code of a rule: K1 to K6
 abbrev pub rule_code : CertRule → List ℕ
 rule_code NotJson = codes "K1"
 rule_code VersionUnknown = codes "K2"

@@ -15,15 +15,19 @@ pub record IsWithinLimits (claims : NamedRows) : Type 0 where
 
 -- ---- numbers of 32 bits, as those of the program's rows are
 
+-- the window, backlog and delay of an input are such numbers
 abbrev pub InputFits : NamedInput → Type 0
 InputFits claim = (claim.window < 2 ^ 32) × (claim.backlog < 2 ^ 32) × (claim.delay < 2 ^ 32)
 
+-- the window and delay of an output are
 abbrev pub OutputFits : NamedOutput → Type 0
 OutputFits claim = (claim.window < 2 ^ 32) × (claim.delay < 2 ^ 32)
 
+-- the age of a label is
 abbrev pub LabelFits : NamedLabel → Type 0
 LabelFits claim = claim.age < 2 ^ 32
 
+-- those of all claims are
 pub record ClaimsFit (claims : NamedRows) : Type 0 where
   pub inputs_fit : All InputFits claims.inputs
   pub outputs_fit : All OutputFits claims.outputs

@@ -31,14 +31,18 @@ pub record NamedRows : Type 0 where
 
 -- ---- what the program's values say
 
+-- the claim for an input bus, with the bytes of its name
 abbrev pub named_input : InputRow → NamedInput
 named_input row = record { bus = string_bytes row.bus; window = row.window; backlog = row.backlog; delay = row.delay }
 
+-- the claim for an output
 abbrev pub named_output : OutputRow → NamedOutput
 named_output row = record { output = string_bytes row.output; window = row.window; delay = row.delay }
 
+-- the claim for a label
 abbrev pub named_label : LabelRow → NamedLabel
 named_label row = record { label = string_bytes row.label; age = row.age }
 
+-- the claims of the program's certificate, in order
 abbrev pub named_rows : Certificate → NamedRows
 named_rows c = record { inputs = map named_input c.inputs.items; outputs = map named_output c.outputs.items; labels = map named_label c.labels.items }

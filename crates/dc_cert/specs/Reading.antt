@@ -24,6 +24,7 @@ use Rattle.dc_cert.specs.declared.keys.TheConstants.{GREATEST_NUMBER}
 abbrev pub Reading : Type 0 → Type 0
 Reading A = Result A Fault
 
+-- nothing is read: this rule is broken at this place
 abbrev pub refused : {A : Type 0} → CertRule → TextPlace → Reading A
 refused rule place = Err (record { rule = rule; place = place })
 
@@ -45,6 +46,7 @@ found None rule place = refused rule place
 
 -- ---- objects and their keys
 
+-- whether two keys are the same
 abbrev pub same_key : List ℕ → List ℕ → Bool
 same_key k l = is_eq (slice_cmp nat_cmp k l)
 
@@ -97,6 +99,7 @@ list_at key ms = list_in (option_and_then as_array (get_member key ms))
 
 -- ---- the rows
 
+-- the keys of an input
 abbrev pub input_keys : List (List ℕ)
 input_keys = codes "bus" ∷ codes "window" ∷ codes "backlog" ∷ codes "delay" ∷ []
 
@@ -111,6 +114,7 @@ input_of i d = do
   delay ← number_at (Inputs i) (codes "delay") ms
   Ok (record { bus = bus; window = window; backlog = backlog; delay = delay })
 
+-- the keys of an output
 abbrev pub output_keys : List (List ℕ)
 output_keys = codes "output" ∷ codes "window" ∷ codes "delay" ∷ []
 
@@ -124,6 +128,7 @@ output_of i d = do
   delay ← number_at (Outputs i) (codes "delay") ms
   Ok (record { output = output; window = window; delay = delay })
 
+-- the keys of a label
 abbrev pub label_keys : List (List ℕ)
 label_keys = codes "label" ∷ codes "age" ∷ []
 
@@ -143,6 +148,7 @@ rows_of row n (item d ds) = row n d >>= (λ x. rows_of row (n + 1) ds >>= (λ xs
 
 -- ---- the whole text
 
+-- the keys of the top
 abbrev pub top_keys : List (List ℕ)
 top_keys = codes "version" ∷ codes "inputs" ∷ codes "outputs" ∷ codes "labels" ∷ []
 

@@ -1,35 +1,36 @@
-//! What a certificate says.
+//! What a certificate says. A row bounds none of its numbers: which are accepted for tables `dc_check` says.
 
 /// What is claimed of an input bus.
 #[derive(Debug, PartialEq, Eq, Drop)]
 pub struct InputRow {
-    /// The bus's name.
+    /// The bus's name, as text.
     pub bus: String,
-    /// The closing window, in ticks.
+    /// The window that is claimed to close, in ticks; accepted from 1 to `dc_busy::LONGEST_WINDOW` (C02).
     pub window: u32,
-    /// The greatest number of words that wait in the receive queue.
+    /// The most words that are claimed to wait in the receive queue; accepted up to its capacity (C05).
     pub backlog: u32,
-    /// The longest wait of a word in the receive queue, in ticks.
+    /// The longest wait that is claimed of a word in the receive queue, in ticks; accepted up to
+    /// `dc_busy::LONGEST_WINDOW` (C07).
     pub delay: u32,
 }
 
 /// What is claimed of an output.
 #[derive(Debug, PartialEq, Eq, Drop)]
 pub struct OutputRow {
-    /// The output's name.
+    /// The output's name, as text.
     pub output: String,
-    /// The closing window, in ticks.
+    /// The window that is claimed to close, in ticks; accepted from 1 to `dc_busy::LONGEST_WINDOW` (C02).
     pub window: u32,
-    /// The longest wait of a due entry, in ticks.
+    /// The longest wait that is claimed of a due entry, in ticks; accepted up to `dc_busy::LONGEST_WINDOW` (C07).
     pub delay: u32,
 }
 
 /// What is claimed of a label that is sent.
 #[derive(Debug, PartialEq, Eq, Drop)]
 pub struct LabelRow {
-    /// The label's name.
+    /// The label's name, as text.
     pub label: String,
-    /// The greatest age of the data that is sent, in ticks.
+    /// The greatest age that is claimed of the data that are sent, in ticks; accepted up to the label's limit (C11).
     pub age: u32,
 }
 

@@ -12,10 +12,10 @@ use crate::row::Row;
 use serde_json::Value;
 use std::alloc::Global;
 
-/// The longest text that is read, in bytes.
+/// The longest text that is read, in bytes: this project's own number.
 pub const TEXT_LIMIT: usize = 1_048_576;
 
-/// The longest list of a certificate's text.
+/// The longest list of a certificate's text, in members: this project's own number.
 pub const LIST_LIMIT: usize = 1024;
 
 // The rows of a list, in order.

@@ -2,7 +2,7 @@
 use Rattle.std.proofs.Common.{◌≡◌, ℕ, zero, suc, ◌+◌, ◌-◌, ◌≤◌, ◌<◌, ◌⊎◌, Bool, true, false, cond, leb, Some, None, is_some, option_map, List, [], ◌∷◌, ◌++◌, length, get_or, refl, sym, ap, inl, inr, ◌∙◌, subst, arith}
 use Rattle.std.specs.List.{flat_map, Contains}
 use Rattle.std.proofs.lemmas.Bool.{eqb-true, leb-true, le-leb}
-use Rattle.dc_bound.specs.KeepsUp.{KeepsUp}
+use Rattle.dc_bound.specs.lemmas.KeepsUp.{KeepsUp}
 use Rattle.dc_bound.specs.Moves.{Move, ins, item, routed_tick, arrived_tick, latest_number, latest_by}
 use Rattle.dc_bound.specs.lemmas.QueueTimes.{stamped-items}
 use Rattle.dc_cert.specs.Bounds.{CertificateRows, input_bound}

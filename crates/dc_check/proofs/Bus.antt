@@ -8,7 +8,7 @@ use Rattle.dc_bound.specs.Early.{jitter_cap, HoldsCap}
 use Rattle.dc_bound.specs.lemmas.Counts.{wire_holds, both_holds}
 use Rattle.dc_bound.specs.lemmas.Cycle.{fewest_visits_zero}
 use Rattle.dc_bound.specs.lemmas.FirstPlaces.{snoc_induction}
-use Rattle.dc_bound.specs.KeepsUp.{NeverFull, HandsOn, KeepsUp}
+use Rattle.dc_bound.specs.lemmas.KeepsUp.{NeverFull, HandsOn, KeepsUp}
 use Rattle.dc_bound.specs.Moves.{Move, move_ends, tag_of, entries}
 use Rattle.dc_bound.specs.Moves.Move.{Visit}
 use Rattle.dc_bound.specs.lemmas.QueueTimes.{keeps_up}

@@ -48,9 +48,6 @@ eq_test a b h = grind (arith, nat_tests)
 eq_from : (a b : ℕ) → (a == b) ≡ true → a ≡ b
 eq_from a b h = grind (arith, nat_tests)
 
-ne_from : (a b : ℕ) → (a == b) ≡ false → a ≡ b → ⊥
-ne_from a b h k = grind (arith, nat_tests)
-
 lt_from : (a b : ℕ) → nat_lt a b ≡ true → a < b
 lt_from a b h = grind (arith, nat_tests)
 

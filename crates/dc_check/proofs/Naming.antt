@@ -62,10 +62,6 @@ other_name count names keys n name key there read at h =
     let named = named-is count names keys yes in
     h (sym (read []) ∙ ap (λ l. get_or l n []) named.same ∙ get_or-map text_of keys n [] [] there ∙ ap text_of (sym at)))
 
--- there are not as many
-pub other_count : (count : ℕ) (names keys : List (List ℕ)) → length names ≢ count → is_named count names keys ≡ false
-other_count count names keys h = is_false (is_named count names keys) (λ yes. let named = named-is count names keys yes in h named.sized)
-
 -- ---- the names of a certificate's rows
 
 pub bus_read : (rows : List InputRow) (n : ℕ) (row : InputRow) → n < length rows → row ≡ get_or rows n row

@@ -3,13 +3,12 @@ use Rattle.std.proofs.Common.{◌≡◌, ℕ, zero, suc, ◌+◌, ◌-◌, ◌*�
 use Rattle.std.proofs.lemmas.Bool.{cases_lt}
 use Rattle.std.proofs.lemmas.List.{append-nil, get_or_append_left, get_or-append_right}
 use Rattle.dc_bound.specs.lemmas.Budget.{pace_holds}
-use Rattle.dc_bound.specs.Frame.{IsDueCount}
-use Rattle.dc_bound.specs.lemmas.Dues.{due_count_grows}
+use Rattle.dc_bound.specs.lemmas.Dues.{IsDueCount, due_count_grows}
 use Rattle.dc_bound.specs.lemmas.Least.{served_in-le}
 use Rattle.dc_bound.specs.Moves.{Move, move_ends, tag_of, visit_of, ticks_in, visits, entries, visit_ticks, ins, passed}
 use Rattle.dc_bound.specs.Moves.Move.{Tick, In, Visit}
 use Rattle.dc_bound.specs.Places.{served_in}
-use Rattle.dc_bound.specs.lemmas.Queued.{ins-append, visits-append, passed-le}
+use Rattle.dc_bound.specs.lemmas.Queued.{ins-append, passed-le}
 use Rattle.dc_bound.specs.Run.{ticks, picks, stamp, stamped, one_if}
 use Rattle.dc_bound.specs.lemmas.Segments.{ticks-append, picks-append}
 use Rattle.dc_bound.specs.lemmas.Steps.{stamped-append}
@@ -155,12 +154,6 @@ module _ {E X : Type 0} (ends : E → ℕ) (send : E → Option X) (dues : ℕ �
   moves-ticks run =
       by_events (λ past. ticks_in (moves past) ≡ ticks ends past) (omega (arith, ap ticks_in is.first, come_in-ticks (dues 0)))
       (λ past e ih. omega (arith, ih, ap ticks_in (is.next past e), ticks-append move_ends tag_of (moves past) (move past e), (added past e).0, ticks-push ends send past e)) run
-
-  pub moves-visits : (run : List E) → visits (moves run) ≡ picks send run
-  unfolding picks
-  moves-visits run =
-      by_events (λ past. visits (moves past) ≡ picks send past) (omega (arith, ap visits is.first, come_in-visits (dues 0)))
-      (λ past e ih. omega (arith, ih, ap visits (is.next past e), visits-append (moves past) (move past e), (added past e).1, picks-push ends send past e)) run
 
   visits_first : visit_ticks (moves []) ≡ ticks_of (stamped ends send 0 [])
   unfolding stamped

@@ -12,9 +12,8 @@ use Rattle.std.proofs.lemmas.Grind.{flat_map-append}
 use Rattle.dc_bound.specs.lemmas.Counts.{at_mod, at_div}
 use Rattle.dc_bound.specs.Frame.{due, IsDue, Offsets}
 use Rattle.dc_bound.specs.lemmas.Due.{due_most}
-use Rattle.dc_bound.specs.Frame.{IsDueCount, due_by_frames, IsFrame}
-use Rattle.dc_bound.specs.lemmas.Dues.{due_by_frames-is, due_by-is, due_in_ascends, same_count}
-use Rattle.dc_bound.specs.Moves.{passed}
+use Rattle.dc_bound.specs.Frame.{IsFrame}
+use Rattle.dc_bound.specs.lemmas.Dues.{IsDueCount, due_by_frames, due_by_frames-is, due_by-is, due_in_ascends, same_count}
 use Rattle.dc_bound.specs.Moves.Move.{Tick as TickMove, In, Visit}
 use Rattle.dc_bound.specs.Places.{each_from, each_place}
 use Rattle.dc_bound.specs.Run.{ticks, one_if}
@@ -23,11 +22,12 @@ use Rattle.dc_busy.specs.BusyWindow.{QueueDelay}
 use Rattle.dc_busy.specs.lemmas.Law.{queue_delay}
 use Rattle.dc_cert.specs.Bounds.{OutputBound}
 use Rattle.dc_check.proofs.Intervals.{IsTimely}
-use Rattle.dc_check.proofs.OutputMoves.{come_in, Sees, AreOutputMoves, CountsDues, sent_of, moves-passed}
+use Rattle.dc_check.proofs.OutputMoves.{come_in, Sees, AreOutputMoves, CountsDues, sent_of}
 use Rattle.dc_check.proofs.OutputMoves.Sees.{ended, turned, idle}
 use Rattle.dc_check.proofs.Timely.{timely}
 use Rattle.dc_check.specs.Accepts.{AcceptsOutput}
-use Rattle.dc_event.specs.Outputs.{due_tick, sent, entry_in, output_move_of, output_moves, due_by, entries_due}
+use Rattle.dc_event.specs.Outputs.{due_tick, sent, due_by}
+use Rattle.dc_event.specs.lemmas.OutputMoves.{entry_in, entries_due, output_move_of, output_moves}
 use Rattle.dc_event.specs.Time.{ends, tick_after, send_of, send_ticks}
 use Rattle.dc_event.specs.declared.event.Event.{Event}
 use Rattle.dc_event.specs.declared.event.Event.TheVariants.{Tick, Arrive, Route, Send}
@@ -222,12 +222,6 @@ output_moves-are t o = record { first = output_moves-nil t o; next = output_move
 pub sent-is : (t : TableRows) (o : ℕ) (run : List Event) → sent t o run ≡ sent_of ends (send_of o) (due_by t o) run
 unfolding sent
 sent-is t o run = refl
-
--- `sent` is what has passed of the output's moves
-pub sent-passed : (t : TableRows) → AreValid t → (o : ℕ) → o < length t.outputs → (run : List Event) → passed (output_moves t o run) ≡ sent t o run
-sent-passed t v o h run =
-    moves-passed ends (send_of o) (dues t o) (output_move_of t o) (output_moves t o) (output_moves-are t o) (due_tick t o) (due_by t o) (due_by-counts t v o h) (counts_dues t v o h) run
-    ∙ sym (sent-is t o run)
 
 -- ---- in time
 

@@ -1,6 +1,6 @@
 -- The last taken word of a stream, in a queue that keeps up; a stream that keeps sending has one that came lately.
 use Rattle.std.proofs.Common.{◌≡◌, ℕ, ◌+◌, ◌≤◌, ◌<◌, true, eqb, Some, List, length, get_or, sym, ap, ◌∙◌, arith}
-use Rattle.dc_bound.specs.KeepsUp.{KeepsUp}
+use Rattle.dc_bound.specs.lemmas.KeepsUp.{KeepsUp}
 use Rattle.dc_bound.specs.Moves.{Move, entries, ticks_in, ins, taken, item, routed_tick, arrived_tick, latest_number}
 use Rattle.dc_bound.specs.lemmas.QueueTimes.{entered-le, taken-le, arrived-rises, arrived-le-routed, stamped-arrived}
 use Rattle.dc_bound.specs.Tags.{with_tag}

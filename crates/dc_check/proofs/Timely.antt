@@ -1,7 +1,7 @@
 -- Entries leave in time, by the queue law.
 use Rattle.std.proofs.Common.{◌≡◌, ℕ, zero, suc, ◌-◌, ◌*◌, ◌/◌, ◌≤◌, ◌<◌, List, [], ◌∷◌, ◌++◌, length, get_or, Option, refl, ap, ◌∙◌, arith, append_assoc}
 use Rattle.std.proofs.lemmas.List.{append-nil}
-use Rattle.dc_bound.specs.Frame.{IsDueCount}
+use Rattle.dc_bound.specs.lemmas.Dues.{IsDueCount}
 use Rattle.dc_bound.specs.Moves.{Move, move_ends, tag_of, ticks_in, visits, entries, passed}
 use Rattle.dc_bound.specs.lemmas.Queued.{passed-le}
 use Rattle.dc_bound.specs.Run.{ticks, picks, stamped}

@@ -29,11 +29,13 @@ pub record DelayHolds (cap floor : ℕ → ℕ) (window delay : ℕ) : Type 0 wh
 
 -- ---- one input, output, label
 
+-- the window of an input bus closes, its backlog fits its queue, and its delay holds
 pub record AcceptsInput (t : TableRows) (b : ℕ) (c : InputBound) : Type 0 where
   pub window : WindowCloses (bus_cap t b) (bus_floor t b) c.window
   pub backlog : BacklogFits (bus_cap t b) (bus_floor t b) c.window c.backlog (bus_row t b).queue
   pub delay : DelayHolds (bus_cap t b) (bus_floor t b) c.window c.delay
 
+-- the window of an output closes, and its delay holds
 pub record AcceptsOutput (t : TableRows) (o : ℕ) (c : OutputBound) : Type 0 where
   pub window : WindowCloses (output_cap t o) (output_floor t o) c.window
   pub delay : DelayHolds (output_cap t o) (output_floor t o) c.window c.delay
@@ -63,6 +65,7 @@ pub record AgeHolds (t : TableRows) (x : ℕ) (c : CertificateRows) : Type 0 whe
 abbrev pub SourcesStayFresh : TableRows → ℕ → CertificateRows → Type 0
 SourcesStayFresh t x c = All (λ s. source_delay t c s + (stream_row t s).maximum ≤ (label_row t x).stale) (label_row t x).sources
 
+-- the gaps of a label fit, its age holds, and its sources stay fresh
 pub record AcceptsLabel (t : TableRows) (x : ℕ) (c : CertificateRows) : Type 0 where
   pub gaps : GapsFit t x c
   pub age : AgeHolds t x c

@@ -3,6 +3,7 @@ use Rattle.std.specs.Prelude.{ℕ, List, codes}
 use Rattle.dc_check.specs.declared.fault.Condition.{Condition}
 use Rattle.dc_check.specs.declared.fault.Condition.TheVariants.{NamesDiffer, WindowOutOfRange, WindowDoesNotClose, BacklogTooSmall, QueueTooShort, DelayTooSmall, DelayOutOfRange, SentTooSoon, SentTooLate, AgeTooSmall, AgeOverLimit, SourceGoesStale}
 
+-- the code of a condition: C01 to C12
 abbrev pub condition_code : Condition → List ℕ
 condition_code NamesDiffer = codes "C01"
 condition_code WindowOutOfRange = codes "C02"

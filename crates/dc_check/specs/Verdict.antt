@@ -39,9 +39,11 @@ first_of (rule ∷ rules) = option_or rule (first_of rules)
 
 -- ---- tests of a window
 
+-- whether so many ticks may be a window: from 1 to the longest
 abbrev pub is_window : ℕ → Bool
 is_window window = nat_le 1 window && nat_le window LONGEST_WINDOW
 
+-- whether so many ticks may be a delay: no more than the longest window
 abbrev pub is_delay : ℕ → Bool
 is_delay delay = nat_le delay LONGEST_WINDOW
 
@@ -114,12 +116,14 @@ input_rules t b c =
     ∷ at_window Inputs b DelayTooSmall (input_delay_failure t b c)
     ∷ []
 
+-- the rules on an output, with its first failing window
 abbrev pub output_rules : TableRows → ℕ → OutputBound → List (Option CheckFault)
 output_rules t o c =
     unless (is_closing (output_cap t o) (output_floor t o) c.window) (fault_at Outputs o WindowDoesNotClose 0)
     ∷ at_window Outputs o DelayTooSmall (output_delay_failure t o c)
     ∷ []
 
+-- the rules on a label: its gaps, its age and its sources
 abbrev pub label_rules : TableRows → ℕ → CertificateRows → List (Option CheckFault)
 label_rules t x c =
     unless (list_all (λ g. nat_le ((label_row t x).minimum + label_delay t c x) g) (gaps_of t x)) (fault_at Labels x SentTooSoon 0)
@@ -131,6 +135,7 @@ label_rules t x c =
 
 -- ---- jobs: the inputs, the outputs and the labels in one row, from 0
 
+-- how many jobs there are
 abbrev pub job_count : TableRows → ℕ
 job_count t = length t.buses + length t.outputs + length t.labels
 

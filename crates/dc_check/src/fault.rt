@@ -4,13 +4,14 @@ ghost use Rattle.dc_check.specs.FaultText.{condition_code};
 
 use thiserror::Error;
 
-/// The conditions of acceptance, in the order of their codes.
+/// The conditions of acceptance, in the order of their codes; this project's own. What comes and what is taken are
+/// meant by the bounds of the tables.
 #[derive(Clone, Copy, Debug, PartialEq, Eq, Error)]
 pub enum Condition {
     /// C01: the inputs, outputs or labels are not those of the tables, once each and in their order.
     #[error("the names are not those of the tables, once each and in their order")]
     NamesDiffer,
-    /// C02: a window is outside 1 to 100,000 ticks.
+    /// C02: a window is outside 1 to [`LONGEST_WINDOW`](dc_busy::LONGEST_WINDOW) ticks.
     #[error("the window is not in the range 1 to 100000")]
     WindowOutOfRange,
     /// C03: the window does not close: more may come in it than is taken in its ticks but the first.
@@ -19,28 +20,32 @@ pub enum Condition {
     /// C04: more than the backlog may wait at some place of the window.
     #[error("more may wait than the backlog")]
     BacklogTooSmall,
-    /// C05: the backlog is over the queue's capacity.
+    /// C05: the backlog is over the queue's capacity, in words.
     #[error("the backlog is over the capacity of the queue")]
     QueueTooShort,
     /// C06: some word may wait longer than the delay.
     #[error("a word may wait longer than the delay")]
     DelayTooSmall,
-    /// C07: a delay is over 100,000 ticks.
+    /// C07: a delay is over [`LONGEST_WINDOW`](dc_busy::LONGEST_WINDOW) ticks.
     #[error("the delay is over 100000")]
     DelayOutOfRange,
-    /// C08: two words of the label may follow each other too soon.
+    /// C08: two words of the label may follow each other too soon: its least gap is below its least interval and the
+    /// delay of its output.
     #[error("the least gap is below the least interval plus the delay of the output")]
     SentTooSoon,
-    /// C09: two words of the label may follow each other too late.
+    /// C09: two words of the label may follow each other too late: its greatest gap and the delay of its output are
+    /// above its greatest interval.
     #[error("the greatest gap plus the delay of the output is over the greatest interval")]
     SentTooLate,
-    /// C10: a word may be copied that is older than the age.
+    /// C10: a word may be copied that is older than the age: the age is below the label's stale limit and the delay of
+    /// a source's bus.
     #[error("the age is below the stale limit plus the greatest delay of a source")]
     AgeTooSmall,
-    /// C11: the age is over the label's limit.
+    /// C11: the age is over the label's limit, in ticks.
     #[error("the age is over the limit of the label")]
     AgeOverLimit,
-    /// C12: a source that keeps sending may be stale.
+    /// C12: a source that keeps sending may be stale: the stale limit is below the delay of a source's bus and the
+    /// source's greatest interval.
     #[error("the stale limit is below the delay plus the greatest interval of a source")]
     SourceGoesStale,
 }
@@ -90,8 +95,10 @@ pub struct CheckFault {
     pub condition: Condition,
     /// The list in which it fails.
     pub part: CertificateList,
-    /// The number of the input, output or label in its list; 0 for `NamesDiffer`, which is of the list as a whole.
+    /// The number of the input, output or label in its list, from 0; 0 for `NamesDiffer`, which is of the list as a
+    /// whole.
     pub index: usize,
-    /// The first window of 1 tick or more that fails, for `BacklogTooSmall` and `DelayTooSmall`; 0 for the others.
+    /// The first number of ticks that fails, from 1 to the window, for `BacklogTooSmall` and `DelayTooSmall`; 0 for the
+    /// others.
     pub window: u32,
 }

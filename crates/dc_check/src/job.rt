@@ -13,7 +13,7 @@ use crate::queues::{input_fault, input_job, output_fault, output_job};
 use dc_cert::Certificate;
 use dc_tables::Tables;
 
-/// The first condition that fails in a job, of C02 to C12.
+/// The first condition that fails in a job, of C02 to C12; `None` where none does.
 pub fn job_fault(tables: &Tables, certificate: &Certificate, job: usize) -> Option<CheckFault>
     requires sized { IsSized tables.now (certificate_rows certificate.now) }
     requires there { job < job_count tables.now }

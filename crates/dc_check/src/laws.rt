@@ -41,6 +41,7 @@ pub fn least_age_of_the_small_tables() -> u32
     ensures valid { AreValid small_tables }
     ensures accepted { Accepts small_tables (small_claims result) }
     ensures least { (age : ℕ) → Accepts small_tables (small_claims age) → result ≤ age }
+    ensures value { result ≡ 24 }
     ensures admissible { IsAdmissible small_tables small_run }
     ensures copies { SendsCopy small_tables small_run }
 {

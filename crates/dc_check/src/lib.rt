@@ -10,11 +10,9 @@ pub mod laws;
 mod names;
 mod queues;
 mod rules;
-mod small;
 
 pub use certified::Certified;
 pub use fault::{CertificateList, CheckFault, Condition};
 pub use job::{job_fault, job_fault_given, verdict};
 pub use judge::{certify, check};
 pub use names::misnamed;
-pub use small::are_small;

@@ -10,8 +10,8 @@ use crate::rules::{fault, fault_unless, first_fault};
 use dc_cert::{Certificate, InputRow, LabelRow, OutputRow};
 use dc_tables::Tables;
 
-/// The fault of a certificate's names, if any: `NamesDiffer` at the inputs, the outputs or the labels. Where there is none, the
-/// certificate has as many rows of each kind as the tables.
+/// The fault of a certificate's names, if any: `NamesDiffer` at the inputs, the outputs or the labels. Where there is
+/// none, the certificate has as many rows of each kind as the tables.
 pub fn misnamed(tables: &Tables, certificate: &Certificate) -> Option<CheckFault>
     ensures exact { result ≡ misnaming tables.now (named_rows certificate.now) }
     ensures sized { IfNone result (IsSized tables.now (certificate_rows certificate.now)) }

@@ -32,9 +32,6 @@ module _ (t : TableRows) (c : CertificateRows) (job : ℕ) (low : length t.buses
   pub delay-output : output_delay_failure t (job - length t.buses) (output_bound c (job - length t.buses)) ≡ job_delay_failure t c job
   delay-output = rw (le-ltb job (length t.buses) low, lt-ltb job (length t.buses + length t.outputs) high) refl
 
-  pub backlog-output : None ≡ job_backlog_failure t c job
-  backlog-output = rw (le-ltb job (length t.buses) low) refl
-
 -- the verdict of what a case holds
 pub case-same : (t own : TableRows) (certificate own_certificate : Certificate) (found : Option CheckFault) → own ≡ t → own_certificate ≡ certificate
     → found ≡ first_job_fault (job_verdict own (certificate_rows own_certificate)) (job_count own)

@@ -21,10 +21,6 @@ known-one verdict (x ∷ xs) (suc job) fault is h zero found at = h zero found a
 known-one verdict (x ∷ xs) (suc job) fault is h (suc k) found at =
     known-one (λ j. verdict (suc j)) xs job fault is (λ j f e. h (suc j) f e) k found at
 
--- nothing is known of no jobs
-pub known-none : (verdict : ℕ → Option CheckFault) → AreKnown verdict []
-known-none verdict k found at = absurd cc
-
 -- one job of which nothing is known
 pub known-more : (verdict : ℕ → Option CheckFault) (known : List (Option (Option CheckFault))) → AreKnown verdict known → AreKnown verdict (known ++ None ∷ [])
 known-more verdict [] h zero found at = absurd cc

@@ -60,7 +60,10 @@ impl Model for Drawer {
 }
 
 impl Counter {
-    /// A counter from 0, for less than 2^63 jobs, with its first drawer.
+    /// A counter for less than 2^63 jobs, with its first drawer, which has drawn nothing.
+    ///
+    /// # Errors
+    /// Out of memory.
     pub fn new(alloc: Global, jobs: u64) -> Result<(Counter, Drawer), AllocError>
         requires { jobs < 2 ^ 63 }
         ensures { IfOk result (λ r. (r.0.1 ≡ jobs) × (r.1.0 ≡ r.0.0) × (r.1.1 ≡ leader jobs)) }
@@ -69,7 +72,7 @@ impl Counter {
         Ok((Counter { jobs, table }, Drawer { seat }))
     }
 
-    /// The next number: one step. None that was drawn is past the last job.
+    /// The next number, from 0, in one step. None that the drawer drew before is past the last job.
     pub fn draw(&self, drawer: &mut Drawer) -> u64
         requires drawer { (drawer.old.0 ≡ self.now.0) × (drawer.old.1.jobs ≡ self.now.1) }
         requires none_past { past self.now.1 drawer.old.1.drawn ≡ 0 }
@@ -79,7 +82,7 @@ impl Counter {
         self.table.shared.fetch_add::<Draw>(&mut drawer.seat, 1, 1)
     }
 
-    /// Another drawer, which has drawn nothing: one step of the first drawer, at most 63 times.
+    /// Another drawer, which has drawn nothing, in one step of the first drawer, which splits at most 63 times.
     pub fn split(&self, drawer: &mut Drawer) -> Drawer
         requires drawer { (drawer.old.0 ≡ self.now.0) × (drawer.old.1.jobs ≡ self.now.1) }
         requires leads { (drawer.old.1.leads ≡ true) × (drawer.old.1.splits < 63) }

@@ -26,8 +26,11 @@ use std::sync::{Arc, Wait};
 use std::thread::Threads;
 
 /// Judges a certificate for tables, as `dc_check::check` does, by 1 to [`MOST_WORKERS`](crate::MOST_WORKERS) workers.
-/// A fault of the certificate is the first one, whichever worker finds it first. That a worker enters the gate before
-/// each job and leaves it afterwards is tested.
+/// That a worker enters the gate before each job and leaves it afterwards is tested.
+///
+/// # Errors
+/// `Refused` with the first fault of the certificate, whichever worker finds it first; `GateStuck` only where the gate
+/// may be stuck at a job; `Spawn` and `Memory`, of which no clause says when.
 pub fn check_par<G: Gate, R: Threads + Wait + Sync>(
     rt: &R,
     alloc: Global,

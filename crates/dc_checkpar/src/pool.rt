@@ -180,7 +180,7 @@ fn work_together<'s, E, J: Jobs + 's, G: Gate + 's, R: Threads>(
     }
 }
 
-// All threads have returned when this returns.
+// The same in a scope of threads.
 fn in_threads<J: Jobs, G: Gate, R: Threads + Wait + Sync>(
     rt: &R,
     alloc: Global,
@@ -273,8 +273,7 @@ fn decide<J: Jobs, G: Gate>(
     Ok(None)
 }
 
-/// The first fault of all jobs, by so many workers, 1 to `MOST_WORKERS`, of which one is the calling thread. All have returned when
-/// it returns.
+/// The first fault of all jobs, by so many workers, 1 to `MOST_WORKERS`.
 pub(crate) fn first_fault<J: Jobs, G: Gate, R: Threads + Wait + Sync>(
     rt: &R,
     alloc: Global,

@@ -36,7 +36,8 @@ pub(crate) struct Report {
     pub end: Result<(), Halt>,
 }
 
-/// That a report is right: each fault in it is that of its job, and it tells of a stuck gate only where the gate may be.
+/// That a report is right: each fault in it is that of its job, and it tells of a stuck gate only where the gate may
+/// be.
 #[derive(Drop)]
 pub(crate) struct IsRight<J, G> {
     pub jobs: Snapshot<J>,

@@ -4,7 +4,7 @@ ghost use Rattle.std.specs.Prelude.{◌≤◌};
 
 use dc_cert::Certificate;
 use dc_checkpar::{Gate, ParFault, check_par};
-use dc_gates::{Counting, Meeting};
+use dc_gates::{Against, Counting, Meeting};
 use dc_tables::Tables;
 use dc_trials::{certificate_of, push_equal_certificate, push_equal_tables, tables_of};
 use std::alloc::Global;
@@ -82,6 +82,25 @@ fn lets_in<R: Threads + Wait + Sync + Abort>(
         }
     }
     Ok(())
+}
+
+/// A gate that keeps one job out, and no other.
+fn keeps_one_out<R: Threads + Wait + Sync + Abort>(
+    rt: &R,
+    alloc: Global,
+    tables: &Arc<Tables>,
+) -> Result<(), Fail> {
+    for workers in [1, 2, 64] {
+        let reported = answer(rt, alloc, tables, workers, &Against::new(3))?;
+        assert!(rt; reported == Err(ParFault::GateStuck), "{workers} workers");
+    }
+    Ok(())
+}
+
+#[test]
+fn a_gate_that_is_stuck_at_one_job_is_reported(rt: HostRuntime) -> Result<(), Fail> {
+    let tables = Arc::new(rt.alloc(), tables(rt.alloc())?)?;
+    keeps_one_out(&rt, rt.alloc(), &tables)
 }
 
 #[test]

@@ -22,7 +22,7 @@ pub enum Order<'a> {
         tables: &'a str,
         /// The path of the certificate.
         certificate: &'a str,
-        /// By how many workers, where that is said.
+        /// By how many workers, 1 to [`MOST_WORKERS`](crate::MOST_WORKERS), where that is said.
         workers: Option<u8>,
     },
     /// Find the least certificate for the tables in a file.
@@ -64,7 +64,7 @@ pub enum Order<'a> {
         tables: &'a str,
         /// The path of the certificate.
         certificate: &'a str,
-        /// For how many ticks.
+        /// For how many ticks, 1 to [`MOST_TICKS`](crate::MOST_TICKS).
         ticks: u16,
     },
 }
@@ -241,8 +241,8 @@ fn order_in<'a>(matches: &ArgMatches<'a>) -> Option<Order<'a>>
 /// What the words ask, of which the first is the program's name.
 ///
 /// # Errors
-/// With clap's text, which is to be printed, and its exit code: when it comes no clause says. It is meant for words that
-/// ask for help or the version, or are no command line of the program, and for want of memory.
+/// With clap's text, which is to be printed, and its exit code: when it comes no clause says. That it does for words
+/// that ask for help or the version, or are no command line of the program, is tested.
 pub fn command<'a>(alloc: Global, words: &'a [String]) -> Result<Order<'a>, Error>
     ensures asks { IfOk result (AsksIn (map string_bytes words.now)) }
     ensures range { IfOk result IsInRange }

@@ -68,10 +68,6 @@ holds-add d room whole ts w h = record {
   count = elim (within_cases whole 1 whole) [ inl v ↦ omega (arith, h.count, count_in-push whole 1 ts whole) | inr v ↦ elim v [ inl w ↦ absurd (omega arith) | inr w ↦ absurd (omega arith) ] ];
 }
 
--- all but the first of n counts
-drop-counts : (u n : ℕ) (ts : List ℕ) → drop 1 (counts u (suc n) ts) ≡ counts (u + 1) n ts
-drop-counts u n ts = refl
-
 -- the counts with one tick more are those of the next window
 turn_past : (d whole : ℕ) (ts past : List ℕ) (count width : ℕ) → 0 < d → width ≡ d → past ≡ counts (whole - finished d whole) (finished d whole) ts → count ≡ count_in whole 1 ts → length past ≡ finished d whole
     → keep_last (width - 1) (past ++ count ∷ []) ≡ counts (suc whole - finished d (suc whole)) (finished d (suc whole)) ts

@@ -10,7 +10,6 @@ use Rattle.dc_bound.specs.Run.{one_if}
 use Rattle.dc_bound.specs.Moves.{Move, taken}
 use Rattle.dc_bound.specs.Moves.Move.{Tick as TickMove}
 use Rattle.dc_bound.specs.lemmas.QueuePush.{queue-tick, latest_by-same}
-use Rattle.dc_queue.specs.WindowData.{turned}
 use Rattle.dc_bound.specs.Window.{IsLast}
 use Rattle.dc_bound.specs.lemmas.Recent.{NoneLater, recent, most_push, last-none, last-far, last-near, last-now, last-turn}
 use Rattle.dc_word.specs.Format.{is_usable}
@@ -30,7 +29,6 @@ use Rattle.dc_core.specs.declared.parts.OutputState.{OutputState}
 use Rattle.dc_core.specs.Parts.{BusData, no_router, no_output, router_turned, output_turned, output_sent}
 use Rattle.dc_core.specs.Lacking.{too_soon}
 use Rattle.dc_route.specs.Choosing.{young, fresh_now, first_word, word_now, fresh_words, chosen_now}
-use Rattle.dc_core.specs.Steps.{AreNumbered}
 use Rattle.dc_core.specs.Standing.{entered_words, HoldsQueue, word_and_tick, HoldsRouter, HoldsOutput, Standing}
 use Rattle.dc_event.specs.lemmas.RunPush.{tick-push, steps-push, ticks-other, ticks-step, moves-push, moves-other, latest-other, sent-push, sent-le, sent-other, steps-none_later}
 use Rattle.dc_event.specs.lemmas.BudgetsPush.{calm, keeps-step, rest-same}
@@ -254,7 +252,3 @@ standing-tick t now buses lasts routers routers' outputs outputs' run v k rs os 
   },
   ap (λ n. Now (n + 1)) h.clock,
 )
-
--- the numbers of the routers when a tick ends
-pub numbers-tick : (t : TableRows) (routers routers' : List RouterState) → ((r : ℕ) → r < length t.routers → get_or routers' r no_router ≡ router_turned (get_or routers r no_router)) → AreNumbered t routers → AreNumbered t routers'
-numbers-tick t routers routers' turned h r l = ap (λ (s : RouterState). s.router.number) (turned r l) ∙ h r l

@@ -19,7 +19,6 @@ use Rattle.dc_core.specs.declared.parts.RouterState.{RouterState}
 use Rattle.dc_core.specs.declared.parts.OutputState.{OutputState}
 use Rattle.dc_core.specs.Parts.{bus_at, no_router, no_output}
 use Rattle.dc_core.specs.Fresh.{fresh_queue, fresh_router, fresh_output, AllMade}
-use Rattle.dc_core.specs.Steps.{AreNumbered}
 use Rattle.std.specs.Prelude.{replicate}
 use Rattle.std.proofs.lemmas.List.{get_or-replicate}
 use Rattle.dc_core.specs.Standing.{HoldsQueue, word_and_tick, HoldsRouter, HoldsOutput, Standing}
@@ -73,7 +72,3 @@ standing-new t queues latches lasts routers outputs v qs fs ls rs os = record {
   turns = λ r l. (let P : RouterState → Type 0 = λ s. HoldsRouter t r s [] in subst P (sym (rs.1 r l)) (router-new t r));
   sendings = λ o l. (let P : OutputState → Type 0 = λ s. HoldsOutput t o s [] in subst P (sym (os.1 o l)) (output-new t o));
 }
-
--- fresh routers name their numbers
-pub numbers-new : (t : TableRows) (routers : List RouterState) → AllMade (fresh_router t) no_router (length t.routers) routers → AreNumbered t routers
-numbers-new t routers rs r l = ap (λ (s : RouterState). s.router.number) (rs.1 r l)

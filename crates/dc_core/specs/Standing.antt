@@ -16,7 +16,7 @@ use Rattle.dc_core.specs.declared.fault.StepFault.{StepFault}
 use Rattle.dc_core.specs.declared.fault.StepFault.TheVariants.{Spent, TooSoon, Owed, TickLimit, Unknown}
 use Rattle.dc_core.specs.declared.parts.RouterState.{RouterState}
 use Rattle.dc_core.specs.declared.parts.OutputState.{OutputState}
-use Rattle.dc_core.specs.declared.limits.TheConstants.{LAST_TICK}
+use Rattle.dc_transmit.specs.declared.limits.TheConstants.{LAST_TICK}
 use Rattle.dc_bound.specs.Window.{IsLast}
 use Rattle.dc_core.specs.Windows.{HoldsSteps}
 use Rattle.dc_core.specs.Parts.{BusData, no_router, no_output}

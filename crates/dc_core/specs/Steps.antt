@@ -7,7 +7,7 @@ use Rattle.dc_event.specs.declared.event.Event.{Event}
 use Rattle.dc_event.specs.declared.event.Reply.{Reply}
 use Rattle.dc_core.specs.declared.fault.StepFault.{StepFault}
 use Rattle.dc_core.specs.declared.machine.State.{State}
-use Rattle.dc_core.specs.declared.limits.TheConstants.{LAST_TICK}
+use Rattle.dc_transmit.specs.declared.limits.TheConstants.{LAST_TICK}
 use Rattle.dc_core.specs.declared.parts.RouterState.{RouterState}
 use Rattle.dc_core.specs.Parts.{bus_at, no_router}
 use Rattle.dc_core.specs.Standing.{Standing, HoldsPaces, MayFollow, IsFault}

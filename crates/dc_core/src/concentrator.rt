@@ -21,10 +21,10 @@ impl Core {
     ghost use Rattle.dc_core.specs.CoreSteps.{rows_of, CoreStandsFor, CoreStepsTo};
     ghost use Rattle.dc_event.specs.declared.event.Event.{Event};
 
-    /// The concentrator of these tables before any event. All of its room is made here.
+    /// The concentrator of these tables before any event.
     ///
     /// # Errors
-    /// Out of memory.
+    /// `AllocError` where an allocation failed.
     pub fn new(alloc: Global, tables: Arc<Tables>) -> Result<Core, AllocError>
         ensures tables { IfOk result (λ c. rows_of c ≡ arc_value tables) }
         ensures stands { IfOk result (λ c. CoreStandsFor c []) }
@@ -33,11 +33,11 @@ impl Core {
         Ok(Core { tables, state })
     }
 
-    /// Applies one event. Takes no memory.
+    /// Applies one event: the reply is the one that the run calls for.
     ///
     /// # Errors
-    /// Exactly where the event may not follow the run: its number is not in the tables, the tick would pass 2^40, or the run
-    /// with it would break a budget. The core is unchanged then.
+    /// Exactly where the event may not follow the run: its number is not in the tables, the tick would pass
+    /// [`LAST_TICK`](dc_transmit::LAST_TICK), or the run with it would break a budget. The core is unchanged then.
     pub fn apply(&mut self, event: Event) -> Result<Reply, StepFault>
         ensures tables { rows_of self.new ≡ rows_of self.old }
         ensures err { OnErr result (self.new ≡ self.old) }

@@ -11,11 +11,12 @@ pub enum StepFault {
     Spent,
     /// The output's last send lies less than its gap back.
     TooSoon,
-    /// The tick can not end: the last ticks hold too few steps of this actor, the first such one, routers before outputs.
+    /// The tick can not end: some `within` ticks up to its end hold too few steps of this actor, the first such one,
+    /// routers before outputs.
     Owed(Actor),
-    /// The tick would pass 2^40.
+    /// The tick would pass [`LAST_TICK`](dc_transmit::LAST_TICK).
     TickLimit,
-    /// The tables have no such number.
+    /// The number of the event's bus, router or output is not in the tables.
     Unknown,
 }
 

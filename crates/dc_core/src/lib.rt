@@ -1,16 +1,15 @@
 //! The state machine of the whole concentrator. After every event it stands for its history: each reply is the one that
-//! the whole run calls for. It refuses just what breaks a budget, passes [`LAST_TICK`] or names no row of the tables.
+//! the whole run calls for. It refuses just what breaks a budget, passes [`LAST_TICK`](dc_transmit::LAST_TICK) or names
+//! no row of the tables.
 #![tactic(auto)]
 
 mod concentrator;
 mod fault;
-mod limits;
 mod machine;
 mod parts;
 mod start;
 
 pub use concentrator::Core;
 pub use fault::StepFault;
-pub use limits::LAST_TICK;
 pub use machine::State;
 pub use parts::{OutputState, RouterState};

@@ -3,17 +3,16 @@ ghost use Rattle.dc_core.specs.Standing.{refuses_now, paces_after};
 ghost use Rattle.dc_event.specs.Replies.{reply};
 ghost use Rattle.dc_core.specs.Lacking.{too_soon};
 ghost use Rattle.dc_core.specs.Parts.{no_router, no_output, router_turned, output_turned};
-ghost use Rattle.dc_core.specs.declared.limits.TheConstants.{LAST_TICK};
+ghost use Rattle.dc_transmit.specs.declared.limits.TheConstants.{LAST_TICK};
 
 use crate::fault::StepFault;
-use crate::limits::LAST_TICK;
 use crate::parts::{OutputState, RouterState, receive, visit_reply};
 use crate::start::{fresh_outputs, fresh_queues, fresh_routers, no_latches, no_paces};
 use dc_event::{Actor, Event, Reply};
 use dc_queue::queue::WordQueue;
 use dc_route::{Latest, choose};
 use dc_tables::Tables;
-use dc_transmit::Schedule;
+use dc_transmit::{LAST_TICK, Schedule};
 use dc_word::Word;
 use std::alloc::{AllocError, Global};
 
@@ -37,7 +36,7 @@ impl State {
     /// The state before any event.
     ///
     /// # Errors
-    /// Out of memory.
+    /// `AllocError` where an allocation failed.
     pub fn new(alloc: Global, tables: &Tables) -> Result<State, AllocError>
         ensures sized { IfOk result (λ s. IsSized tables.now s) }
         ensures stands { IfOk result (λ s. StandsFor tables.now s []) }
@@ -166,11 +165,12 @@ impl State {
         Ok(Reply::Now(self.tick))
     }
 
-    /// Applies one event.
+    /// Applies one event: the reply is the one that the run calls for.
     ///
     /// # Errors
-    /// Exactly where the event's number is not in the tables, the tick would pass [`LAST_TICK`], or the run with the event
-    /// would break a budget. The state is unchanged then.
+    /// Exactly where the event's number is not in the tables, the tick would pass
+    /// [`LAST_TICK`](dc_transmit::LAST_TICK), or the run with the event would break a budget. The state is unchanged
+    /// then.
     pub fn apply(&mut self, tables: &Tables, event: Event) -> Result<Reply, StepFault>
         requires sized { IsSized tables.now self.old }
         ensures sized { IsSized tables.now self.new }
@@ -186,7 +186,8 @@ impl State {
     }
 }
 
-/// Whether the bus refuses a word of the stream in this tick. A word of a policed bus that is let in moves its stream's number.
+/// Whether the bus refuses a word of the stream in this tick. A word of a policed bus that is let in moves its stream's
+/// number.
 fn refuses(tables: &Tables, paces: &mut Vec<u64>, tick: u64, bus: usize, stream: usize) -> bool
     requires bus { bus < length tables.now.buses }
     requires stream { stream < length tables.now.streams }

@@ -36,10 +36,12 @@ pub fn visit_reply(bus: usize, taken: Option<Word>) -> Reply
     }
 }
 
-/// A router, with its steps of the last ticks.
+/// The state of a router.
 #[derive(Drop)]
 pub struct RouterState {
+    /// The router at its place in its list of visits.
     pub router: Router,
+    /// Its steps of the last ticks.
     pub window: StepWindow,
 }
 
@@ -75,11 +77,14 @@ impl RouterState {
     }
 }
 
-/// An output: how many entries have left, the tick of its last send, and its sends of the last ticks.
+/// The state of an output.
 #[derive(Drop)]
 pub struct OutputState {
+    /// How many of its entries have left.
     pub sent: u64,
+    /// The tick of its last send, where there was one.
     pub last: Option<u64>,
+    /// Its sends of the last ticks.
     pub window: StepWindow,
 }
 

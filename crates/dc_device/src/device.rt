@@ -22,7 +22,10 @@ pub trait Source {
     ghost dry: { Self → ℕ };
 
     /// Fills the front of the buffer with the next bytes, and says how many: none only at the end, or where there
-    /// is no room. After `Broken` no byte is lost.
+    /// is no room.
+    ///
+    /// # Errors
+    /// `Broken` where the call failed; no byte is lost then.
     fn pull(&mut self, buf: &mut [u8]) -> Result<usize, Broken>
         requires { failed self.old + 1 < 2 ^ 64 }
         ensures bound { IfOk result (λ n. n ≤ length buf.new) }
@@ -35,11 +38,11 @@ pub trait Source {
     fn failures(&self) -> u64
         ensures { result ≡ failed self.now };
 
-    /// How often it was pulled.
+    /// How often it was pulled, counted up to 2^64 - 1.
     fn pulls(&self) -> u64
         ensures { result ≡ asked self.now };
 
-    /// How many of these pulls gave no byte.
+    /// How many of these pulls gave no byte, counted so too.
     fn dry_pulls(&self) -> u64
         ensures { result ≡ dry self.now };
 }
@@ -61,7 +64,10 @@ pub trait Sink {
     // What everyone saw of it when a source was last asked for more, where that is known.
     ghost answered: { Self → Option (List ℕ) };
 
-    /// Takes the front of the bytes, and says how many: one or more where there is one. `Broken` takes none.
+    /// Takes the front of the bytes, and says how many: one or more where there is one.
+    ///
+    /// # Errors
+    /// `Broken` where the call failed; it takes no byte then.
     fn push(&mut self, bytes: &[u8]) -> Result<usize, Broken>
         requires { failed self.old + 1 < 2 ^ 64 }
         ensures bytes { PushAppends (contents self.old) (contents self.new) result bytes.now }
@@ -70,6 +76,9 @@ pub trait Sink {
         ensures answered { answered self.new ≡ answered self.old };
 
     /// Lets everyone see what it has taken.
+    ///
+    /// # Errors
+    /// `Broken` where the call failed; it keeps what it holds, of which some may be hidden still.
     fn flush(&mut self) -> Result<(), Broken>
         requires { failed self.old + 1 < 2 ^ 64 }
         ensures bytes { Keeps (contents self.old) (contents self.new) }
@@ -78,7 +87,7 @@ pub trait Sink {
         ensures seen { IfOk result (λ _. hidden self.new ≡ false) }
         ensures answered { answered self.new ≡ answered self.old };
 
-    /// A source is asked for more, when everyone sees all that was taken.
+    /// Notes that a source is asked for more, when nothing that was taken is hidden.
     fn note_ask(&mut self)
         requires { hidden self.old ≡ false }
         ensures answered { IsSnapshot (contents self.old) (answered self.new) }

@@ -19,8 +19,8 @@ pub struct MemSource<'a> {
 }
 
 impl<'a> MemSource<'a> {
-    /// These bytes, at most `piece` of them at a pull. The pull of number `fails_at`, from 1 on, fails; for 0 none
-    /// does.
+    /// These bytes, at most `piece` of them, 1 or more, at a pull. The pull of number `fails_at`, from 1 on, fails; for
+    /// 0 none does.
     pub fn new(bytes: &'a [u8], piece: usize, fails_at: u64) -> Self
         requires { 0 < piece }
         ensures bytes { result.rest ≡ bytes.entry }
@@ -92,8 +92,8 @@ impl<'a> Source for MemSource<'a> {
     }
 }
 
-/// Bytes in memory, up to a room that was taken when it was made. A push where it is full fails, and so does the push
-/// and the flush of a given number. It shows nothing that was not flushed.
+/// Bytes in memory, up to a room of so many. A push of some bytes where it is full fails, and so does the push and the
+/// flush of a given number. It shows nothing that was not flushed.
 #[derive(Drop)]
 pub struct MemSink {
     bytes: Vec<u8>,
@@ -110,7 +110,10 @@ pub struct MemSink {
 }
 
 impl MemSink {
-    /// Room for so many bytes. The push of number `fails_at`, from 1 on, fails; for 0 none does.
+    /// Room for `room` bytes. The push of number `fails_at`, from 1 on, fails; for 0 none does so.
+    ///
+    /// # Errors
+    /// `AllocError` where an allocation failed.
     pub fn new(alloc: Global, room: usize, fails_at: u64) -> Result<Self, AllocError>
         ensures { IfOk result (λ s. (s.bytes.items ≡ []) × (s.failures ≡ 0) × (s.room ≡ room)
             × (s.fails_in ≡ fails_at) × (s.shown ≡ 0) × (s.answered ≡ 0) × (s.flush_fails_in ≡ 0)) }

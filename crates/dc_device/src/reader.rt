@@ -9,10 +9,10 @@ use crate::writer::LineWriter;
 use arrayvec::ArrayVec;
 use std::marker::Model;
 
-/// How many bytes are asked of a source at a time, and are given to a sink at a time.
+/// The room of a reader's buffer and of a writer's, in bytes: this project's own number.
 pub const BLOCK: usize = 32768;
 
-/// The greatest length of a line, without its line feed.
+/// The greatest length of a line, in bytes without its line feed: this project's own number.
 pub const LINE_LIMIT: usize = 64;
 
 /// A line, without its line feed.
@@ -66,7 +66,7 @@ impl Model for LineReader {
 }
 
 impl LineReader {
-    /// A reader that holds nothing yet and may read so many bytes.
+    /// A reader that holds nothing yet and may read `limit` bytes.
     pub fn new(limit: u64) -> Self
         ensures bytes { result.bytes ≡ [] }
         ensures room { result.room ≡ limit }
@@ -141,6 +141,9 @@ impl LineReader {
 
     /// Pulls the next bytes, where none is held, and says whether there were any. What was written must not wait any
     /// more, nor be hidden: who reads the answers sees each before the source is asked again.
+    ///
+    /// # Errors
+    /// `Broken` where the source failed.
     pub fn fill<S: Source, K: Sink>(
         &mut self,
         source: &mut S,

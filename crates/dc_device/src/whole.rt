@@ -18,8 +18,11 @@ pub enum Unread {
     TooLong,
 }
 
-/// All the bytes that the source still gives, where these are at most so many. It pulls at most once more than that,
+/// All the bytes that the source still gives, where these are at most `limit`. It pulls at most once more than that,
 /// and at most one pull gives no byte.
+///
+/// # Errors
+/// `TooLong` where the source gives more bytes; `Device` where it failed; `Memory` where an allocation failed.
 pub fn read_at_most<S: Source>(
     alloc: Global,
     source: &mut S,

@@ -69,8 +69,7 @@ impl<R: Read + Drop> Source for ReadSource<R> {
     }
 }
 
-/// A writer as a sink. It counts every error, `Interrupted` too, and a write that takes none of the bytes. What it took
-/// is hidden until the writer was flushed.
+/// A writer as a sink. It counts every error, `Interrupted` too, and a write that takes none of the bytes.
 #[derive(Drop)]
 pub struct WriteSink<W: Drop> {
     writer: W,

@@ -8,7 +8,8 @@ use crate::reader::BLOCK;
 use arrayvec::ArrayVec;
 use std::marker::Model;
 
-/// Gathers lines for a sink, and pushes them where the buffer is full and where its owner says so.
+/// Gathers lines for a sink: those that were not pushed yet wait, and go out where its owner says so. Contracts see
+/// what waits.
 #[derive(Drop)]
 pub struct LineWriter {
     waiting: ArrayVec<u8, BLOCK>,
@@ -22,7 +23,8 @@ impl Model for LineWriter {
     ghost view = { λ w. w.waiting.items };
 }
 
-// Pushes all the bytes, by as many pushes as it takes. It is called once a block: kept apart, so that `put` stays small.
+// Pushes all the bytes, by as many pushes as it takes. It is called once a block: kept apart, so that `put` stays
+// small.
 #[inline(never)]
 fn push_all<K: Sink>(sink: &mut K, bytes: &[u8]) -> Result<(), Broken>
     requires { K.failed sink.old + 1 < 2 ^ 64 }
@@ -50,8 +52,10 @@ impl LineWriter {
         }
     }
 
-    /// Pushes what waits, and lets everyone see it. Where the sink fails, what was left is given up, and the sink is
-    /// called no more.
+    /// Pushes what waits, and lets everyone see it.
+    ///
+    /// # Errors
+    /// `Broken` where the sink failed: what was left is given up, and the sink is called no more.
     #[inline(never)]
     pub fn flush<K: Sink>(&mut self, sink: &mut K) -> Result<(), Broken>
         requires { K.failed sink.old + 1 < 2 ^ 64 }
@@ -98,6 +102,9 @@ impl LineWriter {
     }
 
     /// Writes the line and a line feed, after what waits.
+    ///
+    /// # Errors
+    /// `Broken` where the sink failed: it took a front of what waited and the line, and nothing waits.
     pub fn line<K: Sink>(&mut self, sink: &mut K, line: &[u8]) -> Result<(), Broken>
         requires { K.failed sink.old + 1 < 2 ^ 64 }
         ensures bytes { Gathers (K.contents sink.old) self.old (K.contents sink.new) self.new

@@ -28,7 +28,7 @@ impl Model for Dictionary {
 }
 
 impl Dictionary {
-    /// A dictionary with no rows. It takes no memory.
+    /// A dictionary with no rows.
     pub fn new(alloc: Global) -> Dictionary
         ensures { result ≡ [] }
     {

@@ -6,14 +6,19 @@ use thiserror::Error;
 /// Why a dictionary refuses a row, or a row has no interval in ticks.
 #[derive(Clone, Copy, Debug, PartialEq, Eq, Error)]
 pub enum DictFault {
+    /// 1: a parameter of this label and equipment code is there already.
     #[error("a parameter of this label and equipment code is there already")]
     Doubled,
+    /// 2: the least interval is over the greatest.
     #[error("the least interval is over the greatest")]
     MinOverMax,
+    /// 3: an interval is 0 microseconds.
     #[error("an interval of no microseconds")]
     Zero,
+    /// 4: the ticks leave no interval.
     #[error("the ticks leave no interval")]
     NoTicks,
+    /// 5: out of memory.
     #[error("out of memory")]
     Memory,
 }

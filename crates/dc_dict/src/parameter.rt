@@ -22,7 +22,7 @@ impl Model for Equipment {
 }
 
 impl Equipment {
-    /// The equipment code of this number, where it has at most three hexadecimal digits.
+    /// The equipment code of this number, where it is below [`EQUIPMENT_CODES`].
     pub fn new(code: u16) -> Option<Equipment>
         ensures valid { IsSome result ↔ (code < EQUIPMENT_CODES) }
         ensures value { IfSome result (λ equipment. equipment ≡ code) }
@@ -45,12 +45,18 @@ impl Equipment {
 }
 
 /// A parameter: a label with an equipment code, the format of its data, and the least and greatest interval between two
-/// of its words in microseconds.
+/// of its words. The type bounds neither interval; [`Dictionary::insert`](crate::Dictionary::insert) refuses 0, and a
+/// least one over the greatest.
 #[derive(Clone, Copy, Debug, PartialEq, Eq)]
 pub struct Parameter {
+    /// The label, 1 to 255.
     pub label: Label,
+    /// The equipment code, 0 to FFF.
     pub equipment: Equipment,
+    /// The format of its data.
     pub format: Format,
+    /// The least interval between two of its words, in microseconds; `insert` takes 1 to `max_us`.
     pub min_us: u32,
+    /// The greatest interval between two of its words, in microseconds; `insert` takes 1 or more.
     pub max_us: u32,
 }

@@ -5,7 +5,6 @@ use Rattle.std.proofs.lemmas.List.{map-append, reverse-append, nil_from_length}
 use Rattle.std.proofs.lemmas.List.Elements.{All-push, All-head, All-tail, All-nil, All-cons}
 use Rattle.dc_drive.specs.Played.{IsSameSeat, AreSame, counts, out_with}
 use Rattle.dc_hub.specs.Views.{SeatView}
-use Rattle.dc_hub.specs.declared.entry.Receipt.{Receipt}
 
 pub same-self : (s : SeatView) → IsSameSeat s s
 same-self s = (refl, refl, ([], sym (append-nil s.receipts)))
@@ -13,14 +12,6 @@ same-self s = (refl, refl, ([], sym (append-nil s.receipts)))
 pub same-trans : (s t u : SeatView) → IsSameSeat s t → IsSameSeat t u → IsSameSeat s u
 same-trans s t u a b =
     (b.0 ∙ a.0, b.1 ∙ a.1, (a.2.0 ++ b.2.0, b.2.1 ∙ ap (λ rs. rs ++ b.2.0) a.2.1 ∙ append_assoc s.receipts a.2.0 b.2.0))
-
--- a seat that is as it was
-pub same-eq : (s t : SeatView) → t ≡ s → IsSameSeat s t
-same-eq s t e = subst (IsSameSeat s) (sym e) (same-self s)
-
--- a seat with one receipt more
-pub same-one : (s t : SeatView) (r : Receipt) → t.receipts ≡ s.receipts ++ r ∷ [] → t.actor ≡ s.actor → t.parts ≡ s.parts → IsSameSeat s t
-same-one s t r receipts actor parts = (actor, parts, (r ∷ [], receipts))
 
 pub all_self : {X : Type 0} (f : X → SeatView) (xs : List X) → AreSame f xs xs
 all_self f [] = tt
@@ -70,10 +61,6 @@ pub nothing-out : {H X : Type 0} (f : X → SeatView) (xs : List X) (hs : List H
 nothing-out f xs hs g none =
     let is : xs ++ out_with g hs ≡ xs = ap (λ l. xs ++ out_with g l) (nil_from_length hs none) ∙ append-nil xs in
     subst (AreSame f xs) (sym is) (all_self f xs)
-
--- all have come back
-pub all-back : {H X : Type 0} (f : X → SeatView) (all xs : List X) (hs : List H) (g : H → X) → length hs ≡ 0 → AreSame f all (xs ++ out_with g hs) → AreSame f all xs
-all-back f all xs hs g none same = subst (AreSame f all) (ap (λ l. xs ++ out_with g l) (nil_from_length hs none) ∙ append-nil xs) same
 
 -- all as they were
 pub all-eq : {X : Type 0} (f : X → SeatView) (xs ys : List X) → xs ≡ ys → AreSame f xs ys

@@ -1,5 +1,5 @@
 -- Two lists that are walked together: what is left of them is equal just where they are.
-use Rattle.std.proofs.Common.{◌≡◌, ◌≢◌, ℕ, ◌+◌, ◌<◌, ◌≤◌, List, [], ◌∷◌, length, sym, ap, ◌∙◌}
+use Rattle.std.proofs.Common.{◌≡◌, ◌≢◌, ℕ, ◌+◌, ◌<◌, ◌≤◌, List, [], ◌∷◌, length, sym, ◌∙◌}
 use Rattle.std.specs.Prelude.{Option, Some, None, drop, get_or}
 use Rattle.std.proofs.lemmas.List.{at_drop_all, at_drop_more}
 use Rattle.dc_drive.specs.Played.{arrivals, events}
@@ -13,28 +13,9 @@ use Rattle.dc_script.specs.declared.script.Timed.{Timed}
 abbrev pub Walk : {X : Type 0} → (whole wanted rest left : List X) → Type 0
 Walk whole wanted rest left = (rest ≡ left → whole ≡ wanted) × (whole ≡ wanted → rest ≡ left)
 
-abbrev after_first : {X : Type 0} → List X → List X
-after_first [] = []
-after_first (x ∷ xs) = xs
-
 abbrev first_of : {X : Type 0} → List X → Option X
 first_of [] = None
 first_of (x ∷ xs) = Some x
-
-some_injective : {X : Type 0} → (x y : X) → Some x ≡ Some y → x ≡ y
-some_injective x y e = cc
-
-pub walk-skip : {X : Type 0} (D W xs ys ys' : List X) → Walk D W xs ys → ys ≡ ys' → Walk D W xs ys'
-walk-skip D W xs ys ys' w e = (λ h. w.0 (h ∙ sym e), λ h. w.1 h ∙ e)
-
-pub walk-step : {X : Type 0} (D W xs ys xs' ys' : List X) (x y : X) → Walk D W xs ys → xs ≡ x ∷ xs' → ys ≡ y ∷ ys' → x ≡ y → Walk D W xs' ys'
-walk-step D W xs ys xs' ys' x y w xs_is ys_is same = (
-  (λ h. w.0 (xs_is ∙ ap (λ l. x ∷ l) h ∙ ap (λ z. z ∷ ys') same ∙ sym ys_is)),
-  (λ h. ap after_first (sym xs_is ∙ w.1 h ∙ ys_is)),
-)
-
-pub walk-unlike : {X : Type 0} (D W xs ys xs' ys' : List X) (x y : X) → Walk D W xs ys → xs ≡ x ∷ xs' → ys ≡ y ∷ ys' → x ≢ y → D ≢ W
-walk-unlike D W xs ys xs' ys' x y w xs_is ys_is unlike = λ h. unlike (some_injective x y (ap first_of (sym xs_is ∙ w.1 h ∙ ys_is)))
 
 pub walk-short : {X : Type 0} (D W xs ys ys' : List X) (y : X) → Walk D W xs ys → xs ≡ [] → ys ≡ y ∷ ys' → D ≢ W
 walk-short D W xs ys ys' y w xs_is ys_is = λ h. let no : [] ≡ y ∷ ys' = sym xs_is ∙ w.1 h ∙ ys_is in absurd (cc)

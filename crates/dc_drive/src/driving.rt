@@ -104,13 +104,13 @@ fn have_played<L: Ledger, S: Player<L>>(
     true
 }
 
-/// Runs the script with the seats. Where it answers Ok, the events of each seat's new receipts are its actor's own steps
-/// of the steady run over the script's ticks, and a wire's are its script's words. That each seat but the watch has a
-/// thread, the clock's the calling one, is no clause.
+/// Runs the script with the seats, which get receipts behind those that they had. Where it answers Ok, the events of
+/// each seat's new receipts are its actor's own steps of the steady run over the script's ticks, and a wire's are its
+/// script's words.
 ///
 /// # Errors
-/// `Astray` only where a seat's new receipts are not its own steps. When another is answered no clause says: it is meant
-/// for a thread that could not be started, want of memory, a gate that was stuck, a call that the hub refused.
+/// `Astray` only where some seat's new receipts are not its own steps. When another is answered no clause says; tested
+/// are a gate that is stuck, a thread that could not be started, and memory that was refused.
 #[tactic(auto, using(crate::proofs::Same::all_self))]
 pub fn drive<L: Ledger + Send + Sync, R: Threads + Wait + Sync, G: Gate>(
     rt: &R,

@@ -3,7 +3,8 @@ ghost use Rattle.dc_drive.specs.declared.fault.DriveFault.TheVariants.{Astray};
 
 use dc_hub::HubFault;
 
-/// Why a drive ends before its script does. Of several, which is answered is open.
+/// Why a drive was not answered Ok. Of several, which is answered is open; only of `Astray` a clause of
+/// [`drive`](crate::drive) says what it tells.
 #[derive(Clone, Copy, Debug, PartialEq, Eq)]
 pub enum DriveFault {
     /// A thread could not be started.
@@ -12,9 +13,9 @@ pub enum DriveFault {
     Memory,
     /// The gate was stuck.
     GateStuck,
-    /// A call of the hub was refused.
+    /// A call of the hub was refused, with its fault.
     Hub(HubFault),
-    /// A seat's new receipts are not its own steps.
+    /// Some seat's new receipts are not its own steps.
     Astray,
 }
 

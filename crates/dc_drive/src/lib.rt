@@ -1,4 +1,4 @@
-//! A hub that runs: a thread for each actor, the wires by a script.
+//! A hub that is driven in threads, the wires by a script.
 #![tactic(auto)]
 
 mod compare;

@@ -1,4 +1,4 @@
-//! The pace of a drive: who has done its steps of the tick, and which tick it is. No event is made under its lock.
+//! The pace of a drive: who has done its steps of the tick, and which tick it is.
 
 use std::sync::{Condvar, Mutex, Wait};
 

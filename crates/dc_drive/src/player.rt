@@ -16,8 +16,8 @@ use dc_tables::Tables;
 use std::sync::Wait;
 use std::sync::ledger::Ledger;
 
-/// What all threads of a drive are lent: the tables, the script, the gate, the pace, and how many actors there are beside
-/// the clock.
+/// What all threads of a drive are lent: the tables, the script, the gate, the pace, and how many actors there are
+/// beside the clock.
 #[derive(Drop)]
 pub(crate) struct Stage<'s, G> {
     pub tables: &'s Tables,

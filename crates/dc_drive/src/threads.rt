@@ -20,7 +20,8 @@ pub(crate) struct Done<S> {
     pub end: Result<(), Halt>,
 }
 
-/// That the seat which comes back is the one that was handed in, with more receipts behind its own, and still of the hub.
+/// That the seat which comes back is the one that was handed in, with more receipts behind its own, and still of the
+/// hub.
 #[derive(Drop)]
 pub(crate) struct Returns<L: Ledger, S> {
     pub seat: Snapshot<S>,
@@ -62,7 +63,8 @@ fn run<L: Ledger, S: Player<L> + Drop, R: Wait, G: Gate>(
     Done { seat, end: Ok(()) }
 }
 
-/// Where all threads have started, ticks once all actors have made their steps of the tick. Where the clock gives up, all threads stop.
+/// Where all threads have started, ticks once all actors have made their steps of the tick. Where the clock gives up,
+/// all threads stop.
 fn run_clock<L: Ledger, R: Wait, G: Gate>(
     rt: &R,
     hub: &Hub<L>,
@@ -139,7 +141,8 @@ fn start<
     }
 }
 
-/// Starts a thread for each seat, the last first, where all went well before. The first has the number `base` at the gate.
+/// Starts a thread for each seat, the last first, where all went well before. The first has the number `base` at the
+/// gate.
 fn start_all<
     's,
     E,
@@ -292,7 +295,7 @@ fn run_all<'s, E, L: Ledger + Send + Sync + 's, R: Threads + Wait + Sync, G: Gat
     }
 }
 
-/// Plays the script. All threads have returned when this returns.
+/// Plays the script in a scope of threads.
 pub(crate) fn in_threads<L: Ledger + Send + Sync, R: Threads + Wait + Sync, G: Gate>(
     rt: &R,
     hub: &Hub<L>,

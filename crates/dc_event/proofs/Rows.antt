@@ -13,7 +13,8 @@ use Rattle.dc_tables.specs.TableRows.{TableRows}
 use Rattle.dc_tables.specs.Declares.{stream_of}
 use Rattle.dc_event.specs.Buses.{moves}
 use Rattle.dc_event.specs.Latest.{latest, latest_arrived}
-use Rattle.dc_event.specs.Outputs.{due_by, sent, output_moves}
+use Rattle.dc_event.specs.Outputs.{due_by, sent}
+use Rattle.dc_event.specs.lemmas.OutputMoves.{output_moves}
 use Rattle.dc_event.specs.Choice.{fresh, chosen_source}
 use Rattle.dc_event.specs.Replies.{reply, outputs_of}
 use Rattle.dc_event.specs.Emissions.{emission, emission_ticks}

@@ -70,11 +70,6 @@ total : (ℕ → ℕ) → ℕ → ℕ → ℕ → ℕ
 total c u d zero = 0
 total c u d (suc n) = total c u d n + c n * within u d n
 
-total-same : (c e : ℕ → ℕ) (u d n : ℕ) → ((k : ℕ) → c k ≡ e k) → total c u d n ≡ total e u d n
-unfolding total
-total-same c e u d zero same = refl
-total-same c e u d (suc n) same = let here : c n * within u d n ≡ e n * within u d n = ap (λ x. x * within u d n) (same n) in omega (arith, total-same c e u d n same, here)
-
 overlap : ℕ → ℕ → ℕ → ℕ
 overlap u d n = min n (u + d) - min n u
 

@@ -62,6 +62,7 @@ pub record QueueGrows (t : TableRows) (b : ℕ) (past rest : List Event) : Type 
   pub taken_grows : bus_taken t b past ≤ bus_taken t b (past ++ rest)
   pub taken_entered : bus_taken t b past ≤ length (bus_entered t b past)
 
+-- so the queue of each bus grows, after any events
 abbrev pub QueuesGrow : TableRows → Type 0
 QueuesGrow t = (b : ℕ) (past rest : List Event) → QueueGrows t b past rest
 
@@ -82,6 +83,7 @@ pub record PoliceWorks (t : TableRows) (s : ℕ) (run : List Event) : Type 0 whe
   pub keeps : is_policed t (stream_row t s).bus ≡ true → HoldsCap (cap_of t s) (ticks_of (arrivals t s run))
   pub others : is_policed t (stream_row t s).bus ≡ false → ticks_of (arrivals t s run) ≡ offered t s run
 
+-- so it is with each stream of the tables, in every run
 abbrev pub PolicesEach : TableRows → Type 0
 PolicesEach t = (s : ℕ) → s < length t.streams → (run : List Event) → PoliceWorks t s run
 
@@ -110,6 +112,7 @@ pub record SendsInOrder (t : TableRows) (o : ℕ) (run : List Event) : Type 0 wh
   pub in_order : map (λ x. x.1) (sent_entries t o run) ≡ each_below (λ n. n ∷ []) (sent t o run)
   pub when_due : All (λ x. due_tick t o x.1 ≤ x.0) (sent_entries t o run)
 
+-- so each output of the tables sends, in every run
 abbrev pub SendInOrder : TableRows → Type 0
 SendInOrder t = (o : ℕ) → o < length t.outputs → (run : List Event) → SendsInOrder t o run
 
@@ -135,5 +138,6 @@ pub record OneFirstBreak (t : TableRows) (run : List Event) : Type 0 where
   pub of_sources : (p q : Option ℕ) → BreaksSourcesAt t run p → BreaksSourcesAt t run q → p ≡ q
   pub of_claims : (ages : List ℕ) (p q : Option (Claim × ℕ)) → BreaksClaimsAt t ages run p → BreaksClaimsAt t ages run q → p ≡ q
 
+-- so it is in every run
 abbrev pub BreaksOnce : TableRows → Type 0
 BreaksOnce t = (run : List Event) → OneFirstBreak t run

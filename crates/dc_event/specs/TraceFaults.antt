@@ -3,6 +3,7 @@ use Rattle.std.specs.Prelude.{ℕ, List, codes}
 use Rattle.dc_event.specs.declared.trace.LineRule.{LineRule}
 use Rattle.dc_event.specs.declared.trace.LineRule.TheVariants.{LineTooLong, KindUnknown, FieldCountWrong, NameUnknown, NotAWord, LineNotEnded}
 
+-- the code of a rule of lines: E1 to E6
 abbrev pub line_rule_code : LineRule → List ℕ
 line_rule_code LineTooLong = codes "E1"
 line_rule_code KindUnknown = codes "E2"

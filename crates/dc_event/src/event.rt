@@ -3,43 +3,43 @@ ghost use Rattle.dc_event.specs.ClaimNumber.{claim_number};
 
 use dc_word::{Label, Word};
 
-/// One step of one actor. Buses, routers and outputs are given by their numbers in the tables.
+/// One step of one actor. Buses, routers and outputs are given by their numbers in the tables, from 0.
 #[derive(Clone, Copy, Debug, PartialEq, Eq)]
 pub enum Event {
     /// The running tick ends, and the next one begins.
     Tick,
-    /// A word arrives on a bus.
+    /// The word arrives on the bus of this number.
     Arrive(Word, usize),
-    /// A router makes a step.
+    /// The router of this number makes a step.
     Route(usize),
-    /// An output makes a send step.
+    /// The output of this number makes a send step.
     Send(usize),
 }
 
 /// What the concentrator answers to an event.
 #[derive(Clone, Copy, Debug, PartialEq, Eq)]
 pub enum Reply {
-    /// The word waits in its bus's queue, whose backlog is now this.
+    /// The word waits in its bus's queue, whose backlog is now this, in words.
     Queued(u32),
-    /// The word's parity is even.
+    /// The word's parity is even (ARINC Specification 429 Part 1, 2.3.4).
     BadParity,
     /// No stream of the bus declares the word's label and SDI.
     Undeclared,
-    /// The bus is policed, and the word comes sooner than its stream's jitter lets it.
+    /// The bus is policed, and the word comes sooner than its stream's interval and jitter let it.
     TooEarly,
     /// The queue was full: the word is lost, and the bus latches.
     Overrun,
     /// The bus has latched before: the word is lost.
     Latched,
-    /// The router took a word from a bus.
+    /// The router took this word from the bus of this number.
     Took(Word, usize),
-    /// The router visited a bus whose queue was empty.
+    /// The router visited the bus of this number, whose queue was empty.
     Empty(usize),
-    /// The output sent a word under a label.
+    /// The output sent this word under this label.
     Sent(Label, Word),
     /// No entry of the output was due and unsent.
     Idle,
-    /// The tick that begins.
+    /// The number of the tick that begins.
     Now(u64),
 }
 

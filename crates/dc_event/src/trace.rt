@@ -45,11 +45,13 @@ impl LineRule {
     }
 }
 
-/// A refused line of a trace, counted from 1.
+/// A refused line of a trace.
 #[derive(Clone, Copy, Debug, PartialEq, Eq, Error)]
 #[error("{rule} (at line {line})")]
 pub struct TraceFault {
+    /// The rule that the line breaks.
     pub rule: LineRule,
+    /// The number of the line, from 1.
     pub line: u64,
 }
 

@@ -56,8 +56,8 @@ fn read_next(
     }
 }
 
-/// Reads the lines of a trace in the bytes that it holds, and pulls where its owner says so: who knows when the source is
-/// asked, and can first show what was answered so far. It takes no memory.
+/// Reads the lines of a trace in the bytes that it holds, and pulls where its owner says so: who knows when the source
+/// is asked, and can first show what was answered so far.
 #[derive(Drop)]
 pub struct TraceLines<'t> {
     tables: &'t Tables,

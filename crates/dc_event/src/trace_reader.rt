@@ -11,10 +11,10 @@ use dc_device::{LineWriter, Nowhere, Source};
 use dc_tables::Tables;
 use std::marker::Model;
 
-/// How many bytes a trace may have, where nothing else is said.
+/// How many bytes a trace may have, where nothing else is said: this project's own number.
 pub const TRACE_LIMIT: u64 = 1_073_741_824;
 
-/// Reads the events of a trace from a source. It keeps one line and one buffer, and takes no memory.
+/// Reads the events of a trace from a source.
 #[derive(Drop)]
 pub struct TraceReader<'t, S: Source + Drop> {
     lines: TraceLines<'t>,
@@ -72,9 +72,9 @@ impl<'t, S: Source + Drop> TraceReader<'t, S> {
         }
     }
 
-    /// Tells the next event, or why there is none: the text ended, a line is refused, or the source failed. Once it reported
-    /// why there is none, it tells that same from then on. It pulls only where the held bytes end before the line does: in
-    /// all its calls at most once more than the trace may have bytes, and where a pull gave none it has stopped.
+    /// Tells the next event, or why there is none: the text ended, a line is refused, or the source failed. Once it
+    /// reported why there is none, it tells that same from then on. In all its calls it pulls at most once more than
+    /// the trace may have bytes, and where a pull gave none it has stopped.
     pub fn next(&mut self) -> Result<Event, TraceStop>
         requires { self.old.failed + 1 < 2 ^ 64 }
         ensures reported { Tells (left self.old) (left self.new) result }
@@ -92,7 +92,7 @@ impl<'t, S: Source + Drop> TraceReader<'t, S> {
         }
     }
 
-    /// How many calls of the source have failed.
+    /// How many calls of the source have failed so far.
     pub fn failures(&self) -> u64
         ensures { result ≡ self.now.failed }
     {

@@ -3,8 +3,8 @@
 
 ghost use Rattle.dc_example.specs.Example.{ExampleIsSmall};
 
-/// Whatever `read_tables` answers for the text of examples/small.toml is the small tables, or that memory ran out: the text
-/// is not refused.
+/// Whatever `read_tables` answers for the text of examples/small.toml is the small tables, or that memory ran out: the
+/// text is not refused.
 pub fn the_example_is_small()
     ensures { ExampleIsSmall }
 {}

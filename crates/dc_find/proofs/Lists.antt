@@ -1,5 +1,5 @@
 -- Rows that grow by one.
-use Rattle.std.proofs.Common.{◌≡◌, ℕ, ◌+◌, List, [], ◌∷◌, ◌++◌, length, map, get_or, Bool, true, false, refl, sym, ap, subst, ◌∙◌, arith, inl, inr}
+use Rattle.std.proofs.Common.{◌≡◌, ℕ, ◌+◌, List, [], ◌∷◌, ◌++◌, length, map, get_or, Bool, true, false, sym, ap, subst, ◌∙◌, arith, inl, inr}
 use Rattle.std.specs.Prelude.{if◌then◌else◌, Result, Ok, Err}
 use Rattle.std.specs.Result.{IfErr}
 use Rattle.std.proofs.lemmas.Bool.{cases_lt}
@@ -10,9 +10,6 @@ use Rattle.dc_find.specs.Rows.{EachAt}
 pub record AreRows {Y : Type 0} (P : ℕ → Y → Type 0) (n : ℕ) (ys : List Y) : Type 0 where
   pub count : length ys ≡ n
   pub each : EachAt P ys
-
-pub no_rows : {Y : Type 0} (P : ℕ → Y → Type 0) → AreRows P 0 []
-no_rows P = record { count = refl; each = λ k d there. absurd (omega arith) }
 
 one_more : {Y : Type 0} (P : ℕ → Y → Type 0) (n : ℕ) (ys : List Y) (y : Y) → AreRows P n ys → P n y → AreRows P (n + 1) (ys ++ y ∷ [])
 one_more P n ys y rows here = record {

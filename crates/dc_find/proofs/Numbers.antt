@@ -1,11 +1,11 @@
 -- The least numbers of a queue, as those of the tables.
-use Rattle.std.proofs.Common.{◌≡◌, ℕ, ◌+◌, ◌-◌, ◌≤◌, ◌<◌, length, Some, None, refl, sym, subst, arith}
+use Rattle.std.proofs.Common.{◌≡◌, ℕ, ◌+◌, ◌-◌, ◌≤◌, ◌<◌, length, Some, refl, sym, subst, arith}
 use Rattle.dc_busy.specs.BusyWindow.{BacklogBounded, DelayBounded}
 use Rattle.dc_busy.specs.Least.{IsLeast, IsLeastUpToLongest, ClosesWithin}
 use Rattle.dc_busy.specs.lemmas.Least.{shorter-backlog, shorter-delay}
 use Rattle.dc_check.specs.Accepts.{WindowCloses, DelayHolds}
 use Rattle.dc_find.specs.Rows.{AreLeastTimes, IsLeastInput, IsLeastOutput}
-use Rattle.dc_find.specs.Ways.{NeverCloses, NeverFits, StandsInTheWay, part_of, rank_of, IsFirstOfPart}
+use Rattle.dc_find.specs.Ways.{NeverFits, StandsInTheWay, part_of, rank_of, IsFirstOfPart}
 use Rattle.dc_find.specs.declared.fault.FindFault.{FindFault}
 use Rattle.dc_find.specs.declared.fault.FindFault.TheVariants.{WindowNeverCloses, QueueTooShort, LabelRule, Memory}
 use Rattle.dc_find.specs.declared.fault.Queue.TheVariants.{Input, Output}
@@ -19,9 +19,6 @@ least-times cap floor window delay w d = record {
   least_window = λ v ok. w.1.1 v (ok.some, ok.closes);
   least_delay = λ v e ok holds. d.1.1 e (shorter-delay cap floor window v e (w.1.1 v (ok.some, ok.closes)) holds.bounded);
 }
-
-pub never-closes : (cap floor : ℕ → ℕ) → IsLeastUpToLongest (ClosesWithin cap floor) None → NeverCloses cap floor
-never-closes cap floor none window ok = none window ok.most (ok.some, ok.closes)
 
 -- two bounds and two floors that agree
 module _ (a s cap floor : ℕ → ℕ) (same_cap : (d : ℕ) → a d ≡ cap d) (same_floor : (d : ℕ) → s d ≡ floor d) where
@@ -53,9 +50,6 @@ module _ (a s cap floor : ℕ → ℕ) (same_cap : (d : ℕ) → a d ≡ cap d) 
 
   pub most-there : (window backlog : ℕ) → IsLeast (BacklogBounded a s window) backlog → IsLeast (BacklogBounded cap floor window) backlog
   most-there window backlog most = (backlog-there window backlog most.0, λ m bounded. most.1 m (backlog-back window m bounded))
-
-  pub never-there : NeverCloses a s → NeverCloses cap floor
-  never-there h window ok = h window (window-back window ok)
 
 -- no more wait than may come in the window, and no more come than are taken in it
 pub waiting-few : (a s : ℕ → ℕ) (window backlog limit : ℕ) → ((d e : ℕ) → d ≤ e → a d ≤ a e) → WindowCloses a s window → IsLeast (BacklogBounded a s window) backlog → s (window - 1) ≤ limit → backlog ≤ limit

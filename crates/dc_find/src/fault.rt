@@ -9,7 +9,7 @@ use dc_check::Condition;
 use std::alloc::AllocError;
 use thiserror::Error;
 
-/// A queue of the concentrator.
+/// A queue of the concentrator, by its number in the tables, from 0.
 #[derive(Clone, Copy, Debug, PartialEq, Eq, Error)]
 pub enum Queue {
     /// The receive queue of the bus of this number.
@@ -51,17 +51,17 @@ impl Obstacle {
 /// Why there is no certificate.
 #[derive(Clone, Copy, Debug, PartialEq, Eq, Error)]
 pub enum FindFault {
-    /// No window of 1 to 100,000 ticks closes.
+    /// No window of 1 to [`LONGEST_WINDOW`](dc_busy::LONGEST_WINDOW) ticks closes.
     #[error("no window of 1 to 100000 ticks closes: {0}")]
     WindowNeverCloses(Queue),
-    /// More may wait in the queue of the bus of this number than it holds.
+    /// More may wait in the queue of the bus of this number, from 0, than it holds.
     #[error("more may wait than the queue holds: input {0}")]
     QueueTooShort(usize),
-    /// A rule on the label of this number is broken, whatever is accepted of the inputs and outputs: C08, C09 or C12, or
-    /// C10 and C11 together, which is told as C11.
+    /// A rule on the label of this number is broken, whatever is accepted of the inputs and outputs: C08, C09 or C12,
+    /// or C10 and C11 together, which is told as C11.
     #[error("label {0}: {1}")]
     LabelRule(usize, Condition),
-    /// Memory was refused.
+    /// Memory was refused; of the tables it says nothing.
     #[error("out of memory")]
     Memory,
 }

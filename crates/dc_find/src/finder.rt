@@ -34,8 +34,11 @@ fn broken_rule(tables: &Tables, certificate: &Certificate) -> Option<FindFault>
 }
 
 /// The least certificate that is accepted for tables: no accepted one has a smaller window, backlog, delay or age
-/// anywhere. Where none is accepted, the first thing that stands in the way, in the order of inputs, outputs and labels,
-/// and for one of these in the order of its rules.
+/// anywhere.
+///
+/// # Errors
+/// `Memory` where memory was refused. Else none is accepted, and it is the first thing that stands in the way, in the
+/// order of inputs, outputs and labels, and for one of these in the order of its rules.
 pub fn find(alloc: Global, tables: &Tables) -> Result<Certificate, FindFault>
     ensures least { IfOk result (λ c. IsLeastAccepted tables.now (named_rows c)) }
     ensures none { IfErr result (λ fault. fault ≢ Memory → NoneAccepted tables.now) }

@@ -35,8 +35,8 @@ fn least_times<A: ArrivalBound, S: ServiceBound>(arrivals: &A, service: &S) -> O
     Some(Times { window, delay })
 }
 
-/// The least numbers of an input, given the bounds of its bus, whether or not its queue has room; `None` where no window
-/// closes.
+/// The least numbers of an input, given the bounds of its bus, whether or not its queue has room; `None` where no
+/// window closes.
 pub(crate) fn least_input<A: ArrivalBound, S: ServiceBound>(
     tables: &Tables,
     bus: usize,

@@ -17,9 +17,10 @@ use std::alloc::{AllocError, Global};
 /// What the finder reached before a fault.
 #[derive(Debug, Drop)]
 pub struct Reached {
-    /// A row for each input, output and label of the tables.
+    /// A row for each input, output and label of the tables, with its name.
     pub certificate: Certificate,
-    /// In so many of them, the inputs, the outputs and the labels in one row, the numbers are the least.
+    /// How many of the inputs, the outputs and the labels, in one row, were reached: the inputs and outputs among them
+    /// have their least numbers. A label has the least age for the delays that stand here.
     pub parts: usize,
 }
 
@@ -129,8 +130,8 @@ fn reached_outputs(
     Ok(rows)
 }
 
-/// What [`find`](crate::find) reached before the fault with which it ended: the least numbers of the parts before it; of its
-/// input too, where the queue is too short, and of all parts, where a rule on a label is broken.
+/// What [`find`](crate::find) reached before the fault with which it ended: the least numbers of the inputs and outputs
+/// before it; of its input too, where the queue is too short, and of all, where a rule on a label is broken.
 ///
 /// # Errors
 /// `AllocError` where an allocation failed.

@@ -1,5 +1,5 @@
 -- What a wire has noted after one more receipt.
-use Rattle.std.proofs.Common.{◌≡◌, ◌≢◌, ℕ, zero, suc, ◌<◌, ◌≤◌, ◌==◌, if◌then◌else◌, max, List, [], ◌∷◌, ◌++◌, length, refl, sym, ap, subst, ◌∙◌, arith, slice_index, eq-eqb, ne_eqb}
+use Rattle.std.proofs.Common.{◌≡◌, ◌≢◌, ℕ, ◌<◌, ◌≤◌, ◌==◌, if◌then◌else◌, max, List, [], ◌∷◌, ◌++◌, length, refl, sym, ap, subst, ◌∙◌, arith, slice_index, eq-eqb, ne_eqb}
 use Rattle.std.proofs.lemmas.List.{length-replicate, get_or-replicate, get_or-set_same, get_or-set_other}
 use mathlib.Core.Logic.{dite}
 use native.Mathlib.Decide.{ℕ_discrete}
@@ -32,12 +32,6 @@ noted_after rs r bus noted inside before i =
 
     off : i ≢ bus → (if i == bus then greatest rs else 0) ≡ (if i == bus then greatest (rs ++ r ∷ []) else 0)
     off ne = ap (λ b. if b then greatest rs else 0) (ne_eqb i bus ne) ∙ sym (ap (λ b. if b then greatest (rs ++ r ∷ []) else 0) (ne_eqb i bus ne))
-
--- a mark that was noted before changes nothing
-pub raised-none : (noted : List ℕ) (i : ℕ) → raised noted i 0 ≡ noted
-raised-none [] i = refl
-raised-none (x ∷ xs) zero = ap (λ k. k ∷ xs) (omega arith)
-raised-none (x ∷ xs) (suc i) = ap (λ l. x ∷ l) (raised-none xs i)
 
 cap_at : (caps : List ℕ) (bus : ℕ) → caps ≡ board_caps → bus < 64 → slice_index caps bus ≡ 4096
 cap_at caps bus is below = ap (λ (l : List ℕ). slice_index l bus) is ∙ get_or-replicate 64 bus 4096 0 below

@@ -1,8 +1,7 @@
--- New seats, one more.
+-- New wires, one more.
 use Rattle.std.proofs.Common.{◌≡◌, ◌⊎◌, ⊎_elim, inl, inr, ℕ, zero, suc, ◌+◌, Option, Some, None, List, [], ◌∷◌, ◌++◌, length, refl, sym, ap, subst, ◌∙◌, length-append, slice_get}
 use Rattle.atomic_table.specs.Seated.{TableId}
-use Rattle.dc_event.specs.declared.event.Actor.{Actor}
-use Rattle.dc_hub.specs.Views.{SeatView, WireView, unused, IsNewWire, AreNewWires, AreNewSeats}
+use Rattle.dc_hub.specs.Views.{WireView, IsNewWire, AreNewWires}
 
 pub some-same : {X : Type 0} (x y : X) → Some x ≡ Some y → x ≡ y
 some-same {X} x y e = ap (λ (o : Option X). given o) e
@@ -32,13 +31,4 @@ wires-push board ws n w are is = (
       (λ (t : slice_get ws k ≡ Some v). are.1 k v t)
       (λ (t : (k ≡ length ws) × (w ≡ v)). subst (λ j. IsNewWire board j v) (sym (t.0 ∙ are.0)) (subst (IsNewWire board n) t.1 is))
       (at_push ws w v k there)),
-)
-
-pub seats-push : (kind : ℕ → Actor) (ss : List SeatView) (n : ℕ) → AreNewSeats kind ss n → AreNewSeats kind (ss ++ unused (kind n) 1 ∷ []) (n + 1)
-seats-push kind ss n are = (
-  length-append ss (unused (kind n) 1 ∷ []) ∙ ap (λ k. k + 1) are.0,
-  (λ k v there. ⊎_elim
-      (λ (t : slice_get ss k ≡ Some v). are.1 k v t)
-      (λ (t : (k ≡ length ss) × (unused (kind n) 1 ≡ v)). subst (λ j. v ≡ unused (kind j) 1) (sym (t.0 ∙ are.0)) (sym t.1))
-      (at_push ss (unused (kind n) 1) v k there)),
 )

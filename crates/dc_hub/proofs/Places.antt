@@ -1,5 +1,5 @@
 -- Seats by their places.
-use Rattle.std.proofs.Common.{◌≡◌, ◌≢◌, ℕ, zero, suc, ◌+◌, ◌-◌, ◌<◌, ◌≤◌, Bool, true, false, not, is_some, MatchOption, Option, Some, None, List, [], ◌∷◌, length, refl, sym, ap, subst, ◌∙◌, arith, slice_get}
+use Rattle.std.proofs.Common.{◌≡◌, ℕ, zero, suc, ◌+◌, ◌-◌, ◌<◌, ◌≤◌, Bool, true, false, not, is_some, MatchOption, Option, Some, None, List, [], ◌∷◌, length, refl, sym, ap, subst, ◌∙◌, arith, slice_get}
 use mathlib.Core.Logic.{dite}
 use native.Mathlib.Decide.{dec_le, ℕ_discrete}
 use Rattle.dc_hub.specs.Closing.{actor_at, actor_count, AreOneEach}
@@ -33,14 +33,8 @@ are_one_each t seats n is there none =
           ap (λ (x : SeatView). x.actor) (some-same s at.0 (sym e ∙ at.1)) ∙ at.2),
     )
 
-pub one_missing : (t : TableRows) (seats : List SeatView) (n p : ℕ) → n ≡ actor_count t → p < n → slice_get seats p ≡ None → ¬ AreOneEach t seats
-one_missing t seats n p is below none each = let s = some_below seats p (omega (arith, is, below, each.0)) in none-some s.0 (sym none ∙ s.1)
-
 pub one_more : (t : TableRows) (seats : List SeatView) (n : ℕ) (s : SeatView) → n ≡ actor_count t → slice_get seats n ≡ Some s → ¬ AreOneEach t seats
 one_more t seats n s is there each = let h = below_some seats n s there in absurd (omega (arith, is, h, each.0))
-
-pub one_other : (t : TableRows) (seats : List SeatView) (p : ℕ) (s : SeatView) → slice_get seats p ≡ Some s → s.actor ≢ actor_at t p → ¬ AreOneEach t seats
-one_other t seats p s there other each = other (each.1 p s there)
 
 -- one place further
 pub one_further : (t : TableRows) (seats : List SeatView) (n : ℕ) (s : SeatView) → ((p : ℕ) → p < n → (s : SeatView) × (slice_get seats p ≡ Some s) × (s.actor ≡ actor_at t p)) → slice_get seats n ≡ Some s → s.actor ≡ actor_at t n

@@ -24,8 +24,9 @@ use std::marker::Model;
 use std::sync::ledger;
 use std::sync::ledger::Ledger;
 
-/// The entries so far, which are a run of the tables that keeps the budgets, each with the reply that the run calls for;
-/// and the state of the concentrator after that run. Contracts see the certified tables, the trace limit and the entries.
+/// The entries so far, which are a run of the tables that keeps the budgets, each with the reply that the run calls
+/// for; and the state of the concentrator after that run. Contracts see the certified tables, the trace limit and the
+/// entries.
 #[derive(Drop)]
 pub struct Book<L: Ledger> {
     pub(crate) certified: Certified,
@@ -85,11 +86,13 @@ impl<L: Ledger> Book<L> {
         Closed { certified, entries }
     }
 
-    /// One step of the seat's actor: an entry at the end of the book, and the same receipt for the seat. Its memory is
-    /// taken first.
+    /// One step of the seat's actor: an entry at the end of the book, and its receipt at the end of the seat's. The
+    /// index is the number of entries then; a backlog that the reply tells is at most
+    /// [`GREATEST_BACKLOG`](crate::GREATEST_BACKLOG) words.
     ///
     /// # Errors
-    /// In this order: the book is full; out of memory; the event may not follow the book's run.
+    /// `TraceFull` only where the book is full; `Step` only where it is not, and the event may not follow its run;
+    /// `Memory`. Book and seat are unchanged then.
     pub fn act(&mut self, seat: &mut Seat<L>, event: Event) -> Result<Receipt, HubFault>
         requires { actor_of event ≡ seat.old.actor }
         ensures entry { IfOk result (λ r. (self.new.entries ≡ self.old.entries ++ entry event r.reply ∷ []) × (r.index ≡ length self.new.entries) × (r.event ≡ event)) }

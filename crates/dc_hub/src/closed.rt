@@ -63,7 +63,8 @@ impl Closed {
         count
     }
 
-    /// For each bus, of numbers up to 63, the greatest backlog that its wire was answered, 0 where none.
+    /// For each bus, of numbers below [`MOST_WORDS`], the greatest backlog that its wire was answered, in words; 0
+    /// where none.
     pub fn marks(&self) -> [u64; MOST_WORDS]
         ensures { (bus : ℕ) → bus < MOST_WORDS → slice_index result bus ≡ greatest (receipts_of (Wire bus) self.now.entries) }
     {

@@ -162,11 +162,11 @@ fn close_fault<L: Ledger>(
 }
 
 impl<L: Ledger> Book<L> {
-    /// The closed book, where the seats are one for each actor and the receipts of each are its actor's entries. Takes no
-    /// memory.
+    /// The closed book, where the seats are one for each actor and the receipts of each are its actor's entries.
     ///
     /// # Errors
-    /// The seats are not one for each actor; else the first seat whose receipts are not its actor's entries.
+    /// `SeatMissing` where the seats are not one for each actor; else `Mismatch` at the first seat whose receipts are
+    /// not its actor's entries.
     pub fn close(self, seats: Seats<L>) -> Result<Closed, CloseFault>
         ensures same { IfOk result (λ c. (c.certified ≡ self.certified) × (c.entries ≡ self.entries)) }
         ensures ok { IfOk result (λ c. AreOneEach (tables_of c.certified) (all_seats seats.wires.items seats.routers.items seats.outputs.items seats.clock) × AllAgree c.entries (all_seats seats.wires.items seats.routers.items seats.outputs.items seats.clock)) }

@@ -4,18 +4,23 @@ ghost use Rattle.dc_hub.specs.Entries.{entry};
 
 use dc_event::{Event, Reply};
 
-/// What the book keeps of a call: the event, and the reply that it was answered.
+/// What the book keeps of a call.
 #[derive(Clone, Copy, Debug, PartialEq)]
 pub struct Entry {
+    /// The event that was applied.
     pub event: Event,
+    /// The reply that it was answered.
     pub reply: Reply,
 }
 
-/// What a call is answered: the place of its entry in the book, from 1, its event and its reply.
+/// What a call is answered.
 #[derive(Clone, Copy, Debug, PartialEq)]
 pub struct Receipt {
+    /// The place of its entry in the book, from 1.
     pub index: u64,
+    /// The event that was applied.
     pub event: Event,
+    /// The reply that it was answered.
     pub reply: Reply,
 }
 
@@ -30,7 +35,7 @@ impl Receipt {
         }
     }
 
-    /// Whether it is the receipt of this entry at this place.
+    /// Whether it is the receipt of this entry at this place, from 1.
     pub fn is_of(&self, index: u64, entry: &Entry) -> bool
         ensures yes { result ≡ true → self.now ≡ receipt_at index entry.now }
         ensures no { result ≡ false → self.now ≢ receipt_at index entry.now }

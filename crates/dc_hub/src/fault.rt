@@ -3,13 +3,14 @@ use dc_core::StepFault;
 /// Why a hub can not be opened.
 #[derive(Clone, Copy, Debug, PartialEq, Eq)]
 pub enum OpenFault {
-    /// The trace limit is 0 or more than `LONGEST_TRACE`.
+    /// The trace limit is 0 or more than [`LONGEST_TRACE`](crate::LONGEST_TRACE).
     TraceLimit,
     /// Out of memory.
     Memory,
 }
 
-/// Why a call is refused. What comes first is reported: a full book, then want of memory, then the step's fault.
+/// Why a call is refused. That a full book is reported before a step's fault is a clause of
+/// [`Book::act`](crate::Book::act); of the calls of a hub it is tested.
 #[derive(Clone, Copy, Debug, PartialEq, Eq)]
 pub enum HubFault {
     /// The event may not follow the book's run.

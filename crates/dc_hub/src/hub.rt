@@ -46,11 +46,13 @@ impl<L: Ledger> Model for Hub<L> {
 }
 
 impl<L: Ledger> Hub<L> {
-    /// A hub over certified tables, whose book holds at most so many entries, and the seats of its actors, which were
-    /// answered nothing. The blank becomes the hub's count, cut into parts: one for each seat, and the rest for the clock.
+    /// A hub, and the seats of the actors of certified tables, which were answered nothing. The blank has
+    /// [`MOST_ACTORS`](crate::MOST_ACTORS) parts or more; each wire, router and output has one of them. That the book
+    /// holds at most `trace_limit` entries is tested.
     ///
     /// # Errors
-    /// The trace limit is not 1 to `LONGEST_TRACE`; out of memory.
+    /// Wherever the trace limit is not 1 to [`LONGEST_TRACE`](crate::LONGEST_TRACE) entries, and `TraceLimit` there
+    /// alone; `Memory` where an allocation failed.
     pub fn open(
         alloc: Global,
         blank: Blank,
@@ -118,7 +120,7 @@ impl<L: Ledger> Hub<L> {
         Ok((hub, seats))
     }
 
-    /// One step under the lock, which is released when the call returns.
+    /// One step under the lock.
     fn act<R: Wait>(&self, rt: &R, seat: &mut Seat<L>, event: Event) -> Result<Receipt, HubFault>
         requires { actor_of event ≡ seat.old.actor }
         ensures receipt { IfOk result (λ r. (seat.new.receipts ≡ seat.old.receipts ++ r ∷ []) × (r.event ≡ event) × (backlog_of r.reply ≤ GREATEST_BACKLOG)) }
@@ -128,10 +130,11 @@ impl<L: Ledger> Hub<L> {
         self.book.lock(rt).act(seat, event)
     }
 
-    /// A word arrives on the seat's bus. Where it is queued, the backlog is noted on the board after the release.
+    /// A word arrives on the seat's bus. The greatest backlog that the seat was answered is noted on the board.
     ///
     /// # Errors
-    /// In this order: the book is full; out of memory; the event may not follow the book's run. The seat is unchanged.
+    /// A [`HubFault`]; the seat is unchanged then. What each says of the hub's book no clause says; that a full book is
+    /// reported before what the step would break is tested.
     pub fn arrive<R: Wait>(
         &self,
         rt: &R,
@@ -189,7 +192,8 @@ impl<L: Ledger> Hub<L> {
         self.act(rt, &mut seat.seat, Event::Tick)
     }
 
-    /// The mark of a bus, the greatest backlog that was noted so far, in one step: without the lock, without memory.
+    /// The mark of a bus, in words: at least what the watch has seen there before, and at most
+    /// [`GREATEST_BACKLOG`](crate::GREATEST_BACKLOG). The call does not wait.
     pub fn read(&self, watch: &mut Watch, bus: usize) -> u64
         requires watch { IsSeatOf self.now watch.old }
         requires bus { bus < MOST_WORDS }
@@ -201,7 +205,7 @@ impl<L: Ledger> Hub<L> {
         self.board.read(&mut watch.marks, bus)
     }
 
-    /// A watch that has seen nothing.
+    /// Another watch, which has seen nothing.
     pub fn split(&self, watch: &mut Watch) -> Watch
         requires { IsSeatOf self.now watch.old }
         ensures same { watch.new.1 ≡ stepped_once watch.old.1 }
@@ -215,10 +219,10 @@ impl<L: Ledger> Hub<L> {
 }
 
 impl<L: Ledger> Hub<L> {
-    /// Closes the book. Takes no memory.
+    /// Closes the book: the seats are one for each actor, and the receipts of each are its actor's entries.
     ///
     /// # Errors
-    /// As of `Book::close`, of the hub's book.
+    /// As of [`Book::close`](crate::Book::close), of some book; that it is this hub's is tested.
     pub fn close(self, seats: Seats<L>) -> Result<Closed, CloseFault>
         ensures ok { IfOk result (λ c. AreOneEach (tables_of c.certified) (all_seats seats.wires.items seats.routers.items seats.outputs.items seats.clock) × AllAgree c.entries (all_seats seats.wires.items seats.routers.items seats.outputs.items seats.clock)) }
         ensures err { IfErr result (λ fault. (book : BookView) × IsLegal (tables_of book.certified) book.entries × IsCloseFault (tables_of book.certified) book.entries (all_seats seats.wires.items seats.routers.items seats.outputs.items seats.clock) fault) }

@@ -1,4 +1,4 @@
-//! What is sure of a hub that has closed; and a forged receipt, for trials.
+//! What is sure of a hub that has closed; and a forged receipt, for tests.
 
 ghost use Rattle.std.specs.Prelude.{◌≡◌, length};
 ghost use Rattle.dc_cert.specs.Bounds.{numbers_of};
@@ -13,8 +13,8 @@ use crate::entry::Receipt;
 use crate::seat::ClockSeat;
 use std::sync::ledger::Ledger;
 
-/// Where the words of the entries' run keep what is asked of the sources, their intervals and their wires, the claims of
-/// the certificate hold at each entry. The call does nothing.
+/// Where the words of the entries' run keep what is asked of the sources, their intervals and their wires, the claims
+/// of the certificate hold at each entry. The call does nothing.
 pub fn keeps_the_claims(closed: &Closed)
     ensures { KeepsSources (tables_of closed.now.certified) (events closed.now.entries) → ClaimsHold (tables_of closed.now.certified) (numbers_of (named_rows (certificate_of closed.now.certified))).ages (events closed.now.entries) }
 {
@@ -22,7 +22,7 @@ pub fn keeps_the_claims(closed: &Closed)
     closed.certified.keeps_its_claims();
 }
 
-/// Writes a receipt over the clock's last one, if there is one.
+/// For tests: another receipt may stand in the clock's seat then, which has as many as before.
 pub fn forge<L: Ledger>(seat: &mut ClockSeat<L>, receipt: Receipt)
     ensures actor { (seat.new.actor ≡ seat.old.actor) × (seat.new.parts ≡ seat.old.parts) }
     ensures count { length seat.new.receipts ≡ length seat.old.receipts }

@@ -1,6 +1,6 @@
 //! The limits of a hub. All are this project's own numbers.
 
-/// The most entries that a book may hold.
+/// The greatest trace limit of a hub, in entries.
 pub const LONGEST_TRACE: usize = 16_777_216;
 
 /// The most actors that tables have: 64 wires, 64 routers, 32 outputs and a clock.

@@ -9,6 +9,8 @@ mod refused;
 #[cfg(test)]
 mod runs;
 #[cfg(test)]
+mod steps;
+#[cfg(test)]
 mod threads;
 
 use crate::refused::{board_again, hub_again};

@@ -1,6 +1,6 @@
 -- All lines in one row, and whether one of them is negative.
 use Rattle.std.proofs.Common.{◌≡◌, ℕ, zero, suc, ◌+◌, ◌<◌, Bool, true, false, Option, Some, None, Result, Ok, Err, is_some, List, [], ◌∷◌, ◌++◌, length, get_or, take, refl, sym, ap, ◌∙◌, add-one, arith}
-use Rattle.std.specs.Prelude.{IfErr, IfSome, MatchResult, not}
+use Rattle.std.specs.Prelude.{MatchResult, not}
 use Rattle.std.specs.Option.{option_or}
 use Rattle.std.specs.Result.{result_err}
 use Rattle.dc_cert.specs.Bounds.{numbers_of}
@@ -50,10 +50,6 @@ accepted-by_lines t v claims named lines own none =
 pub fault-is : (r : Result (Unit {0}) CheckFault) (o : Option CheckFault) → MatchResult r (λ _. o ≡ None) (λ fault. o ≡ Some fault) → result_err r ≡ o
 fault-is (Ok x) o h = sym h
 fault-is (Err fault) o h = sym h
-
-pub fault-there : (P : CheckFault → Type 0) (r : Result (Unit {0}) CheckFault) → IfErr r P → IfSome (result_err r) P
-fault-there P (Ok x) h = tt
-fault-there P (Err fault) h = h
 
 -- ---- one line
 

@@ -4,7 +4,7 @@ use Rattle.std.specs.Prelude.{nat_lt, nat_le, if◌then◌else◌}
 use Rattle.std.specs.Option.{unwrap_or}
 use Rattle.std.proofs.lemmas.Bool.{cases_lt, lt-ltb, le-ltb, lt-leb, le-leb, leb-true}
 use Rattle.dc_bound.specs.Window.{IsNextJump}
-use Rattle.dc_margin.specs.Peaks.{IsPeak, waiting, least_below, needed}
+use Rattle.dc_margin.specs.Peaks.{waiting, least_below, needed}
 use Rattle.dc_margin.specs.declared.peaks.Peak.{Peak}
 use Rattle.dc_margin.specs.lemmas.Heights.{above-failing, below-count, below-least}
 
@@ -16,15 +16,6 @@ pub record IsPeakSoFar (f : ℕ → ℕ) (window end w h : ℕ) : Type 0 where
   pub first : (v : ℕ) → 1 ≤ v → v < w → f v < h
 
 module _ (f : ℕ → ℕ) (window : ℕ) where
-  -- before any
-  pub peak-none : IsPeakSoFar f window 1 1 0
-  peak-none = record {
-    some = omega arith;
-    at = inr (refl, refl);
-    greatest = λ v low high. absurd (omega arith);
-    first = λ v low high. absurd (omega arith);
-  }
-
   -- one more that is higher, or not, up to the next one at which f may be higher
   module _ (end next : ℕ) (some : 1 ≤ end) (inside : end ≤ window) (flat : (v : ℕ) → end ≤ v → v < next → f v ≤ f end) where
     higher-peak : (w h : ℕ) → h < f end → IsPeakSoFar f window end w h → IsPeakSoFar f window next end (f end)
@@ -60,16 +51,6 @@ module _ (f : ℕ → ℕ) (window : ℕ) where
               let there : q ≡ p = is ∙ ap (λ b. if b then record { ticks = end; height = height } else p) (le-ltb p.height height g) in
               subst (λ r. IsPeakSoFar f window next r.ticks r.height) (sym there) (same-peak p.ticks p.height (omega (arith, g, at)) known)
         ]
-
-  -- past the window it is the peak
-  pub peak-all : (end w h : ℕ) → 1 ≤ window → window < end → IsPeakSoFar f window end w h → IsPeak f window w h
-  peak-all end w h some past p = record {
-    some = p.some;
-    within = elim p.at [ inl here ↦ here.0 | inr none ↦ omega (arith, none.0) ];
-    height = elim p.at [ inl here ↦ here.1 | inr none ↦ omega (arith, none.1, p.greatest 1 (omega arith) (omega arith), ap f none.0) ];
-    greatest = λ v low high. p.greatest v low (omega arith);
-    first = p.first;
-  }
 
 -- ---- the least number that passes
 

@@ -12,8 +12,10 @@ ghost use Rattle.dc_busy.specs.declared.limits.TheConstants.{LONGEST_WINDOW};
 
 use dc_tables::Tables;
 
-/// The margins of C02 to C07 and of C11 are negative exactly where the condition fails, that of C08 where the least gap is
-/// below the least interval and the delay, and that of C09 where the greatest gap and the delay are above the greatest one.
+/// The margins of C02 to C07 and of C11 are negative exactly where the condition fails, of C04 and C06 for a window of
+/// 1 or more, and of C06 for a floor that never falls and a delay of at most
+/// [`LONGEST_WINDOW`](dc_busy::LONGEST_WINDOW); that of C08 where the least gap is below the least interval and the
+/// delay, and that of C09 where the greatest gap and the delay are above the greatest one.
 pub fn negative_where_it_fails()
     ensures window { (window : ℕ) → is_window window ≡ is_kept (Some (window_margin_of window)) }
     ensures closes { (cap floor : ℕ → ℕ) (window : ℕ) → is_closing cap floor window ≡ is_kept (Some (closing_margin_of cap floor window)) }

@@ -18,23 +18,27 @@ use std::alloc::{AllocError, Global};
 /// What a margin counts.
 #[derive(Clone, Copy, Debug, PartialEq, Eq)]
 pub enum Measure {
+    /// Words: C03, C04 and C05.
     Words,
+    /// Ticks: the other conditions.
     Ticks,
 }
 
 /// The margin of one condition of an input, an output or a label.
 #[derive(Clone, Copy, Debug, PartialEq, Eq)]
 pub struct MarginLine {
+    /// The list of the input, output or label.
     pub part: CertificateList,
-    /// The number of the input, output or label in its list.
+    /// The number of the input, output or label in its list, from 0.
     pub index: usize,
+    /// The condition, C02 to C12.
     pub condition: Condition,
     /// `None` where it is not told, since it rests on a window or a delay that is out of range.
     pub margin: Option<Margin>,
 }
 
 impl MarginLine {
-    /// Whether the margin is negative, and so the condition fails. One that is not told is not.
+    /// Whether the margin is negative, or its slack is `None`. A margin that is not told is not.
     #[tactic(auto, unfolding(crate::specs::Margins::is_kept))]
     pub fn is_negative(&self) -> bool
         ensures { result ≡ not (is_kept self.now.margin) }
@@ -63,8 +67,11 @@ impl MarginLine {
 /// The lines of an input, an output or a label.
 #[derive(Clone, Copy, Debug, PartialEq, Eq)]
 pub enum MarginLines {
+    /// Those of an input: C02, C07, C03, C04, C05, C06.
     Input([MarginLine; 6]),
+    /// Those of an output: C02, C07, C03, C06.
     Output([MarginLine; 4]),
+    /// Those of a label: C08 to C12.
     Label([MarginLine; 5]),
 }
 
@@ -81,7 +88,7 @@ impl MarginLines {
     }
 }
 
-/// The lines of the input of this number.
+/// The lines of the input of this number: C02, C07, C03, C04, C05, C06.
 pub fn input_lines(bus: usize, margins: &InputMargins) -> [MarginLine; 6]
     ensures { result ≡ input_lines_of bus margins.now }
 {
@@ -101,7 +108,7 @@ pub fn input_lines(bus: usize, margins: &InputMargins) -> [MarginLine; 6]
     ]
 }
 
-/// The lines of the output of this number.
+/// The lines of the output of this number: C02, C07, C03, C06.
 pub fn output_lines(output: usize, margins: &OutputMargins) -> [MarginLine; 4]
     ensures { result ≡ output_lines_of output margins.now }
 {
@@ -119,7 +126,7 @@ pub fn output_lines(output: usize, margins: &OutputMargins) -> [MarginLine; 4]
     ]
 }
 
-/// The lines of the label of this number.
+/// The lines of the label of this number: C08 to C12.
 pub fn label_lines(label: usize, margins: &LabelMargins) -> [MarginLine; 5]
     ensures { result ≡ label_lines_of label margins.now }
 {
@@ -146,8 +153,8 @@ pub fn line_parts(tables: &Tables) -> usize
     tables.bus_count() + tables.output_count() + tables.label_count()
 }
 
-/// The lines of the part of this number: the inputs, the outputs and the labels in one row, from 0. One part after another
-/// they are all margins of a certificate in the order in which they are printed.
+/// The lines of the part of this number: the inputs, the outputs and the labels in one row, from 0. One part after
+/// another they are the lines of [`margin_lines`].
 #[tactic(auto, unfolding(crate::specs::Lines::part_lines_of))]
 pub fn part_lines(tables: &Tables, certificate: &Certificate, part: usize) -> MarginLines
     requires sized { IsSized tables.now (certificate_rows certificate.now) }
@@ -172,7 +179,7 @@ pub fn part_lines(tables: &Tables, certificate: &Certificate, part: usize) -> Ma
     MarginLines::Label(label_lines(label, &margins))
 }
 
-/// The lines of all margins of a certificate, in the order in which they are printed.
+/// The lines of all margins of a certificate: those of the inputs, the outputs and the labels, in their order.
 ///
 /// # Errors
 /// `AllocError` where an allocation failed.

@@ -16,15 +16,15 @@ pub enum Decider {
 /// How far a condition is from failing.
 #[derive(Clone, Copy, Debug, PartialEq, Eq)]
 pub struct Margin {
-    /// In words or in ticks; negative where the condition fails. `None` for C06 where no delay up to the longest window passes: it
-    /// fails then too.
+    /// In words or in ticks; negative where the condition fails. `None` for C06 where no delay up to
+    /// [`LONGEST_WINDOW`](dc_busy::LONGEST_WINDOW) ticks passes: it fails then too.
     pub slack: Option<i64>,
     /// What decides it.
     pub decider: Decider,
 }
 
-/// The margins of an input, in the order in which the verdict looks at them. `None` is a margin that is not told, since it
-/// rests on a window or a delay that is out of range.
+/// The margins of an input, in the order in which the verdict looks at them. `None` is a margin that is not told, since
+/// it rests on a window or a delay that is out of range.
 #[derive(Clone, Copy, Debug, PartialEq, Eq)]
 pub struct InputMargins {
     /// C02, in ticks.

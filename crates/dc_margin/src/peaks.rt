@@ -10,7 +10,9 @@ use dc_busy::LONGEST_WINDOW;
 /// A greatest height, and the first number of ticks that has it.
 #[derive(Clone, Copy, Debug, PartialEq, Eq)]
 pub struct Peak {
+    /// The first number of ticks that has it, from 1 to the window.
     pub ticks: u32,
+    /// The greatest height.
     pub height: u64,
 }
 
@@ -23,8 +25,8 @@ pub struct Peaks {
     pub delay: Peak,
 }
 
-/// The most that may wait in a window of 1 to [`LONGEST_WINDOW`] ticks, and the least delay that it needs, each with the
-/// first number of its ticks that has it.
+/// The most that may wait in a window of 1 to [`LONGEST_WINDOW`] ticks, and the least delay that it needs, each with
+/// the first number of its ticks that has it.
 pub fn peaks_of<A: ArrivalBound, S: ServiceBound>(arrivals: &A, service: &S, window: u32) -> Peaks
     requires least { 1 ≤ window }
     requires most { window ≤ LONGEST_WINDOW }

@@ -24,8 +24,8 @@ fn is_any_negative(lines: &[MarginLine]) -> bool
     false
 }
 
-/// The fault of [`dc_check::verdict`] on a certificate that has the tables' names, given the lines of its margins: no
-/// window is looked at again but where one of them is negative.
+/// The fault of [`dc_check::verdict`] on a certificate that has the tables' names, given the lines of its margins;
+/// `None` where it is accepted.
 pub fn verdict_fault(
     tables: &Tables,
     certificate: &Certificate,

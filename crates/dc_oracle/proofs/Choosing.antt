@@ -1,9 +1,9 @@
 -- The choice, source by source, from what is carried.
-use Rattle.std.proofs.Common.{◌≡◌, ℕ, suc, ◌+◌, ◌-◌, ◌<◌, ◌≤◌, Bool, true, false, cond, leb, Option, Some, None, is_some, List, [], ◌∷◌, ◌++◌, length, take, drop, get_or, refl, sym, ap, ◌∙◌, arith, take-append-drop}
+use Rattle.std.proofs.Common.{◌≡◌, ℕ, suc, ◌+◌, ◌-◌, ◌<◌, Bool, true, false, cond, leb, Option, Some, None, is_some, List, [], ◌∷◌, ◌++◌, length, take, drop, get_or, refl, sym, ap, ◌∙◌, arith, take-append-drop}
 use Rattle.std.specs.Prelude.{filter}
 use Rattle.std.specs.List.{flat_map}
 use Rattle.std.proofs.lemmas.Grind.{flat_map-append}
-use Rattle.std.proofs.lemmas.List.{take_more, append-nil, take_all}
+use Rattle.std.proofs.lemmas.List.{take_more, append-nil}
 use Rattle.std.proofs.lemmas.List.Elements.{filter-append}
 use Rattle.dc_word.specs.Format.{is_usable}
 use Rattle.dc_tables.specs.TableRows.{TableRows, AreValid, label_row, stream_row}
@@ -92,25 +92,11 @@ module _ (t : TableRows) (w : ReplyWatch) (x : ℕ) where
         ap (λ cs. filter p cs) parts ∙ filter-append p (all_fresh t w x (take (i + 1) sources)) (all_fresh t w x (drop (i + 1) sources)) ∙ ap (λ cs. cs ++ filter p (all_fresh t w x (drop (i + 1) sources))) here in
         sym (ap head all)
 
-    pub none-at_end : length sources ≤ i → filter p (all_fresh t w x (take i sources)) ≡ [] → None ≡ head (filter p (all_fresh t w x sources))
-    none-at_end past none = sym (ap (λ l. head (filter p (all_fresh t w x l))) (sym (take_all i sources past)) ∙ ap head none)
-
 -- ---- usable first, then any
 
 head-some : (xs ys : List (ℕ × ℕ)) → is_some (head xs) ≡ true → head xs ≡ head (xs ++ ys)
 head-some [] ys h = absurd cc
 head-some (x ∷ xs) ys h = refl
 
-head-none : (xs ys : List (ℕ × ℕ)) → is_some (head xs) ≡ false → head ys ≡ head (xs ++ ys)
-head-none [] ys h = refl
-head-none (x ∷ xs) ys h = absurd cc
-
-filter-all : (xs : List (ℕ × ℕ)) → filter (λ c. true) xs ≡ xs
-filter-all [] = refl
-filter-all (x ∷ xs) = ap (λ l. x ∷ l) (filter-all xs)
-
 pub choice-usable : (t : TableRows) (x : ℕ) (cs : List (ℕ × ℕ)) → is_some (head (filter (λ c. is_wanted true t x c.1) cs)) ≡ true → head (filter (λ c. is_wanted true t x c.1) cs) ≡ choice t x cs
 choice-usable t x cs h = head-some (filter (λ c. is_usable (label_row t x).format c.1) cs) cs h
-
-pub choice-any : (t : TableRows) (x : ℕ) (cs : List (ℕ × ℕ)) → is_some (head (filter (λ c. is_wanted true t x c.1) cs)) ≡ false → head (filter (λ c. is_wanted false t x c.1) cs) ≡ choice t x cs
-choice-any t x cs h = ap head (filter-all cs) ∙ head-none (filter (λ c. is_usable (label_row t x).format c.1) cs) cs h

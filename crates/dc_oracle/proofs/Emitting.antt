@@ -1,5 +1,5 @@
 -- One more event keeps what is carried of the emissions.
-use Rattle.std.proofs.Common.{◌≡◌, ℕ, zero, suc, ◌+◌, ◌-◌, ◌^◌, ◌≤◌, ◌<◌, ◌==◌, min, Bool, true, false, cond, leb, Option, Some, None, List, [], ◌∷◌, ◌++◌, length, get_or, set, refl, sym, ap, ◌∙◌, subst, arith, inl, inr, eq-eqb, length-append}
+use Rattle.std.proofs.Common.{◌≡◌, ℕ, ◌+◌, ◌-◌, ◌^◌, ◌≤◌, ◌<◌, min, Bool, cond, leb, Option, Some, None, List, [], ◌∷◌, ◌++◌, length, get_or, set, refl, sym, ap, ◌∙◌, subst, arith, inl, inr, eq-eqb, length-append}
 use Rattle.std.specs.Prelude.{IfSome, MatchBool}
 use Rattle.std.specs.List.{flat_map}
 use Rattle.std.proofs.lemmas.List.{append-nil, get_or-set_same, get_or-set_other}
@@ -7,7 +7,7 @@ use Rattle.std.proofs.lemmas.Bool.{cases_lt, cases_eq, ne_eqb, lt-leb, le-leb}
 use Rattle.std.proofs.lemmas.Grind.{flat_map-append}
 use Rattle.dc_bound.specs.Places.{each_place}
 use Rattle.dc_bound.specs.lemmas.FirstPlaces.{each_place-push}
-use Rattle.dc_tables.specs.TableRows.{TableRows, AreValid, label_row}
+use Rattle.dc_tables.specs.TableRows.{TableRows, label_row}
 use Rattle.dc_event.specs.Time.{tick_after}
 use Rattle.dc_event.specs.Claims.{IsInTime, IsSpaced}
 use Rattle.dc_event.specs.Emissions.{emission, tick_if, emission_ticks, last_or_zero}
@@ -140,9 +140,6 @@ limit-more t last n first own least h own_is least_is = record {
   ];
 }
 
-pub limit-none : (t : TableRows) (last : List (Option ℕ)) → IsLimit t last 0 (2 ^ 64 - 1)
-limit-none t last = record { lower = λ x l. absurd (omega arith); met = λ short. absurd (omega arith) }
-
 pub emits-limit : (t : TableRows) (old new : EmissionWatch) (run : List Event) → new.last.items ≡ old.last.items → IsLimit t old.last.items (length t.labels) new.limit → Emits t old run → Emits t new run
 emits-limit t old new run same is h = record {
   last = λ x l. (let P : Option ℕ → Type 0 = λ o. IsLast (emission_ticks t x run) o in subst P (sym (ap (λ xs. get_or xs x None) same)) (h.last x l));
@@ -157,26 +154,6 @@ SpacedAt t run x = 1 ≤ length (emission_ticks t x run) → last_or_zero (emiss
 pub spaced-none : (t : TableRows) (run : List Event) (e : Event) → None ≡ emission t run e → IsSpaced t run e
 spaced-none t run e is = let P : Option ℕ → Type 0 = λ o. IfSome o (SpacedAt t run) in subst P is tt
 
-pub spaced-first : (t : TableRows) (w : EmissionWatch) (run : List Event) (e : Event) (x : ℕ) → Some x ≡ emission t run e → x < length t.labels → get_or w.last.items x None ≡ None → Emits t w run → IsSpaced t run e
-spaced-first t w run e x is l none h =
-    let P : Option ℕ → Type 0 = λ o. IfSome o (SpacedAt t run) in
-    let Q : Option ℕ → Type 0 = λ o. IsLast (emission_ticks t x run) o in
-    let empty : length (emission_ticks t x run) ≡ 0 = subst Q none (h.last x l) in
-    let spaced : SpacedAt t run x = λ some. absurd (omega (arith, empty, some)) in
-    subst P is spaced
-
 module _ (t : TableRows) (w : EmissionWatch) (run : List Event) (e : Event) (x k : ℕ) (is : Some x ≡ emission t run e) (l : x < length t.labels) (some : get_or w.last.items x None ≡ Some k) (h : Emits t w run) where
   one : (1 ≤ length (emission_ticks t x run)) × (last_or_zero (emission_ticks t x run) ≡ k)
   one = let Q : Option ℕ → Type 0 = λ o. IsLast (emission_ticks t x run) o in subst Q some (h.last x l)
-
-  pub spaced-yes : k + (label_row t x).minimum ≤ tick_after run → IsSpaced t run e
-  spaced-yes long =
-      let P : Option ℕ → Type 0 = λ o. IfSome o (SpacedAt t run) in
-      let spaced : SpacedAt t run x = λ had. omega (arith, one.1, long) in
-      subst P is spaced
-
-  pub spaced-no : tick_after run < k + (label_row t x).minimum → IsSpaced t run e → ⊥
-  spaced-no short all =
-      let P : Option ℕ → Type 0 = λ o. IfSome o (SpacedAt t run) in
-      let spaced : SpacedAt t run x = subst P (sym is) all in
-      omega (arith, one.1, short, spaced one.0)

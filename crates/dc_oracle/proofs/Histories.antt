@@ -8,9 +8,13 @@ use Rattle.dc_bound.specs.lemmas.Counts.{within_cases}
 use Rattle.dc_bound.specs.Turns.{NeverFall}
 use Rattle.dc_bound.specs.lemmas.Recent.{recent}
 use Rattle.dc_bound.specs.lemmas.Steps.{pace_tick}
-use Rattle.dc_oracle.specs.History.{UpTo, held, lacking}
+use Rattle.dc_oracle.specs.History.{held, lacking}
 
 -- ---- the ticks of what is picked from a run never fall, and none is later than the running tick
+
+-- ticks never fall, and none is later than this tick
+abbrev pub UpTo : ℕ → List ℕ → Type 0
+UpTo tick ts = NeverFall (ts ++ tick ∷ [])
 
 lower : (t u : ℕ) (ts : List ℕ) → t ≤ u → NeverFall (u ∷ ts) → NeverFall (t ∷ ts)
 unfolding NeverFall
@@ -57,11 +61,6 @@ unfolding NeverFall
 all_late u zero t n ts low h l = low
 all_late u (suc m) t n [] low h l = absurd (omega arith)
 all_late u (suc m) t n (s ∷ ts) low h l = all_late u m s n ts (omega (arith, h.0)) h.1 (omega arith)
-
-count_le : (u d : ℕ) (ts : List ℕ) → count_in u d ts ≤ length ts
-unfolding count_in
-count_le u d [] = omega arith
-count_le u d (t ∷ ts) = elim (within_cases u d t) [ inl w ↦ omega (arith, w.2, count_le u d ts) | inr v ↦ elim v [ inl w ↦ omega (arith, w.1, count_le u d ts) | inr w ↦ omega (arith, w.1, count_le u d ts) ] ]
 
 -- at least k from tick u on: the entry k places before the end is there, and is in u or later
 abbrev pub IsLate : ℕ → ℕ → List ℕ → Type 0

@@ -1,5 +1,5 @@
 -- What the claims say of a word that leaves, from what is carried.
-use Rattle.std.proofs.Common.{◌≡◌, ℕ, zero, suc, ◌+◌, ◌-◌, ◌^◌, ◌≤◌, ◌<◌, ◌&&◌, ◌==◌, ◌⊎◌, Bool, true, false, cond, leb, min, Option, Some, None, option_map, List, [], ◌∷◌, ◌++◌, length, get_or, refl, sym, ap, ◌∙◌, subst, arith, inl, inr, eq-eqb}
+use Rattle.std.proofs.Common.{◌≡◌, ℕ, zero, suc, ◌+◌, ◌-◌, ◌^◌, ◌≤◌, ◌<◌, ◌&&◌, ◌==◌, Bool, true, false, cond, leb, min, Option, Some, None, option_map, List, [], ◌∷◌, ◌++◌, length, get_or, refl, sym, ap, ◌∙◌, subst, arith, inl, inr, eq-eqb}
 use Rattle.std.specs.Prelude.{MatchBool, slice_index, not}
 use Rattle.std.specs.List.{flat_map, filter, Contains}
 use Rattle.std.proofs.lemmas.Bool.{cases_Bool, cases_lt, cases_eq, ne_eqb, and_parts, eqb-true, leb-true, leb-false, lt-leb, le-leb}
@@ -10,14 +10,14 @@ use Rattle.dc_tables.specs.TableRows.{TableRows, AreValid, stream_row, label_row
 use Rattle.dc_event.specs.Time.{tick_after}
 use Rattle.dc_event.specs.Alive.{IsAlive, AreUsable}
 use Rattle.dc_event.specs.Buses.{moves, room, is_latched}
-use Rattle.dc_event.specs.Choice.{fresh, fresh_word, head, chosen_source, chosen, word_for, fallback_for}
-use Rattle.dc_event.specs.Claims.{CopiesWithin, IsYoung, UsesFirst, UsesAny}
+use Rattle.dc_event.specs.Choice.{fresh, fresh_word, head, chosen_source, chosen, word_for}
+use Rattle.dc_event.specs.Claims.{IsYoung, UsesFirst, UsesAny}
 use Rattle.dc_event.specs.Latest.{is_of, latest, latest_arrived}
 use Rattle.dc_event.specs.declared.event.Event.{Event}
 use Rattle.dc_oracle.specs.declared.arrivals.ArrivalWatch.{ArrivalWatch}
 use Rattle.dc_oracle.specs.Arrivals.{Follows}
 use Rattle.dc_oracle.specs.Claims.{IsAnyGood}
-use Rattle.dc_oracle.specs.Life.{alive_at, fine_at, good_at, no_life}
+use Rattle.dc_oracle.specs.Life.{alive_at, good_at, no_life}
 use Rattle.dc_oracle.proofs.Living.{beats-alive, beats-dead, fine-usable, fine-useless}
 use Rattle.dc_oracle.proofs.Taking.{last_below-passes}
 
@@ -135,11 +135,6 @@ good-is t v w x s now there h false is = λ alive usable.
 
 -- ---- the first source, and any
 
-pub first-idle : (t : TableRows) (x s : ℕ) (now : List Event) → s ≡ slice_index (label_row t x).sources 0 → (IsAlive t x s now → AreUsable t x s now → ⊥) → UsesFirst t x now
-first-idle t x s now is none = λ a u. absurd (
-    let P : ℕ → Type 0 = λ s. IsAlive t x s now → AreUsable t x s now → ⊥ in
-    subst P is none a u)
-
 pub first-copied : (t : TableRows) (x s : ℕ) (now : List Event) (a : ℕ × ℕ) → s ≡ slice_index (label_row t x).sources 0 → Some a ≡ chosen_source t x now → a.0 ≡ s → UsesFirst t x now
 first-copied t x s now a is copied same = λ alive usable. (a.1, sym copied ∙ ap (λ k. Some (k, a.1)) (same ∙ is))
 
@@ -149,9 +144,6 @@ first-left t x s now o is copied good other uses =
     let Q : ℕ → Type 0 = λ s. AreUsable t x s now in
     let r = uses (subst P is good.0) (subst Q is good.1) in
     other r.0 (copied ∙ r.1 ∙ ap (λ k. Some (k, r.0)) (sym is))
-
-pub any-usable : (t : TableRows) (x : ℕ) (now : List Event) (o : Option (ℕ × ℕ)) → o ≡ chosen_source t x now → is_usable (label_row t x).format (word_for t x o) ≡ true → UsesAny t x now
-any-usable t x now o is good = λ k l alive usable. ap (λ z. is_usable (label_row t x).format (word_for t x z)) (sym is) ∙ good
 
 pub any-idle : (t : TableRows) (x : ℕ) (now : List Event) → IsAnyGood t x now false → UsesAny t x now
 any-idle t x now none = λ k l alive usable. absurd (none k l alive usable)

@@ -1,10 +1,5 @@
 -- The ticks of what one actor or one stream did.
-use Rattle.std.specs.Prelude.{ℕ, ◌+◌, ◌-◌, Bool, nat_le, nat_lt, not, ◌&&◌, List, [], ◌∷◌, ◌++◌, length, slice_index}
-use Rattle.dc_bound.specs.Turns.{NeverFall}
-
--- they never fall, and none is later than this tick
-abbrev pub UpTo : ℕ → List ℕ → Type 0
-UpTo tick ts = NeverFall (ts ++ tick ∷ [])
+use Rattle.std.specs.Prelude.{ℕ, ◌+◌, ◌-◌, Bool, nat_le, nat_lt, not, ◌&&◌, List, length, slice_index}
 
 -- whether the one `count` places before the end is there, and lies in the last `window` ticks
 abbrev pub held : ℕ → ℕ → ℕ → List ℕ → Bool

@@ -132,10 +132,10 @@ impl BudgetWatch {
 }
 
 /// The first event, counted from 1, at which the run breaks the budgets: a step too many of a router in a tick, a send
-/// within an output's gap, or a Tick before an actor has made its steps.
+/// within an output's gap, or a Tick before an actor has made its steps. `None` where it keeps them.
 ///
 /// # Errors
-/// Out of memory.
+/// `AllocError` where an allocation failed.
 pub fn keeps_budgets(
     alloc: Global,
     tables: &Tables,

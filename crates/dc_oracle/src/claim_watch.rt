@@ -102,11 +102,11 @@ impl ClaimWatch {
 }
 
 /// The least claim that fails at the first event, counted from 1, at which any fails, by the ages of the certificate,
-/// whose labels are taken in their order; a label that it does not list has the age 0. Of a run that names a bus, router
-/// or output that is not in the tables nothing is said.
+/// whose labels are taken in their order; a label that it does not list has the age 0. Of a run that names a bus,
+/// router or output that is not in the tables nothing is said. `None` where the claims hold.
 ///
 /// # Errors
-/// Out of memory.
+/// `AllocError` where an allocation failed.
 pub fn claims(
     alloc: Global,
     tables: &Tables,

@@ -1,8 +1,8 @@
 ghost use Rattle.std.specs.Prelude.{◌≡◌, true, false};
 ghost use Rattle.dc_oracle.specs.Pace.{is_early_at, moved};
 
-/// How far the words of a stream are ahead of their pace: the tick of the last, and how many ticks from it on the words up
-/// to then fill at the stream's minimum.
+/// How far the words of a stream are ahead of their pace: the tick of the last, and how many ticks from it on the words
+/// up to then fill at the stream's minimum.
 #[derive(Clone, Copy, Debug, PartialEq)]
 pub struct Pace {
     pub tick: u64,

@@ -334,7 +334,7 @@ pub fn answer(
 /// bus, router or output that is not in the tables nothing is said.
 ///
 /// # Errors
-/// Out of memory.
+/// `AllocError` where an allocation failed.
 pub fn outputs(alloc: Global, tables: &Tables, run: &[Event]) -> Result<Vec<Reply>, AllocError>
     ensures { IsRun tables.now run.now → IfOk result (λ replies. replies.items ≡ outputs_of tables.now run.now) }
 {

@@ -105,10 +105,10 @@ impl SourceWatch {
 }
 
 /// The first event, counted from 1, at which a source of a bus that is not policed breaks what is asked of it: a word
-/// sooner than its stream's interval and jitter let it, or more words than the wire carries.
+/// sooner than its stream's interval and jitter let it, or more words than the wire carries. `None` where none does.
 ///
 /// # Errors
-/// Out of memory.
+/// `AllocError` where an allocation failed.
 pub fn keeps_sources(
     alloc: Global,
     tables: &Tables,

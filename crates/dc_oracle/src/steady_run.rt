@@ -61,11 +61,11 @@ fn steady_ticks(alloc: Global, tables: &Tables, ticks: u64) -> Result<Vec<Event>
     Ok(run)
 }
 
-/// The steady run of so many ticks, in which every actor makes its steps in each tick. It keeps the budgets of all actors,
-/// and its sources are silent.
+/// The steady run of so many ticks: in each every router makes as many steps as it may, an output sends where its gap
+/// divides the tick, and no word comes. It is admissible.
 ///
 /// # Errors
-/// Out of memory.
+/// `AllocError` where an allocation failed.
 pub fn steady(alloc: Global, tables: &Tables, ticks: u64) -> Result<Vec<Event>, AllocError>
     ensures run { IfOk result (λ run. run.items ≡ steady_of tables.now ticks) }
     ensures admissible { IfOk result (λ run. IsAdmissible tables.now run.items) }

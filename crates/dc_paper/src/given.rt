@@ -91,13 +91,14 @@ fn judge_sources<T: Source, C: Source>(
     }
 }
 
-/// Writes the page on a certificate for tables onto a sink, both read whole from their sources, the tables first; where one
-/// of them can't be read, its line.
+/// Writes the page on a certificate for tables onto a sink, both read whole from their sources, the tables first; where
+/// one of them can't be read, its line. No clause says what stands in the page: it is tested.
 ///
-/// It ends `Done` where the certificate is accepted, `Refused` where it is refused, `Unreadable` where a text can't be read,
-/// `Failed` where a device failed or memory was refused: `failed memory` alone was written, or `failed device` behind nothing
-/// or all that was to be written; where a push or flush failed, a front of one of these or of the latter. No clause says
-/// what stands in the page.
+/// It ends `Done` where the certificate is accepted, `Refused` where it is refused, `Unreadable` where a text can't be
+/// read, `Failed` where a device failed or memory was refused: `failed memory` alone was written, or `failed device`
+/// behind nothing or all that was to be written; where a push or flush failed, a front of one of these or of the
+/// latter. That call is the last of the sink, and at most one pull of each source gives no byte. The certificate is
+/// asked for only where the tables are in order.
 pub fn run_report<T: Source, C: Source, K: Sink>(
     alloc: Global,
     tables: &mut T,

@@ -44,11 +44,14 @@ fn judge_alone<T: Source>(
     }
 }
 
-/// Writes the page on the least certificate for tables, which are read whole from their source, onto a sink; where none is
-/// accepted, one line that says what stands first in the way of every certificate.
+/// Writes the page on the least certificate for tables, which are read whole from their source, onto a sink; where none
+/// is accepted, one line that says what stands first in the way of every certificate. No clause says what stands in the
+/// page: it is tested.
 ///
-/// It ends `Done` where a certificate was found, `Refused` where none is accepted, `Unreadable` where the tables can't be
-/// read, `Failed` where a device failed or memory was refused. No clause says what stands in the page.
+/// It ends `Done` where a certificate was found, `Refused` where none is accepted, `Unreadable` where the tables can't
+/// be read, `Failed` where a device failed or memory was refused: `failed memory` alone was written, or `failed device`
+/// behind nothing or all that was to be written; where a push or flush failed, a front of one of these or of the
+/// latter. That call is the last of the sink, and at most one pull of the source gives no byte.
 pub fn run_report_least<T: Source, K: Sink>(alloc: Global, tables: &mut T, sink: &mut K) -> Exit
     requires tables { T.failed tables.old + 1 < 2 ^ 64 }
     requires sink { K.failed sink.old + 1 < 2 ^ 64 }

@@ -62,29 +62,41 @@ pub enum TableRule {
 /// The kind of table at which a rule is broken.
 #[derive(Clone, Copy, Debug, PartialEq, Eq)]
 pub enum Section {
+    /// The top of the document.
     Top,
+    /// A parameter.
     Parameter,
+    /// A receive bus.
     Bus,
+    /// A stream of a bus.
     Stream,
+    /// A router.
     Router,
+    /// An output.
     Output,
+    /// A label of an output.
     Label,
 }
 
-/// A broken rule: the rule, and the table at which it is broken. Streams and labels are numbered through the whole
-/// document, and all from 0; at the top the index is 0.
+/// A broken rule, and the table at which it is broken.
 #[derive(Clone, Copy, Debug, PartialEq, Eq)]
 pub struct TableFault {
+    /// The rule that is broken.
     pub rule: TableRule,
+    /// The kind of table at which it is broken.
     pub section: Section,
+    /// The number of that table among those of its kind, from 0, streams and labels being numbered through the whole
+    /// document; 0 at the top.
     pub index: usize,
 }
 
 /// Why tables were not built.
 #[derive(Debug, Drop, thiserror::Error)]
 pub enum BuildError {
+    /// A rule is broken.
     #[error("{0}")]
     Refused(TableFault),
+    /// Out of memory.
     #[error("out of memory")]
     Memory(AllocError),
 }

@@ -8,7 +8,9 @@ use dc_word::Label;
 /// What names a parameter.
 #[derive(Clone, Copy, Debug, PartialEq, Eq, Hash)]
 pub struct ParameterKey {
+    /// Its label.
     pub label: Label,
+    /// Its equipment code.
     pub equipment: Equipment,
 }
 

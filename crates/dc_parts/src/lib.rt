@@ -1,5 +1,5 @@
-//! A document of tables as it is handed in: its names and parts, what names a parameter, how close words follow one another
-//! on a line, and the faults that are reported of it.
+//! A document of tables as it is handed in: its names and parts, what names a parameter, how close words follow one
+//! another on a line, and the faults that are reported of it.
 #![tactic(auto)]
 
 mod fault;

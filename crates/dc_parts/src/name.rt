@@ -8,7 +8,8 @@ use crate::limits::NAME_LIMIT;
 use std::hash::{Hash, Hasher};
 use std::marker::Model;
 
-/// The name of a bus, stream, router, output or label: 1 to [`NAME_LIMIT`] of the characters A-Z, a-z, 0-9, `_` and `-`.
+/// The name of a bus, stream, router, output or label: 1 to [`NAME_LIMIT`] of the characters A-Z, a-z, 0-9, `_` and
+/// `-`.
 #[derive(Clone, Copy, Debug, PartialEq, Eq)]
 pub struct Name([u8; NAME_LIMIT]);
 

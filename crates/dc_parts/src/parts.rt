@@ -6,74 +6,108 @@ use dc_word::{Label, Sdi};
 use std::alloc::{AllocError, Global};
 use std::marker::Model;
 
-/// The version of a text of tables. The second says the jitter of each stream, and of each bus whether it refuses early
-/// words; the first has no such keys.
+/// The version of a text of tables, this project's own format. The second says the jitter of each stream, and of each
+/// bus whether it refuses early words; the first has no such keys.
 #[derive(Clone, Copy, Debug, PartialEq, Eq, Hash)]
 pub enum Version {
+    /// `version = 1`.
     One,
+    /// `version = 2`.
     Two,
 }
 
 /// The speed of a bus or an output.
 #[derive(Clone, Copy, Debug, PartialEq, Eq, Hash)]
 pub enum Speed {
+    /// `"high"`: spacings of 350 and 365 microseconds.
     High,
+    /// `"low"`: spacings of 2,450 and 3,050 microseconds.
     Low,
 }
 
-/// A receive bus; `police` where it refuses early words.
+/// A receive bus. A part bounds no number: the ranges here and below are those of the rules T06 and T08, which
+/// `dc_tables::Tables::build` tests.
 #[derive(Clone, Copy, Debug, PartialEq)]
 pub struct BusPart {
+    /// Its name.
     pub name: Name,
+    /// Its speed.
     pub speed: Speed,
+    /// The capacity of its receive queue in words, 1 to [`GREATEST_QUEUE`](crate::GREATEST_QUEUE).
     pub queue: u32,
+    /// Whether it refuses early words.
     pub police: bool,
 }
 
-/// A stream of the bus of number `bus`; with no SDI it declares any. Its words come up to `jitter_us` microseconds late
-/// of their rhythm.
+/// A stream of a bus: the words of one label, with one SDI or with any.
 #[derive(Clone, Copy, Debug, PartialEq)]
 pub struct StreamPart {
+    /// The number of its bus, from 0.
     pub bus: usize,
+    /// Its name.
     pub name: Name,
+    /// The label of its words and of its parameter.
     pub label: Label,
+    /// The equipment code of its parameter.
     pub equipment: Equipment,
+    /// The SDI of its words; `None` for any.
     pub sdi: Option<Sdi>,
+    /// How late of their rhythm its words may come, in microseconds, 0 to
+    /// [`GREATEST_JITTER_US`](crate::GREATEST_JITTER_US).
     pub jitter_us: u32,
 }
 
-/// A router and the names of the buses that it visits in turn.
+/// A router, which visits buses in turn, one a step.
 #[derive(Debug, Drop)]
 pub struct RouterPart {
+    /// Its name.
     pub name: Name,
+    /// Its fewest steps in each `within` whole ticks, 1 to [`MOST_STEPS`](crate::MOST_STEPS).
     pub steps: u32,
+    /// In so many ticks, 1 to [`LONGEST_WITHIN`](crate::LONGEST_WITHIN), it makes `steps` steps or more.
     pub within: u32,
+    /// Its most steps in one tick, 1 to [`MOST_STEPS`](crate::MOST_STEPS).
     pub most: u32,
+    /// The names of the buses that it visits in turn, 1 to [`MOST_VISITS`](crate::MOST_VISITS) of them.
     pub visits: Vec<Name>,
 }
 
-/// An output.
+/// An output, which sends words by its frame, one a step.
 #[derive(Clone, Copy, Debug, PartialEq)]
 pub struct OutputPart {
+    /// Its name.
     pub name: Name,
+    /// Its speed.
     pub speed: Speed,
+    /// Its fewest sends in each `within` whole ticks, 1 to [`MOST_STEPS`](crate::MOST_STEPS).
     pub steps: u32,
+    /// In so many ticks, 1 to [`LONGEST_WITHIN`](crate::LONGEST_WITHIN), it makes `steps` sends or more.
     pub within: u32,
+    /// After so many ticks, 1 to [`LONGEST_FRAME`](crate::LONGEST_FRAME), its entries are due again.
     pub frame: u32,
 }
 
-/// A label of the output of number `output`: the names of its sources in order of priority, how many ticks a source
-/// stays fresh, the limit on the age of its data, and the ticks of the frame in which it is due, in any order.
+/// A label of an output: what it sends under one label and SDI.
 #[derive(Debug, Drop)]
 pub struct LabelPart {
+    /// The number of its output, from 0.
     pub output: usize,
+    /// Its name.
     pub name: Name,
+    /// The label of its words and of its parameter.
     pub label: Label,
+    /// The equipment code of its parameter.
     pub equipment: Equipment,
+    /// The SDI of its words.
     pub sdi: Sdi,
+    /// The names of its streams in order of priority, 1 to [`MOST_SOURCES`](crate::MOST_SOURCES) of them.
     pub sources: Vec<Name>,
+    /// How many ticks after it was routed a word is fresh, 1 to [`LONGEST_STALE`](crate::LONGEST_STALE).
     pub stale: u32,
+    /// The limit on the age of its data in ticks, 1 to [`GREATEST_AGE`](crate::GREATEST_AGE).
     pub age: u32,
+    /// The ticks of the frame in which it is due, in any order: 1 to [`MOST_OFFSETS`](crate::MOST_OFFSETS) of them,
+    /// each 0 to [`LAST_OFFSET`](crate::LAST_OFFSET).
     pub offsets: Vec<u32>,
 }
 
@@ -144,7 +178,8 @@ impl Model for Parts {
 impl Parts {
     ghost use Rattle.dc_parts.specs.Document.{IsInOrder, with_parameter, with_bus, with_stream, with_router, with_output, with_label, empty_document};
 
-    /// Tables of this version with nothing in them but the length of a tick.
+    /// Tables of this version with nothing in them but the length of a tick in microseconds, which is not bounded yet:
+    /// the rule T06 asks for [`SHORTEST_TICK`](crate::SHORTEST_TICK) to [`LONGEST_TICK`](crate::LONGEST_TICK).
     pub fn new(alloc: Global, version: Version, tick_us: u32) -> Parts
         ensures { result ≡ empty_document version tick_us }
     {
@@ -160,7 +195,7 @@ impl Parts {
         }
     }
 
-    /// The streams follow one another bus by bus, and the labels output by output.
+    /// The streams follow one another bus by bus, and the labels output by output. The call does nothing.
     pub fn in_order(&self)
         ensures { IsInOrder self.now }
     {
@@ -175,7 +210,7 @@ impl Parts {
         *version
     }
 
-    /// The length of a tick in microseconds.
+    /// The length of a tick in microseconds, as it was handed in.
     pub fn tick_us(&self) -> u32
         ensures { result ≡ self.now.tick_us }
     {

@@ -1,10 +1,11 @@
-//! How close two words may follow one another on a line.
+//! How close two words may follow one another on a line. The spacings are this project's own numbers for its two
+//! speeds.
 ghost use Rattle.std.specs.Prelude.{◌≡◌, ◌≤◌};
 ghost use Rattle.dc_parts.specs.Ticks.{output_gap, input_spacing, output_spacing};
 
 use crate::parts::Speed;
 
-/// The least time between two words on a bus, in microseconds.
+/// The least time between two words on a bus, in microseconds: 350 at high speed, 2,450 at low.
 pub fn input_spacing(speed: Speed) -> u32
     ensures { result ≡ input_spacing speed }
 {
@@ -14,7 +15,7 @@ pub fn input_spacing(speed: Speed) -> u32
     }
 }
 
-/// The least time between two words of an output, in microseconds.
+/// The least time between two words of an output, in microseconds: 365 at high speed, 3,050 at low.
 pub fn output_spacing(speed: Speed) -> u32
     ensures { result ≡ output_spacing speed }
 {
@@ -24,7 +25,8 @@ pub fn output_spacing(speed: Speed) -> u32
     }
 }
 
-/// The least number of ticks between two sends of an output.
+/// The least number of ticks between two sends of an output: as many as its spacing begins, for a tick of `tick_us`
+/// microseconds, 1 or more.
 pub fn output_gap(tick_us: u32, speed: Speed) -> u32
     requires { 1 ≤ tick_us }
     ensures { result ≡ output_gap tick_us speed }

@@ -1,4 +1,4 @@
-//! The lines that the commands print, made without memory: of words, of verdicts, of texts that can't be read.
+//! The lines that the commands print: of words, of verdicts, of texts that can't be read.
 #![tactic(auto)]
 
 mod text;

@@ -1,4 +1,4 @@
-//! Text that takes no memory.
+//! Text in a room of [`TEXT_CAPACITY`] bytes.
 ghost use Rattle.std.specs.Prelude.{◌≡◌, ◌++◌, ◌+◌, ◌<◌, ◌≤◌, length, codes, decimal};
 ghost use Rattle.arrayvec.specs.ArrayVec.{array_vec_len};
 ghost use Rattle.dc_print.specs.Text.{five_decimal, five_hex, three_octal};

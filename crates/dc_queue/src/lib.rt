@@ -1,5 +1,4 @@
 //! The two rings of the concentrator: the receive queue of a bus, and the step counts of an actor's last ticks.
-//! Only making one takes memory.
 #![tactic(auto)]
 
 pub mod queue;

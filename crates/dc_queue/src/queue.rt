@@ -1,3 +1,4 @@
+//! The receive queue of a bus.
 ghost use Rattle.std.specs.Prelude.{◌≡◌, ℕ, ◌+◌, ◌<◌, ◌≤◌, [], ◌∷◌, ◌++◌, length, drop, slice_get, IfOk, IsOk, OnOk, OnErr, IsTrue, ◌↔◌};
 ghost use Rattle.dc_queue.specs.QueueData.{QueueData};
 ghost use Rattle.dc_queue.specs.declared.queue.TheConstants.{GREATEST_QUEUE};

@@ -1,3 +1,4 @@
+//! The step counts of an actor's last ticks.
 ghost use Rattle.std.specs.Prelude.{◌≡◌, ℕ, ◌+◌, ◌-◌, ◌<◌, ◌≤◌, IfOk};
 ghost use Rattle.dc_queue.specs.WindowData.{WindowData, empty_window, steps_of, added, turned, is_full_tick, lacks};
 ghost use Rattle.dc_queue.specs.declared.window.TheConstants.{GREATEST_ROOM, GREATEST_WIDTH};

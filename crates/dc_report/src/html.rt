@@ -99,7 +99,8 @@ fn push_page(
     text.push_str(FOOT)
 }
 
-/// The page on a certificate for tables, given the fault of its verdict, as HTML. No clause says what stands in it.
+/// The page on a certificate for tables, given the fault of its verdict, as HTML. No clause says what stands in it: it
+/// is tested.
 ///
 /// # Errors
 /// `AllocError` where an allocation failed.

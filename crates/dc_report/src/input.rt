@@ -8,10 +8,10 @@ use crate::amount::{Unit, ticks, words};
 use crate::escape::Escaped;
 use crate::facts::{InputFacts, input_facts};
 use crate::plot::{Marks, needed, push_plot};
-use crate::rules::{input_rows, push_rows};
+use crate::rules::push_lines;
 use dc_busy::LONGEST_WINDOW;
 use dc_cert::Certificate;
-use dc_margin::InputMargins;
+use dc_margin::{InputMargins, input_lines};
 use dc_tables::Tables;
 use std::alloc::AllocError;
 
@@ -86,6 +86,6 @@ pub fn push_input(
     text.push_str("<div class='two'><div>")?;
     push_curves(text, tables, &facts, bus)?;
     text.push_str("</div><div>")?;
-    push_rows(text, &input_rows(&facts.margins))?;
+    push_lines(text, &input_lines(bus, &facts.margins))?;
     text.push_str("</div></div></div>\n")
 }

@@ -8,21 +8,23 @@ use crate::amount::{Amount, Grouped, Unit, ticks};
 use crate::escape::Escaped;
 use crate::facts::{LabelFacts, label_facts, source_at, source_facts};
 use crate::frame::{push_age, push_interval, push_strip};
-use crate::rules::{Row, label_rows, remedy};
+use crate::rules::{MarginText, remedy};
 use dc_cert::Certificate;
+use dc_margin::{MarginLine, label_lines};
 use dc_tables::Tables;
 use std::alloc::AllocError;
 
-/// Adds the margin of a condition, and what to do where it fails.
-fn push_margin(text: &mut String, row: Row) -> Result<(), AllocError> {
-    let code = row.condition.code();
-    if !row.fails() {
-        return write!(text, "<br/>{code}: {row}");
+/// Adds the margin of a condition, and what to do where it is negative.
+fn push_margin(text: &mut String, line: MarginLine) -> Result<(), AllocError> {
+    let code = line.condition.code();
+    let margin = MarginText(line);
+    if !line.is_negative() {
+        return write!(text, "<br/>{code}: {margin}");
     }
-    let remedy = remedy(row.condition);
+    let remedy = remedy(line.condition);
     write!(
         text,
-        "<br/><b class='no'>&#10007; {code}: {row}</b><br/><span class='todo'>What to do: {remedy}</span>"
+        "<br/><b class='no'>&#10007; {code}: {margin}</b><br/><span class='todo'>What to do: {remedy}</span>"
     )
 }
 
@@ -43,8 +45,13 @@ fn push_due(text: &mut String, tables: &Tables, label: usize) -> Result<(), Allo
     write!(text, "{due} in {frame}</div>\n")
 }
 
-/// Adds the label's interval, with its margins.
-fn push_gaps(text: &mut String, facts: &LabelFacts, rows: &[Row; 5]) -> Result<(), AllocError> {
+/// Adds the label's interval, with the margins of C08 and C09.
+fn push_gaps(
+    text: &mut String,
+    facts: &LabelFacts,
+    soon: MarginLine,
+    late: MarginLine,
+) -> Result<(), AllocError> {
     text.push_str("<div>")?;
     push_interval(text, facts)?;
     let minimum = Grouped(u64::from(facts.minimum));
@@ -56,14 +63,18 @@ fn push_gaps(text: &mut String, facts: &LabelFacts, rows: &[Row; 5]) -> Result<(
         text,
         "wanted {minimum} to {maximum}; gaps {least} to {greatest}, &#177; {delay}"
     )?;
-    let [soon, late, _, _, _] = *rows;
     push_margin(text, soon)?;
     push_margin(text, late)?;
     text.push_str("</div>\n")
 }
 
-/// Adds the label's age, with its margins.
-fn push_ages(text: &mut String, facts: &LabelFacts, rows: &[Row; 5]) -> Result<(), AllocError> {
+/// Adds the label's age, with the margins of C10 and C11.
+fn push_ages(
+    text: &mut String,
+    facts: &LabelFacts,
+    age_line: MarginLine,
+    limit_line: MarginLine,
+) -> Result<(), AllocError> {
     text.push_str("<div>")?;
     push_age(text, facts)?;
     let stale = Grouped(u64::from(facts.stale));
@@ -74,9 +85,8 @@ fn push_ages(text: &mut String, facts: &LabelFacts, rows: &[Row; 5]) -> Result<(
         text,
         "stale {stale} + delay {delay}; age {age}, limit {limit}"
     )?;
-    let [_, _, age_row, limit_row, _] = *rows;
-    push_margin(text, age_row)?;
-    push_margin(text, limit_row)?;
+    push_margin(text, age_line)?;
+    push_margin(text, limit_line)?;
     text.push_str("</div>\n")
 }
 
@@ -112,6 +122,7 @@ fn push_sources(
     certificate: &Certificate,
     facts: &LabelFacts,
     label: usize,
+    fresh: MarginLine,
 ) -> Result<(), AllocError>
     requires sized { IsSized tables.now (certificate_rows certificate.now) }
     requires there { label < length tables.now.labels }
@@ -122,7 +133,6 @@ fn push_sources(
         let stream = source_at(tables, label, place);
         push_source(text, tables, certificate, facts.stale, stream)?;
     }
-    let [_, _, _, _, fresh] = label_rows(&facts.margins);
     push_margin(text, fresh)?;
     text.push_str("</div>\n")
 }
@@ -138,12 +148,12 @@ pub fn push_label(
     requires there { label < length tables.now.labels }
 {
     let facts = label_facts(tables, certificate, label);
-    let rows = label_rows(&facts.margins);
+    let [soon, late, age, age_limit, fresh] = label_lines(label, &facts.margins);
     let name = Escaped(facts.name.text());
     write!(text, "<div class='l'><h4>Label {name}</h4><div class='g'>")?;
     push_due(text, tables, label)?;
-    push_gaps(text, &facts, &rows)?;
-    push_ages(text, &facts, &rows)?;
-    push_sources(text, tables, certificate, &facts, label)?;
+    push_gaps(text, &facts, soon, late)?;
+    push_ages(text, &facts, age, age_limit)?;
+    push_sources(text, tables, certificate, &facts, label, fresh)?;
     text.push_str("</div></div>\n")
 }

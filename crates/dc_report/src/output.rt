@@ -11,9 +11,9 @@ use crate::frame::push_strip;
 use crate::input::{is_plotted, push_no_plot};
 use crate::labels::push_label;
 use crate::plot::{Marks, needed, push_plot};
-use crate::rules::{output_rows, push_rows};
+use crate::rules::push_lines;
 use dc_cert::Certificate;
-use dc_margin::OutputMargins;
+use dc_margin::{OutputMargins, output_lines};
 use dc_tables::Tables;
 use std::alloc::AllocError;
 
@@ -104,7 +104,7 @@ pub fn push_output(
     text.push_str("<div class='two'><div>")?;
     push_curves(text, tables, &facts, output)?;
     text.push_str("</div><div>")?;
-    push_rows(text, &output_rows(&facts.margins))?;
+    push_lines(text, &output_lines(output, &facts.margins))?;
     text.push_str("</div></div>\n")?;
     push_frame(text, tables, output)?;
     push_labels(text, tables, certificate, output)?;

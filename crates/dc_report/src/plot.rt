@@ -8,9 +8,10 @@ use dc_bound::{ArrivalBound, ServiceBound};
 use dc_margin::{Decider, Margin};
 use std::alloc::AllocError;
 
-/// The most ticks that a plot shows, and the most points of a curve.
+/// The most ticks that a plot shows.
 const LONGEST_SPAN: u64 = 300_000;
 
+/// The ticks of a plot, divided by this, are the stride of its curves: they have fewer than twice as many points.
 const MOST_POINTS: u64 = 120;
 
 /// A height or a width, and the number of ticks at which it is.
@@ -301,7 +302,7 @@ fn push_stride(text: &mut String, plane: Plane) -> Result<(), AllocError> {
     write!(text, "<br/>The curves are drawn from one tick in {stride}.")
 }
 
-/// Adds a plot with its legend. The window is 1 to 100,000 ticks.
+/// Adds a plot with its legend.
 pub fn push_plot<A: ArrivalBound, S: ServiceBound>(
     text: &mut String,
     arrivals: &A,

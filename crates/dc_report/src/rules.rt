@@ -1,28 +1,10 @@
-//! The conditions of a certificate with their margins, as rows that the page shows.
+//! The conditions of a certificate with their margins, as the page shows them.
 
 use crate::amount::{Amount, Unit};
-use crate::escape::Escaped;
-use dc_check::Condition;
-use dc_margin::{Decider, InputMargins, LabelMargins, Margin, OutputMargins};
-use dc_tables::Tables;
+use dc_check::{CertificateList, Condition};
+use dc_margin::{Decider, Margin, MarginLine, Measure};
 use std::alloc::AllocError;
 use std::fmt;
-
-/// A condition with its margin. `None` is a margin that is not told, since it rests on a number that is out of range.
-#[derive(Clone, Copy, Debug)]
-pub struct Row {
-    pub condition: Condition,
-    pub unit: Unit,
-    pub margin: Option<Margin>,
-}
-
-fn row_of(condition: Condition, unit: Unit, margin: Option<Margin>) -> Row {
-    Row {
-        condition,
-        unit,
-        margin,
-    }
-}
 
 /// What the condition asks, in words.
 pub fn asks(condition: Condition) -> &'static str {
@@ -64,33 +46,23 @@ pub fn remedy(condition: Condition) -> &'static str {
     }
 }
 
-impl Row {
-    /// Whether the condition fails.
-    pub fn fails(self) -> bool {
-        match self.margin {
-            None => false,
-            Some(margin) => match margin.slack {
-                None => true,
-                Some(slack) => slack < 0,
-            },
-        }
-    }
-
-    /// The margin as a number that is the least where no delay is enough; `None` where it is not told.
-    pub fn weight(self) -> Option<i64> {
-        match self.margin {
-            None => None,
-            Some(margin) => match margin.slack {
-                None => Some(i64::MIN),
-                Some(slack) => Some(slack),
-            },
-        }
+/// What the margin of a line counts. Words of an output are its entries.
+fn unit_of(line: MarginLine) -> Unit {
+    match (line.measure(), line.part) {
+        (Measure::Ticks, _) => Unit::Ticks,
+        (Measure::Words, CertificateList::Outputs) => Unit::Entries,
+        (Measure::Words, _) => Unit::Words,
     }
 }
 
-impl fmt::Display for Row {
+/// The margin of a line, in words.
+#[derive(Clone, Copy)]
+pub struct MarginText(pub MarginLine);
+
+impl fmt::Display for MarginText {
     fn fmt<W: fmt::Write>(&self, f: &mut fmt::Formatter<W>) -> fmt::Result {
-        let Some(margin) = self.margin else {
+        let line = self.0;
+        let Some(margin) = line.margin else {
             return write!(f, "not told");
         };
         let Some(slack) = margin.slack else {
@@ -98,9 +70,9 @@ impl fmt::Display for Row {
         };
         let amount = Amount {
             count: slack.unsigned_abs(),
-            unit: self.unit,
+            unit: unit_of(line),
         };
-        if slack < 0 {
+        if line.is_negative() {
             write!(f, "{amount} short")
         } else {
             write!(f, "{amount} to spare")
@@ -108,42 +80,9 @@ impl fmt::Display for Row {
     }
 }
 
-/// The rows of an input, in the order of the verdict.
-pub fn input_rows(margins: &InputMargins) -> [Row; 6] {
-    [
-        row_of(Condition::WindowOutOfRange, Unit::Ticks, margins.window),
-        row_of(Condition::DelayOutOfRange, Unit::Ticks, margins.delay_limit),
-        row_of(Condition::WindowDoesNotClose, Unit::Words, margins.closes),
-        row_of(Condition::BacklogTooSmall, Unit::Words, margins.backlog),
-        row_of(Condition::QueueTooShort, Unit::Words, margins.queue),
-        row_of(Condition::DelayTooSmall, Unit::Ticks, margins.delay),
-    ]
-}
-
-/// The rows of an output, in the order of the verdict.
-pub fn output_rows(margins: &OutputMargins) -> [Row; 4] {
-    [
-        row_of(Condition::WindowOutOfRange, Unit::Ticks, margins.window),
-        row_of(Condition::DelayOutOfRange, Unit::Ticks, margins.delay_limit),
-        row_of(Condition::WindowDoesNotClose, Unit::Entries, margins.closes),
-        row_of(Condition::DelayTooSmall, Unit::Ticks, margins.delay),
-    ]
-}
-
-/// The rows of a label, in the order of the verdict.
-pub fn label_rows(margins: &LabelMargins) -> [Row; 5] {
-    [
-        row_of(Condition::SentTooSoon, Unit::Ticks, margins.soon),
-        row_of(Condition::SentTooLate, Unit::Ticks, margins.late),
-        row_of(Condition::AgeTooSmall, Unit::Ticks, margins.age),
-        row_of(Condition::AgeOverLimit, Unit::Ticks, margins.age_limit),
-        row_of(Condition::SourceGoesStale, Unit::Ticks, margins.fresh),
-    ]
-}
-
-/// The attribute and the mark of a row that fails.
-pub fn marks(fails: bool) -> (&'static str, &'static str) {
-    if fails {
+/// The attribute and the mark of a row whose margin is negative; nothing of another row.
+pub fn marks(is_negative: bool) -> (&'static str, &'static str) {
+    if is_negative {
         (" class='no'", "&#10007; ")
     } else {
         ("", "")
@@ -161,19 +100,20 @@ fn push_decider(text: &mut String, margin: Option<Margin>) -> Result<(), AllocEr
     }
 }
 
-/// Adds a row of a table of margins, and what to do where it fails.
-fn push_row(text: &mut String, row: Row) -> Result<(), AllocError> {
-    let (attribute, mark) = marks(row.fails());
-    let code = row.condition.code();
-    let question = asks(row.condition);
+/// Adds a line to a table of margins, and what to do where it is negative.
+fn push_line(text: &mut String, line: MarginLine) -> Result<(), AllocError> {
+    let (attribute, mark) = marks(line.is_negative());
+    let code = line.condition.code();
+    let question = asks(line.condition);
+    let margin = MarginText(line);
     write!(
         text,
         "<tr{attribute}><td class='n'>{mark}{code}</td><td>{question}"
     )?;
-    push_decider(text, row.margin)?;
-    write!(text, "</td><td class='n'>{row}</td></tr>\n")?;
-    if row.fails() {
-        let remedy = remedy(row.condition);
+    push_decider(text, line.margin)?;
+    write!(text, "</td><td class='n'>{margin}</td></tr>\n")?;
+    if line.is_negative() {
+        let remedy = remedy(line.condition);
         write!(
             text,
             "<tr><td></td><td colspan='2' class='todo'>What to do: {remedy}</td></tr>\n"
@@ -183,10 +123,10 @@ fn push_row(text: &mut String, row: Row) -> Result<(), AllocError> {
 }
 
 /// Adds a table of margins.
-pub fn push_rows(text: &mut String, rows: &[Row]) -> Result<(), AllocError> {
+pub fn push_lines(text: &mut String, lines: &[MarginLine]) -> Result<(), AllocError> {
     text.push_str("<table><tr><th>Rule</th><th>What it asks</th><th>Margin</th></tr>\n")?;
-    for row in rows {
-        push_row(text, *row)?;
+    for line in lines {
+        push_line(text, *line)?;
     }
     text.push_str("</table>\n")
 }

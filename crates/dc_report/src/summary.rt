@@ -5,26 +5,27 @@ ghost use Rattle.dc_cert.specs.Bounds.{certificate_rows};
 ghost use Rattle.dc_check.specs.Verdict.{IsSized};
 
 use crate::escape::Escaped;
-use crate::rules::{Row, asks, input_rows, label_rows, marks, output_rows};
+use crate::rules::{MarginText, asks, marks};
 use dc_cert::Certificate;
 use dc_check::{CertificateList, Condition};
-use dc_margin::{InputMargins, OutputMargins, label_margins};
+use dc_margin::{
+    InputMargins, MarginLine, OutputMargins, input_lines, label_lines, label_margins, output_lines,
+};
 use dc_parts::Name;
 use dc_tables::Tables;
 use std::alloc::AllocError;
 
-/// The least margin of a condition, and whose it is: of those that are as small the first.
+/// The line of the least margin of a condition, and the name of what it is of: of those that are as small the first.
 #[derive(Clone, Copy)]
 struct Least {
-    row: Row,
-    part: CertificateList,
+    line: MarginLine,
     name: Name,
 }
 
 /// Of each condition, in the order of their codes, the least margin that is told.
 #[derive(Clone, Copy)]
 struct Leasts {
-    rows: [Option<Least>; 12],
+    lines: [Option<Least>; 12],
 }
 
 /// The place of a condition among the twelve.
@@ -47,30 +48,37 @@ fn place_of(condition: Condition) -> usize
     }
 }
 
-/// Whether a row is nearer to failing than the least one so far.
-fn is_nearer(row: Row, least: Option<Least>) -> bool {
-    let Some(weight) = row.weight() else {
-        return false;
-    };
-    match least {
-        None => true,
-        Some(least) => match least.row.weight() {
-            None => true,
-            Some(other) => weight < other,
+/// The margin of a line as a number that is the least where no delay is enough; `None` where it is not told.
+fn weight(line: MarginLine) -> Option<i64> {
+    match line.margin {
+        None => None,
+        Some(margin) => match margin.slack {
+            None => Some(i64::MIN),
+            Some(slack) => Some(slack),
         },
     }
 }
 
-/// Takes in the rows of a part.
-fn note(leasts: &mut Leasts, rows: &[Row], part: CertificateList, name: Name) {
-    for row in rows {
-        let place = place_of(row.condition);
-        if is_nearer(*row, leasts.rows[place]) {
-            leasts.rows[place] = Some(Least {
-                row: *row,
-                part,
-                name,
-            });
+/// Whether a line is nearer to failing than the least one so far.
+fn is_nearer(line: MarginLine, least: Option<Least>) -> bool {
+    let Some(own) = weight(line) else {
+        return false;
+    };
+    match least {
+        None => true,
+        Some(least) => match weight(least.line) {
+            None => true,
+            Some(other) => own < other,
+        },
+    }
+}
+
+/// Takes in the lines of an input, an output or a label of this name.
+fn note(leasts: &mut Leasts, lines: &[MarginLine], name: Name) {
+    for line in lines {
+        let place = place_of(line.condition);
+        if is_nearer(*line, leasts.lines[place]) {
+            leasts.lines[place] = Some(Least { line: *line, name });
         }
     }
 }
@@ -86,33 +94,18 @@ fn leasts_of(
     requires inputs { length inputs.now ≡ length tables.now.buses }
     requires outputs { length outputs.now ≡ length tables.now.outputs }
 {
-    let mut leasts = Leasts { rows: [None; 12] };
+    let mut leasts = Leasts { lines: [None; 12] };
     for bus in 0..tables.bus_count() {
-        let rows = input_rows(&inputs[bus]);
-        note(
-            &mut leasts,
-            &rows,
-            CertificateList::Inputs,
-            *tables.bus_name(bus),
-        );
+        let lines = input_lines(bus, &inputs[bus]);
+        note(&mut leasts, &lines, *tables.bus_name(bus));
     }
     for output in 0..tables.output_count() {
-        let rows = output_rows(&outputs[output]);
-        note(
-            &mut leasts,
-            &rows,
-            CertificateList::Outputs,
-            *tables.output_name(output),
-        );
+        let lines = output_lines(output, &outputs[output]);
+        note(&mut leasts, &lines, *tables.output_name(output));
     }
     for label in 0..tables.label_count() {
-        let rows = label_rows(&label_margins(tables, certificate, label));
-        note(
-            &mut leasts,
-            &rows,
-            CertificateList::Labels,
-            *tables.label_name(label),
-        );
+        let lines = label_lines(label, &label_margins(tables, certificate, label));
+        note(&mut leasts, &lines, *tables.label_name(label));
     }
     leasts
 }
@@ -128,15 +121,16 @@ pub fn member(part: CertificateList) -> &'static str {
 
 /// Adds a line of the summary.
 fn push_least(text: &mut String, least: &Least) -> Result<(), AllocError> {
-    let row = least.row;
-    let (attribute, mark) = marks(row.fails());
-    let code = row.condition.code();
-    let question = asks(row.condition);
-    let member = member(least.part);
+    let line = least.line;
+    let (attribute, mark) = marks(line.is_negative());
+    let code = line.condition.code();
+    let question = asks(line.condition);
+    let margin = MarginText(line);
+    let member = member(line.part);
     let name = Escaped(least.name.text());
     write!(
         text,
-        "<tr{attribute}><td class='n'>{mark}{code}</td><td>{question}</td><td class='n'>{row}</td><td>{member} {name}</td></tr>\n"
+        "<tr{attribute}><td class='n'>{mark}{code}</td><td>{question}</td><td class='n'>{margin}</td><td>{member} {name}</td></tr>\n"
     )
 }
 
@@ -158,7 +152,7 @@ pub fn push_summary(
         "<h2>How near it came</h2>\n<p class='s'>Of each rule the least margin: how far it is from failing, all else left as it is. At 0 it is kept, and nothing is left. One tick is {tick} microseconds.</p>\n<table><tr><th>Rule</th><th>What it asks</th><th>Margin</th><th>Where</th></tr>\n"
     )?;
     let leasts = leasts_of(tables, certificate, inputs, outputs);
-    for least in &leasts.rows {
+    for least in &leasts.lines {
         if let Some(least) = least {
             push_least(text, least)?;
         }

@@ -47,10 +47,6 @@ first-push : (ws : List ℕ) (w : ℕ) → first_word ws ≡ None → first_word
 first-push [] w h = refl
 first-push (v ∷ ws) w h = absurd cc
 
-pub first-keeps : (ws : List ℕ) (w v : ℕ) → first_word ws ≡ Some v → first_word (ws ++ w ∷ []) ≡ Some v
-first-keeps [] w v h = absurd cc
-first-keeps (u ∷ ws) w v h = h
-
 none_from : (o : Option ℕ) → is_some o ≡ false → o ≡ None
 none_from None h = refl
 none_from (Some i) h = absurd cc
@@ -58,9 +54,6 @@ none_from (Some i) h = absurd cc
 kept : (ws : List ℕ) (w : ℕ) → is_some (first_word ws) ≡ true → first_word (ws ++ w ∷ []) ≡ first_word ws
 kept [] w h = absurd cc
 kept (u ∷ ws) w h = refl
-
-first-append : (w : ℕ) (xs ys : List ℕ) → first_word ((w ∷ xs) ++ ys) ≡ Some w
-first-append w xs ys = refl
 
 -- the first usable word is chosen
 pub chosen-early : (t : TableRows) (latched : List Bool) (lasts : List (Option (ℕ × ℕ))) (now x i w : ℕ) → i < length (label_row t x).sources

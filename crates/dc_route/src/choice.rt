@@ -5,7 +5,8 @@ use crate::latest::Latest;
 use dc_tables::Tables;
 use dc_word::Word;
 
-/// A source's latest word, where it is fresh: its bus has not latched, and the word was routed at most `stale` ticks ago.
+/// A source's latest word, where it is fresh: its bus has not latched, and the word was routed at most `stale` ticks
+/// ago.
 fn fresh_word(
     tables: &Tables,
     latest: &Latest,
@@ -28,8 +29,8 @@ fn fresh_word(
     }
 }
 
-/// The word that the label sends in this tick: a copy of the first fresh source by priority whose word is usable, else of
-/// the first fresh one, else the label's fallback. `latched` says of each bus whether it has latched.
+/// The word that the label sends in this tick: a copy of the first fresh source by priority whose word is usable, else
+/// of the first fresh one, else the label's fallback. `latched` says of each bus whether it has latched.
 pub fn choose(tables: &Tables, latest: &Latest, latched: &[bool], label: usize, tick: u64) -> Word
     requires there { label < length tables.now.labels }
     requires latest { length latest.now ≡ length tables.now.streams }

@@ -33,8 +33,8 @@ impl Router {
         Router { number, cursor: 0 }
     }
 
-    /// Visits the next bus of the list: takes the oldest word of its queue, if there is one, as the latest of its stream,
-    /// routed in this tick. Answers the bus and that word. An empty queue spends the step.
+    /// Visits the next bus of the list: takes the oldest word of its queue, if there is one, as the latest of its
+    /// stream, routed in this tick. Answers the bus and that word. An empty queue spends the step.
     pub fn visit(
         &mut self,
         tables: &Tables,

@@ -81,16 +81,6 @@ are_counts owners n all h = alike all (counts owners n) (h.there ∙ sym (counts
 pub counts_small : (owners : List ℕ) (n : ℕ) (all : List ℕ) (o : ℕ) → o < n → AreCounts owners n all → get_or all o 0 ≤ length owners
 counts_small owners n all o l h = omega (arith, h.each o l, count_by-le-length (λ w. w == o) owners)
 
--- a member of no owner that is there
-pub counts_past : (owners : List ℕ) (n : ℕ) (all : List ℕ) (i : ℕ) → i < length owners → n ≤ get_or owners i 0 → AreCounts (take i owners) n all
-    → AreCounts (take (i + 1) owners) n all
-counts_past owners n all i l h past =
-    let x : ℕ = get_or owners i 0 in
-    record {
-      there = past.there;
-      each = λ o k. omega (arith, past.each o k, ap (λ w. at o w) (more owners i l), at_more o (take i owners) x, one_not x o (λ q. omega (arith, q, h, k)));
-    }
-
 -- all members are counted
 pub all_counted : (owners : List ℕ) (n i : ℕ) (all : List ℕ) → length owners ≤ i → AreCounts (take i owners) n all → all ≡ counts owners n
 all_counted owners n i all past h =

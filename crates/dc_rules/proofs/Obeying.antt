@@ -67,6 +67,7 @@ top_obeys d h =
     let f = both (reported CountOutOfRange Top (at_top (nat_lt 64 (length d.routers)))) (top_4 d) e.1 in
     record {
       tick = not_top (outside 100 10000 d.tick_us) (none NumberOutOfRange Top (at_top (outside 100 10000 d.tick_us)) a.0);
+      parameters = not_top (nat_lt 2048 (length d.parameters)) (none CountOutOfRange Top (at_top (nat_lt 2048 (length d.parameters))) b.0);
       buses = not_top (nat_lt 64 (length d.buses)) (none CountOutOfRange Top (at_top (nat_lt 64 (length d.buses))) e.0);
       routers = not_top (nat_lt 64 (length d.routers)) (none CountOutOfRange Top (at_top (nat_lt 64 (length d.routers))) f.0);
       outputs = not_top (nat_lt 32 (length d.outputs)) (none CountOutOfRange Top (at_top (nat_lt 32 (length d.outputs))) f.1);
@@ -104,6 +105,7 @@ shape_obeys d h =
       top = top_obeys d a.0;
       parameters = none NumberOutOfRange Parameter (position parameter_out d.parameters) b.0;
       buses = no_breach NumberOutOfRange Bus (first_bus_out d.buses) bus.0;
+      streams_of = no_breach CountOutOfRange Bus (first_count_out (counts (stream_owners d) (length d.buses))) bus.1;
       streams = no_breach NumberOutOfRange Stream (first_stream_out d.streams) (unplaced (stream_owners d) (stream_shapes d.streams) first.1);
       routers = no_breach NumberOutOfRange Router (first_router_out d.routers) router.0;
       visits = no_breach CountOutOfRange Router (first_visits_out d.routers) router.1;

@@ -1,13 +1,14 @@
 -- What it says that a document keeps each rule.
 use Rattle.std.specs.Prelude.{◌≡◌, ℕ, false, nat_lt, None, option_map, length, map, position, slice_get}
-use Rattle.dc_parts.specs.Document.{Document, label_owners}
+use Rattle.dc_parts.specs.Document.{Document, stream_owners, label_owners}
 use Rattle.dc_rules.specs.Rules.{outside, counts, doubled, parameter_out, first_bus_out, first_count_out, first_stream_out, first_router_out, first_visits_out, first_output_out, first_label_out, first_sources_out, first_offsets_out, entries_from, entry_owners, first_overfull, first_inverted, first_quick, first_narrow, doubled_name, bus_names, stream_names, router_names, output_names, label_names, first_unknown_stream, first_unknown_label, overlap, first_lost_router, first_lost_label, first_unserved, first_doubled_source, first_different, first_late, first_doubled_offset, first_doubled_label, first_unable_router, first_unable_output}
 use Rattle.dc_parts.specs.Keys.{same_parameter, parameter_key}
-use Rattle.dc_parts.specs.declared.limits.TheConstants.{LONGEST_TICK, MOST_BUSES, MOST_LABELS, MOST_OUTPUTS, MOST_ROUTERS, MOST_STREAMS, SHORTEST_TICK}
+use Rattle.dc_parts.specs.declared.limits.TheConstants.{LONGEST_TICK, MOST_BUSES, MOST_LABELS, MOST_OUTPUTS, MOST_PARAMETERS, MOST_ROUTERS, MOST_STREAMS, SHORTEST_TICK}
 
 -- the top's number and the lengths of its lists
 pub record TopObeys (d : Document) : Type 0 where
   pub tick : outside SHORTEST_TICK LONGEST_TICK d.tick_us ≡ false
+  pub parameters : nat_lt MOST_PARAMETERS (length d.parameters) ≡ false
   pub buses : nat_lt MOST_BUSES (length d.buses) ≡ false
   pub routers : nat_lt MOST_ROUTERS (length d.routers) ≡ false
   pub outputs : nat_lt MOST_OUTPUTS (length d.outputs) ≡ false
@@ -17,6 +18,7 @@ pub record ShapeObeys (d : Document) : Type 0 where
   pub top : TopObeys d
   pub parameters : position parameter_out d.parameters ≡ None
   pub buses : first_bus_out d.buses ≡ None
+  pub streams_of : first_count_out (counts (stream_owners d) (length d.buses)) ≡ None
   pub streams : first_stream_out d.streams ≡ None
   pub routers : first_router_out d.routers ≡ None
   pub visits : first_visits_out d.routers ≡ None

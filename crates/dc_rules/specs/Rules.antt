@@ -62,12 +62,14 @@ abbrev pub at_owner : List ℕ → Option Breach → Option Breach
 at_owner owners None = None
 at_owner owners (Some b) = Some (record { place = slice_index owners b.place; fault = b.fault })
 
+-- the verdict of a breach, if there is one
 abbrev pub breach_reported : Option Breach → Verdict
 breach_reported None = Ok tt
 breach_reported (Some b) = Err (Refused b.fault)
 
 -- ---- words of the rules
 
+-- whether a number is below the least or above the greatest that it may be
 abbrev pub outside : (low high n : ℕ) → Bool
 outside low high n = nat_lt n low || nat_lt high n
 
@@ -86,23 +88,29 @@ abbrev pub doubled_from : {A : Type 0} → (A → A → Bool) → List A → ℕ
 doubled_from R past i [] = None
 doubled_from R past i (x ∷ xs) = if list_any (R x) past then Some i else doubled_from R (past ++ x ∷ []) (suc i) xs
 
+-- the same, from the start of a list
 abbrev pub doubled : {A : Type 0} → (A → A → Bool) → List A → Option ℕ
 doubled R xs = doubled_from R [] 0 xs
 
 -- ---- shapes: numbers in their ranges, lists in their limits
 
+-- whether an interval of the parameter, in microseconds, is out of its range
 abbrev pub parameter_out : ParameterPart → Bool
 parameter_out p = outside 1 LONGEST_INTERVAL_US p.min_us || outside 1 LONGEST_INTERVAL_US p.max_us
 
+-- whether the router's steps, the ticks for them, or its most steps in one tick are out of range
 abbrev pub router_out : RouterPart → Bool
 router_out r = outside 1 MOST_STEPS r.steps || outside 1 LONGEST_WITHIN r.within || outside 1 MOST_STEPS r.most
 
+-- whether the output's sends, the ticks for them, or its frame in ticks are out of range
 abbrev pub output_out : OutputPart → Bool
 output_out o = outside 1 MOST_STEPS o.steps || outside 1 LONGEST_WITHIN o.within || outside 1 LONGEST_FRAME o.frame
 
+-- whether an offset, in ticks, is past the last that there may be
 abbrev pub offsets_out : List ℕ → Bool
 offsets_out offsets = list_any (λ t. nat_lt LAST_OFFSET t) offsets
 
+-- whether the label's stale time, its age limit or an offset, all in ticks, is out of range
 abbrev pub label_out : LabelPart → Bool
 label_out x = (outside 1 LONGEST_STALE x.stale || outside 1 GREATEST_AGE x.age) || offsets_out x.offsets.items
 
@@ -153,6 +161,7 @@ abbrev pub label_shapes : List LabelPart → Option Breach
 label_shapes labels =
     earlier (earlier (breach CountOutOfRange Label (first_sources_out labels)) (breach NumberOutOfRange Label (first_label_out labels))) (breach CountOutOfRange Label (first_offsets_out labels))
 
+-- the top: the length of a tick in its range, and the four lists in their limits
 abbrev pub top_shape : Document → Verdict
 top_shape d =
     then_reported (reported NumberOutOfRange Top (at_top (outside SHORTEST_TICK LONGEST_TICK d.tick_us)))
@@ -181,6 +190,7 @@ abbrev pub entries_from : ℕ → List LabelPart → List PlacedEntry
 entries_from i [] = []
 entries_from i (x ∷ xs) = label_entries i x ++ entries_from (suc i) xs
 
+-- the output of each entry, in the order of the text
 abbrev pub entry_owners : List LabelPart → List ℕ
 entry_owners labels = map (λ e. e.output) (entries_from 0 labels)
 
@@ -201,6 +211,7 @@ totals d =
 abbrev pub parameter_of : List ParameterPart → ParameterKey → Option ParameterPart
 parameter_of parameters key = row_of parameters key.label key.equipment
 
+-- the first parameter whose greatest interval is below its least, in microseconds
 abbrev pub first_inverted : List ParameterPart → Option ℕ
 first_inverted parameters = position (λ p. nat_lt p.max_us p.min_us) parameters
 
@@ -214,20 +225,25 @@ abbrev pub no_interval : ℕ → Option ParameterPart → Bool
 no_interval tick None = false
 no_interval tick (Some p) = nat_lt (out_maximum p.max_us tick) (out_minimum p.min_us tick)
 
+-- the first stream whose parameter has an input minimum below one tick
 abbrev pub first_quick : ℕ → List ParameterPart → List StreamPart → Option ℕ
 first_quick tick parameters streams = position (λ s. too_quick tick (parameter_of parameters (stream_key s))) streams
 
+-- the first label whose parameter leaves no output interval
 abbrev pub first_narrow : ℕ → List ParameterPart → List LabelPart → Option ℕ
 first_narrow tick parameters labels = position (λ x. no_interval tick (parameter_of parameters (label_key x))) labels
 
+-- the first stream whose parameter is not there
 abbrev pub first_unknown_stream : List ParameterPart → List StreamPart → Option ℕ
 first_unknown_stream parameters streams = position (λ s. is_none (parameter_of parameters (stream_key s))) streams
 
+-- the first label whose parameter is not there
 abbrev pub first_unknown_label : List ParameterPart → List LabelPart → Option ℕ
 first_unknown_label parameters labels = position (λ x. is_none (parameter_of parameters (label_key x))) labels
 
 -- ---- names
 
+-- the names of the buses in order; likewise those of the streams, routers, outputs and labels
 abbrev pub bus_names : Document → List (List ℕ)
 bus_names d = map (λ b. b.name) d.buses
 
@@ -243,6 +259,7 @@ output_names d = map (λ o. o.name) d.outputs
 abbrev pub label_names : Document → List (List ℕ)
 label_names d = map (λ x. x.name) d.labels
 
+-- the first name that is the same as one before it
 abbrev pub doubled_name : List (List ℕ) → Option ℕ
 doubled_name names = doubled bytes_eq names
 
@@ -250,9 +267,11 @@ doubled_name names = doubled bytes_eq names
 abbrev pub has_unknown : List (List ℕ) → List (List ℕ) → Bool
 has_unknown names wanted = list_any (λ n. is_none (number_of names n)) wanted
 
+-- the first router that visits a name that is not there
 abbrev pub first_lost_router : List (List ℕ) → List RouterPart → Option ℕ
 first_lost_router names routers = position (λ r. has_unknown names r.visits.items) routers
 
+-- the first label with a source whose name is not there
 abbrev pub first_lost_label : List (List ℕ) → List LabelPart → Option ℕ
 first_lost_label names labels = position (λ x. has_unknown names x.sources.items) labels
 
@@ -264,6 +283,7 @@ sdis_meet None b = true
 sdis_meet (Some a) None = true
 sdis_meet (Some a) (Some b) = a == b
 
+-- two streams of one bus and one label, which one word may fit
 abbrev pub overlap : StreamPart → StreamPart → Bool
 overlap s t = ((s.bus == t.bus) && (s.label == t.label)) && sdis_meet s.sdi t.sdi
 
@@ -275,14 +295,17 @@ visits_bus name r = list_any (bytes_eq name) r.visits.items
 abbrev pub first_unserved : List RouterPart → List BusPart → Option ℕ
 first_unserved routers buses = position (λ b. not (count_by (visits_bus b.name) routers == 1)) buses
 
+-- the first label that names a source twice
 abbrev pub first_doubled_source : List LabelPart → Option ℕ
 first_doubled_source labels = position (λ x. is_some (doubled_name x.sources.items)) labels
 
+-- a number for each format
 abbrev pub format_number : Format → ℕ
 format_number Bnr = 0
 format_number Bcd = 1
 format_number Disc = 2
 
+-- two parameters that are there and have one format
 abbrev pub same_format : Option ParameterPart → Option ParameterPart → Bool
 same_format None q = false
 same_format (Some p) None = false
@@ -298,18 +321,23 @@ abbrev pub differs : List ParameterPart → List StreamPart → List (List ℕ) 
 differs parameters streams names x =
     list_any (λ n. not (same_format (parameter_of parameters (label_key x)) (source_parameter parameters streams names n))) x.sources.items
 
+-- the first label with a source of another format
 abbrev pub first_different : List ParameterPart → List StreamPart → List (List ℕ) → List LabelPart → Option ℕ
 first_different parameters streams names labels = position (λ x. differs parameters streams names x) labels
 
+-- the frame of the output of this number, in ticks; 0 where there is none
 abbrev pub frame_of : List OutputPart → ℕ → ℕ
 frame_of outputs o = option_map_or (λ p. p.frame) (slice_get outputs o) 0
 
+-- the first label with an offset that is not below its output's frame
 abbrev pub first_late : List OutputPart → List LabelPart → Option ℕ
 first_late outputs labels = position (λ x. list_any (nat_le (frame_of outputs x.output)) x.offsets.items) labels
 
+-- two entries of one output at one offset
 abbrev pub same_offset : PlacedOffset → PlacedOffset → Bool
 same_offset a b = (a.output == b.output) && (a.offset == b.offset)
 
+-- an entry by its output and offset alone
 abbrev pub offset_of : PlacedEntry → PlacedOffset
 offset_of e = record { output = e.output; offset = e.offset }
 
@@ -317,18 +345,23 @@ offset_of e = record { output = e.output; offset = e.offset }
 abbrev pub first_doubled_offset : List PlacedEntry → Option ℕ
 first_doubled_offset entries = option_map (λ e. e.label) (option_and_then (slice_get entries) (doubled same_offset (map offset_of entries)))
 
+-- two labels of one output with one label and SDI
 abbrev pub same_label : LabelKey → LabelKey → Bool
 same_label a b = (a.output == b.output) && ((a.label == b.label) && (a.sdi == b.sdi))
 
+-- a label by its output, label and SDI alone
 abbrev pub label_id : LabelPart → LabelKey
 label_id x = record { output = x.output; label = x.label; sdi = x.sdi }
 
+-- the first label with the output, label and SDI of one before it
 abbrev pub first_doubled_label : List LabelPart → Option ℕ
 first_doubled_label labels = doubled same_label (map label_id labels)
 
+-- the first router with more steps to make in its ticks than it may make in them
 abbrev pub first_unable_router : List RouterPart → Option ℕ
 first_unable_router routers = position (λ r. nat_lt (r.most * r.within) r.steps) routers
 
+-- the first output with more sends to make in its ticks than have room in them, their gap apart
 abbrev pub first_unable_output : ℕ → List OutputPart → Option ℕ
 first_unable_output tick outputs = position (λ o. nat_lt o.within (o.steps * output_gap tick o.speed)) outputs
 
@@ -341,10 +374,12 @@ later_quantities d =
     (then_reported (reported MinimumBelowOneTick Stream (first_quick d.tick_us d.parameters d.streams))
     (reported NoOutputInterval Label (first_narrow d.tick_us d.parameters d.labels)))
 
+-- T09 to T12: the parameters, and what they leave of intervals in ticks
 abbrev pub quantities : Document → Verdict
 quantities d =
     then_reported (reported ParameterDoubled Parameter (doubled same_parameter (map parameter_key d.parameters))) (later_quantities d)
 
+-- T13: names that are doubled within their kind
 abbrev pub names : Document → Verdict
 names d =
     then_reported (reported NameDoubled Bus (doubled_name (bus_names d)))
@@ -353,6 +388,7 @@ names d =
     (then_reported (reported NameDoubled Output (doubled_name (output_names d)))
     (reported NameDoubled Label (doubled_name (label_names d))))))
 
+-- T14 to T18: absent parameters and names, streams that overlap, visits of buses, doubled sources
 abbrev pub references : Document → Verdict
 references d =
     then_reported (reported ParameterAbsent Stream (first_unknown_stream d.parameters d.streams))
@@ -363,6 +399,7 @@ references d =
     (then_reported (reported BusNotVisitedByOne Bus (first_unserved d.routers d.buses))
     (reported SourceDoubled Label (first_doubled_source d.labels)))))))
 
+-- T19 to T24: formats, offsets and labels, and the pace of routers and outputs
 abbrev pub schedules : Document → Verdict
 schedules d =
     then_reported (reported FormatsDiffer Label (first_different d.parameters d.streams (stream_names d) d.labels))
@@ -394,5 +431,6 @@ TellsFault verdict None = verdict ≡ Ok tt
 TellsFault verdict (Some (Refused f)) = verdict ≡ Err (Refused f)
 TellsFault verdict (Some (Memory e)) = Unit {0}
 
+-- an answer tells this verdict, or that memory is out
 abbrev pub Tells : {A : Type 0} → Verdict → Result A BuildError → Type 0
 Tells verdict r = TellsFault verdict (fault_in r)

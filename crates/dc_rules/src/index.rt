@@ -63,7 +63,7 @@ impl NameIndex {
         Ok(NameIndex { names: known })
     }
 
-    /// The name of this number.
+    /// The name of this number, from 0.
     pub fn name(&self, number: usize) -> &Name
         requires { number < length self.now }
         ensures { result.now ≡ slice_index_or self.now number [] }
@@ -71,7 +71,7 @@ impl NameIndex {
         &self.names.as_slice()[number]
     }
 
-    /// The number of this name.
+    /// The number of this name, from 0, where it is there.
     pub fn number_of(&self, name: &Name) -> Option<usize>
         ensures { result ≡ number_of self.now name.now }
     {
@@ -89,10 +89,15 @@ fn names_of<T: Named>(alloc: Global, rows: &[T]) -> Result<Vec<Name>, AllocError
 /// The names of all tables, each kind to be looked up.
 #[derive(Drop)]
 pub struct Names {
+    /// Those of the buses.
     pub buses: NameIndex,
+    /// Those of the streams of all buses.
     pub streams: NameIndex,
+    /// Those of the routers.
     pub routers: NameIndex,
+    /// Those of the outputs.
     pub outputs: NameIndex,
+    /// Those of the labels of all outputs.
     pub labels: NameIndex,
 }
 
@@ -136,7 +141,7 @@ impl Parameters {
         self.rows.len()
     }
 
-    /// The parameter of this number.
+    /// The parameter of this number, from 0.
     pub fn at(&self, number: usize) -> &Parameter
         requires { number < length self.now }
         ensures { result.now ≡ slice_index_or self.now number (record { label = 0; equipment = 0; format = Bnr; min_us = 0; max_us = 0 }) }
@@ -144,7 +149,7 @@ impl Parameters {
         self.rows.row_at(number)
     }
 
-    /// The parameter of this key.
+    /// The parameter of this key, where it is there.
     pub fn find(&self, key: ParameterKey) -> Option<Parameter>
         ensures value { result ≡ parameter_of self.now key }
         ensures small { IfSome result (λ p. p.min_us ≤ LONGEST_INTERVAL_US) }

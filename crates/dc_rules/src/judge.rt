@@ -368,8 +368,8 @@ pub(crate) fn check_first(
     Ok((entries, parameters))
 }
 
-/// The rules on parameters, which are then to be looked up: all that are doubled before the first whose least interval is
-/// over its greatest, so that the dictionary refuses none.
+/// The rules on parameters, which are then to be looked up: all that are doubled before the first whose least interval
+/// is over its greatest, so that the dictionary refuses none.
 fn check_parameters(alloc: Global, parts: &Parts) -> Result<Parameters, BuildError>
     requires shape { shape parts.now ≡ Ok tt }
     ensures rule { Tells (quantities parts.now) result }

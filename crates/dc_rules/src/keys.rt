@@ -15,11 +15,14 @@ pub struct PlacedOffset {
     pub offset: u32,
 }
 
-/// An entry with its output.
+/// An entry of a frame, with its output.
 #[derive(Clone, Copy, Debug, PartialEq)]
 pub struct PlacedEntry {
+    /// The number of its output, from 0.
     pub output: usize,
+    /// The tick of the frame in which it is due.
     pub offset: u32,
+    /// The number of its label among the labels of all outputs, from 0.
     pub label: usize,
 }
 

@@ -10,17 +10,22 @@ use crate::keys::PlacedEntry;
 use dc_parts::{BuildError, Parts};
 use std::alloc::Global;
 
-/// What a document that keeps all rules is looked up by: the entries of all outputs in the order of the text, its
-/// parameters and its names.
+/// What a document that keeps all rules is looked up by.
 #[derive(Drop)]
 pub struct Passed {
+    /// The entries of all outputs, in the order of the text.
     pub entries: Vec<PlacedEntry>,
+    /// Its parameters.
     pub parameters: Parameters,
+    /// Its names.
     pub names: Names,
 }
 
 impl Passed {
-    /// What these parts are looked up by, where no rule is broken, else the first broken rule; or memory is out.
+    /// What these parts are looked up by, where they break no rule.
+    ///
+    /// # Errors
+    /// `Refused` with the first broken rule; `Memory` where memory is out.
     pub fn of(alloc: Global, parts: &Parts) -> Result<Passed, BuildError>
         ensures verdict { Tells (verdict_of parts.now) result }
         ensures obeys { IfOk result (λ p. Obeys parts.now) }

@@ -162,10 +162,11 @@ fn words_of(alloc: Global, tables: &Tables, bus: usize, ticks: u64) -> Result<Wi
 }
 
 impl Script {
-    /// The script of a bench of so many ticks, 1 to [`LONGEST_SCRIPT`](crate::LONGEST_SCRIPT). On each bus words have times, and the first possible time is 0; each word
-    /// moves it the input spacing on from its own time. In each tick, for each stream in order whose last word is at least
-    /// its minimum back or that had none, a word comes at the greater of the tick's beginning and the possible time, if
-    /// that lies before the tick's end.
+    /// The script of a bench of so many ticks, 1 to [`LONGEST_SCRIPT`](crate::LONGEST_SCRIPT). On each bus words have
+    /// times in microseconds, and the first possible time is 0; each word moves it the input spacing on from its own
+    /// time. In each tick, for each stream in order whose last word is at least its minimum back or that had none, a
+    /// word comes at the greater of the tick's beginning and the possible time, if that lies before the tick's end.
+    /// This is the project's own choice.
     ///
     /// # Errors
     /// Out of memory.

@@ -8,10 +8,12 @@ ghost use Rattle.dc_script.specs.declared.limits.TheConstants.{LONGEST_SCRIPT};
 use dc_word::Word;
 use std::marker::Model;
 
-/// A word, and the tick in which it comes.
+/// A word of a wire.
 #[derive(Clone, Copy, Debug, PartialEq)]
 pub struct Timed {
+    /// The tick in which it comes, from 0; in a [`Script`] below its ticks.
     pub tick: u64,
+    /// The word.
     pub word: Word,
 }
 
@@ -43,7 +45,8 @@ impl WireWords {
     }
 }
 
-/// What the wires bring: 1 to [`LONGEST_SCRIPT`](crate::LONGEST_SCRIPT) ticks, and for each bus words whose ticks never fall and lie below these.
+/// What the wires bring: 1 to [`LONGEST_SCRIPT`](crate::LONGEST_SCRIPT) ticks, and for each bus words whose ticks never
+/// fall and lie below these.
 #[derive(Drop)]
 pub struct Script {
     ticks: u64,
@@ -59,7 +62,8 @@ impl Model for Script {
 }
 
 impl Script {
-    /// A script of so many ticks, with the words of each bus.
+    /// A script of so many ticks, 1 to [`LONGEST_SCRIPT`](crate::LONGEST_SCRIPT), with the words of each bus, whose
+    /// ticks never fall and lie below these.
     pub fn new(ticks: u64, words: Vec<WireWords>) -> Script
         requires { IsScript (record { ticks = ticks; words = words.items }) }
         ensures { result ≡ record { ticks = ticks; words = words.items } }
@@ -67,7 +71,7 @@ impl Script {
         Script { ticks, words }
     }
 
-    /// How many ticks it is long.
+    /// How many ticks it is long, 1 to [`LONGEST_SCRIPT`](crate::LONGEST_SCRIPT).
     pub fn ticks(&self) -> u64
         ensures value { result ≡ self.now.ticks }
         ensures range { (1 ≤ result) × (result ≤ LONGEST_SCRIPT) }
@@ -82,7 +86,7 @@ impl Script {
         self.words.len()
     }
 
-    /// The words of a bus.
+    /// The words of the bus of this number, from 0, in order.
     pub fn words(&self, bus: usize) -> &[Timed]
         requires { bus < length self.now.words }
         ensures { result.now ≡ slice_index_or self.now.words bus [] }
@@ -90,8 +94,8 @@ impl Script {
         self.words[bus].as_slice()
     }
 
-    /// Every script is 1 to [`LONGEST_SCRIPT`](crate::LONGEST_SCRIPT) ticks long, and the ticks of a bus's words never fall and lie below. The call does
-    /// nothing.
+    /// Every script is 1 to [`LONGEST_SCRIPT`](crate::LONGEST_SCRIPT) ticks long, and the ticks of a bus's words never
+    /// fall and lie below. The call does nothing.
     pub fn holds(&self)
         ensures { IsScript self.now }
     {

@@ -157,9 +157,6 @@ streams_inside t valid = λ k z h.
     let P : Bus → Type 0 = λ b. b.first + b.streams ≤ length t.streams in
     subst P (sym (get_or_read t.buses k (get_or t.buses k z) h (same_read t.buses k z h) none)) (valid.streams_there k h)
 
-pub offsets_length : (all : List (List ℕ)) (outputs : List Output) → all ≡ frame_offsets outputs → length all ≡ length outputs
-offsets_length all outputs same = ap length same ∙ length-map outputs (λ r. map (λ e. e.offset) r.entries)
-
 -- the bound made of the rows is the output's
 pub output_is : (t : TableRows) (o d : ℕ) (own : List ℕ) (row : Output) → own ≡ offsets t o → row ≡ output_row t o → cyclic_cap row.frame own d ≡ output_cap t o d
 unfolding output_cap

@@ -1,5 +1,5 @@
 -- Intervals in ticks.
-use Rattle.std.proofs.Common.{◌≡◌, ℕ, zero, suc, ◌+◌, ◌*◌, ◌/◌, ◌<◌, ◌≤◌, false, Option, Some, None, is_none, refl, ap, inl, inr, arith}
+use Rattle.std.proofs.Common.{◌≡◌, ℕ, ◌+◌, ◌*◌, ◌/◌, ◌<◌, ◌≤◌, false, Option, Some, None, is_none, refl, ap, inl, inr, arith}
 use Rattle.std.specs.Option.{option_map_or}
 use Rattle.std.proofs.Math.Nat.{div-lt_iff_lt-mul, lt-div-mul-add, mul-le-mul_right}
 use Rattle.std.proofs.lemmas.Bool.{cases_lt}
@@ -18,13 +18,6 @@ div_mono k x y h l =
     let lt : x < (y / k + 1) * k = omega (arith, lt-div-mul-add {a = y} {b = k} h) in
     let r : x / k < y / k + 1 = (div-lt_iff_lt-mul {k = k} {x = x} {y = y / k + 1} h).1 lt in
     omega arith
-
-at_least_one : (q k x : ℕ) → k ≤ x → (q < 1 → x < 1 * k) → 1 ≤ q
-at_least_one zero k x l r = absurd (omega (arith, r (omega arith)))
-at_least_one (suc q) k x l r = omega arith
-
-div_some : (k x : ℕ) → 0 < k → k ≤ x → 1 ≤ x / k
-div_some k x h l = at_least_one (x / k) k x l (div-lt_iff_lt-mul {k = k} {x = x} {y = 1} h).0
 
 -- a quotient rounded up, by what is divided
 ceil_below : (x k q : ℕ) → 0 < k → x ≤ q * k → div_ceil x k ≤ q

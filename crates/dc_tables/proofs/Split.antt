@@ -102,13 +102,6 @@ pub record AreSplit (tick : ℕ) (all : List PlacedEntry) (parts : List OutputPa
   pub later : AreFrom n rest
   pub same : (k : ℕ) → n ≤ k → own_entries rest k ≡ own_entries all k
 
-pub split_none : (tick : ℕ) (all : List PlacedEntry) (parts : List OutputPart) → AreFrom 0 all → AreSplit tick all parts 0 [] all
-split_none tick all parts h = record {
-  made = record { there = refl; each = λ o e l. absurd (omega (arith, l)) };
-  later = h;
-  same = λ k l. refl;
-}
-
 row_among : (tick : ℕ) (own all : List PlacedEntry) (o : ℕ) (part : OutputPart) (row : Output) → own_entries own o ≡ own_entries all o → IsOutputRow tick own o part row → IsOutputRow tick all o part row
 row_among tick own all o part row e h =
     let P : List Entry → Type 0 = λ l. IsPermutation l row.entries in

@@ -21,6 +21,7 @@ use Rattle.dc_tables.proofs.ValidOutputs as outputs
 use Rattle.dc_tables.proofs.ValidApart as apart
 use Rattle.dc_tables.proofs.ValidVisits as visits
 use Rattle.dc_tables.proofs.ValidFormats as formats
+use Rattle.dc_tables.proofs.ValidKeys as keys
 
 unmapped : {A : Type 0} (f : A → ℕ) (r : Option A) → option_map f r ≡ None → r ≡ None
 unmapped f None h = refl
@@ -42,6 +43,8 @@ valid d t order rows fit shape totals quantities names refs schedules = record {
   queues_some = buses.queues_some d t rows shape;
   queues_small = buses.queues_small d t rows shape;
   spacings = buses.spacings d t rows shape;
+  bus_streams_some = buses.bus_streams_some d t rows shape;
+  few_bus_streams = buses.few_bus_streams d t rows shape;
   streams_there = buses.streams_there d t rows order;
   streams_of_bus = buses.streams_of_bus d t rows order;
   bus_of_streams = buses.bus_of_streams d t rows order;
@@ -76,6 +79,7 @@ valid d t order rows fit shape totals quantities names refs schedules = record {
   entries_in_frame = outputs.entries_in_frame d t rows schedules;
   entries_labelled = outputs.entries_labelled d t rows;
   labels_apart = apart.labels_apart d t rows schedules;
+  few_output_labels = labels.few_output_labels d t rows shape;
   labels_on_outputs = labels.labels_on_outputs d t rows order;
   labels_in_frames = outputs.labels_in_frames d t rows order shape;
   labels_fit = λ x h. fit x (record { output = 0; label = 0; sdi = 0; format = Bnr; sources = []; stale = 0; age_limit = 0; minimum = 0; maximum = 0 }) h;
@@ -120,6 +124,14 @@ keyed_rows d t rows all = record {
   routers_once = once d t rows (λ k. k.routers) (apart.names_once (router_names d) all.names.routers);
   outputs_once = once d t rows (λ k. k.outputs) (apart.names_once (output_names d) all.names.outputs);
   labels_once = once d t rows (λ k. k.labels) (apart.names_once (label_names d) all.names.labels);
+  few_parameters = keys.few_parameters d t rows all.shape;
+  parameters_some = keys.parameters_some d t rows all.shape;
+  parameters_ordered = keys.parameters_ordered d t rows all.quantities;
+  parameters_small = keys.parameters_small d t rows all.shape;
+  parameters_once = keys.parameters_once d t rows all.quantities;
+  jitters_small = keys.jitters_small d t rows all.shape;
+  offsets_some = keys.offsets_some d t rows all.shape;
+  few_offsets = keys.few_offsets d t rows all.shape;
   formats = formats.formats d t rows all.references;
   sources_alike = formats.sources_alike d t rows all.references all.schedules;
 }

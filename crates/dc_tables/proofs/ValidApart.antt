@@ -25,10 +25,10 @@ use Rattle.dc_tables.proofs.ValidBuses.{stream_count}
 use Rattle.dc_tables.proofs.ValidRouters.{named_as}
 use Rattle.dc_tables.proofs.ValidLabels.{label_count, each_label}
 
-is_eq : (a b : ℕ) → a ≡ b → (a == b) ≡ true
+pub is_eq : (a b : ℕ) → a ≡ b → (a == b) ≡ true
 is_eq a b h = grind (arith, nat_tests)
 
-and_true : (a b : Bool) → a ≡ true → b ≡ true → (a && b) ≡ true
+pub and_true : (a b : Bool) → a ≡ true → b ≡ true → (a && b) ≡ true
 and_true true b h k = k
 and_true false b h k = absurd (cc h)
 
@@ -91,7 +91,7 @@ not_met s u h b l = last_false (s.bus == u.bus) (s.label == u.label) (sdis_meet 
 same_keys : (a b : LabelKey) → a.output ≡ b.output → a.label ≡ b.label → a.sdi ≡ b.sdi → same_label a b ≡ true
 same_keys a b o l s = and_true (a.output == b.output) ((a.label == b.label) && (a.sdi == b.sdi)) (is_eq a.output b.output o) (and_true (a.label == b.label) (a.sdi == b.sdi) (is_eq a.label b.label l) (is_eq a.sdi b.sdi s))
 
-abbrev no_stream : StreamPart
+abbrev pub no_stream : StreamPart
 no_stream = record { bus = 0; name = []; label = 0; equipment = 0; sdi = None; jitter_us = 0 }
 
 module _ (d : Document) (t : TableRows) (rows : AreRows d t) where

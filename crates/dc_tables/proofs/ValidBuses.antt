@@ -1,9 +1,10 @@
 -- The buses and streams of tables that break no rule.
-use Rattle.std.proofs.Common.{false, ◌≡◌, ℕ, zero, suc, ◌+◌, ◌<◌, ◌≤◌, nat_lt, None, List, [], ◌∷◌, length, get_or, refl, sym, ap, ◌∙◌, arith, subst}
+use Rattle.std.proofs.Common.{false, ◌≡◌, ℕ, zero, suc, ◌+◌, ◌<◌, ◌≤◌, nat_lt, ◌==◌, None, List, [], ◌∷◌, length, get_or, refl, sym, ap, ◌∙◌, arith, subst}
+use Rattle.std.specs.List.{count_by}
 use Rattle.std.specs.Prelude.{is_none}
 use Rattle.std.proofs.lemmas.List.{get_or-map, length-map}
 use Rattle.dc_parts.specs.Document.{Document, stream_owners, IsInOrder}
-use Rattle.dc_rules.specs.Rules.{parameter_of, too_quick, outside, parameter_out}
+use Rattle.dc_rules.specs.Rules.{parameter_of, too_quick, outside, counts, parameter_out}
 use Rattle.dc_parts.specs.Keys.{stream_key}
 use Rattle.dc_tables.specs.RowsOf.{bus_row_of, bus_rows_from, stream_row_of, AreRows}
 use Rattle.dc_tables.specs.TableRows.{TableRows, bus_row, stream_row}
@@ -15,6 +16,7 @@ use Rattle.dc_parts.specs.declared.parts.RouterPart.{RouterPart}
 use Rattle.dc_dict.specs.declared.parameter.Parameter.{Parameter as ParameterPart}
 use Rattle.dc_rules.specs.lemmas.Picks.{rows_each, each_fails, not_outside, or_none, not_below}
 use Rattle.dc_rules.specs.lemmas.Owners.{owners_fit, placed, IsPlaced}
+use Rattle.dc_rules.specs.lemmas.Apart.{counts_at, counts_length}
 use Rattle.dc_rules.specs.lemmas.Found.{found_holds}
 use Rattle.dc_tables.proofs.Intervals.{jitter_small, minimum_some, maximum_after, maximum_small, spacing_some}
 use Rattle.dc_rules.specs.Obeys.{ShapeObeys, ReferencesObey, QuantitiesObey}
@@ -103,6 +105,19 @@ module _ (d : Document) (t : TableRows) (rows : AreRows d t) (shape : ShapeObeys
   pub queues_small : (b : ℕ) → b < length t.buses → (bus_row t b).queue ≤ 4096
   queues_small = each_bus d t rows (λ k r. r.queue ≤ 4096) (λ k x l. (queue_in k x l).1)
 
+  streams_in : (k : ℕ) → k < length d.buses → (1 ≤ count_by (λ o. o == k) (stream_owners d)) × (count_by (λ o. o == k) (stream_owners d) ≤ 256)
+  streams_in k l =
+      let all = counts (stream_owners d) (length d.buses) in
+      let at = counts_at (stream_owners d) (length d.buses) k l in
+      let in_range = not_outside 1 256 (get_or all k 0) (each_fails (λ n. outside 1 256 n) all shape.streams_of k 0 (omega (arith, l, counts_length (stream_owners d) (length d.buses)))) in
+      (omega (arith, in_range.0, at), omega (arith, in_range.1, at))
+
+  pub bus_streams_some : (b : ℕ) → b < length t.buses → 1 ≤ (bus_row t b).streams
+  bus_streams_some = each_bus d t rows (λ k r. 1 ≤ r.streams) (λ k x l. (streams_in k l).0)
+
+  pub few_bus_streams : (b : ℕ) → b < length t.buses → (bus_row t b).streams ≤ 256
+  few_bus_streams = each_bus d t rows (λ k r. r.streams ≤ 256) (λ k x l. (streams_in k l).1)
+
   pub spacings : (b : ℕ) → b < length t.buses → 1 ≤ (bus_row t b).spacing
   spacings = each_bus d t rows (λ k r. 1 ≤ r.spacing) (λ k x l. spacing_some (get_or d.buses k x).speed)
 
@@ -124,6 +139,10 @@ module _ (d : Document) (t : TableRows) (rows : AreRows d t) (shape : ShapeObeys
       let s = get_or d.streams k x in
       jitter_small d.tick_us s.jitter_us tick_in.0 (not_below 60000000 s.jitter_us (each_fails (λ s. nat_lt 60000000 s.jitter_us) d.streams shape.streams k x l)))
 
+module _ (d : Document) (quantities : QuantitiesObey d) where
+  pub min_before_max : (k : ℕ) (x : ParameterPart) → k < length d.parameters → (get_or d.parameters k x).min_us ≤ (get_or d.parameters k x).max_us
+  min_before_max k x l = not_below (get_or d.parameters k x).max_us (get_or d.parameters k x).min_us (each_fails (λ p. nat_lt p.max_us p.min_us) d.parameters quantities.parameters k x l)
+
 module _ (d : Document) (t : TableRows) (rows : AreRows d t) (shape : ShapeObeys d) (quantities : QuantitiesObey d) (refs : ReferencesObey d) where
   pub minimums : (s : ℕ) → s < length t.streams → 1 ≤ (stream_row t s).minimum
   minimums = each_stream d t rows (λ r. 1 ≤ r.minimum) (λ k x l.
@@ -131,11 +150,8 @@ module _ (d : Document) (t : TableRows) (rows : AreRows d t) (shape : ShapeObeys
       (each_fails (λ s. is_none (parameter_of d.parameters (stream_key s))) d.streams refs.streams k x l)
       (each_fails (λ s. too_quick d.tick_us (parameter_of d.parameters (stream_key s))) d.streams quantities.streams k x l))
 
-  min_before_max : (k : ℕ) (x : ParameterPart) → k < length d.parameters → (get_or d.parameters k x).min_us ≤ (get_or d.parameters k x).max_us
-  min_before_max k x l = not_below (get_or d.parameters k x).max_us (get_or d.parameters k x).min_us (each_fails (λ p. nat_lt p.max_us p.min_us) d.parameters quantities.parameters k x l)
-
   pub maximums : (s : ℕ) → s < length t.streams → (stream_row t s).minimum ≤ (stream_row t s).maximum
   maximums = each_stream d t rows (λ r. r.minimum ≤ r.maximum) (λ k x l.
       let key = stream_key (get_or d.streams k x) in
       let some : 0 < d.tick_us = omega (arith, tick_in d t rows shape) in
-      maximum_after d.tick_us (parameter_of d.parameters key) some (λ p e. found_holds (λ q. q.min_us ≤ q.max_us) d.parameters key p min_before_max e))
+      maximum_after d.tick_us (parameter_of d.parameters key) some (λ p e. found_holds (λ q. q.min_us ≤ q.max_us) d.parameters key p (min_before_max d quantities) e))

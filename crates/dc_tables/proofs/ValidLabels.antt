@@ -1,9 +1,10 @@
 -- The labels of tables that break no rule.
-use Rattle.std.proofs.Common.{◌≡◌, ℕ, ◌+◌, ◌<◌, ◌≤◌, ◌||◌, is_none, List, [], length, get_or, map, sym, ap, ◌∙◌, arith, subst}
+use Rattle.std.proofs.Common.{◌≡◌, ℕ, ◌+◌, ◌<◌, ◌≤◌, ◌||◌, ◌==◌, Bool, is_none, List, [], ◌∷◌, length, get_or, map, refl, sym, ap, ◌∙◌, arith, subst}
+use Rattle.std.specs.List.{count_by}
 use Rattle.std.proofs.lemmas.List.{length-map, get_or-map}
 use Rattle.dc_word.specs.declared.format.Format.TheVariants.{Bnr}
 use Rattle.dc_parts.specs.Document.{Document, label_owners, IsInOrder}
-use Rattle.dc_rules.specs.Rules.{outside, offsets_out, label_out, parameter_of, no_interval, has_unknown, stream_names}
+use Rattle.dc_rules.specs.Rules.{outside, counts, offsets_out, label_out, parameter_of, no_interval, has_unknown, stream_names}
 use Rattle.dc_parts.specs.Keys.{label_key}
 use Rattle.dc_tables.specs.RowsOf.{number_in, label_row_of, AreRows}
 use Rattle.dc_tables.specs.TableRows.{TableRows, label_row}
@@ -11,6 +12,8 @@ use Rattle.dc_tables.specs.declared.rows.OutputLabel.{OutputLabel}
 use Rattle.dc_parts.specs.declared.parts.LabelPart.{LabelPart}
 use Rattle.dc_parts.specs.declared.parts.StreamPart.{StreamPart}
 use Rattle.dc_rules.specs.lemmas.Picks.{rows_each, each_fails, not_outside, or_none}
+use Rattle.dc_rules.specs.lemmas.Apart.{counts_at, counts_length}
+use Rattle.dc_rules.specs.lemmas.Owners.{counted}
 use Rattle.dc_rules.specs.lemmas.Found.{found_holds}
 use Rattle.dc_tables.proofs.Intervals.{interval_there, interval_small}
 use Rattle.dc_tables.proofs.ValidBuses.{stream_count, tick_in, max_in}
@@ -47,7 +50,25 @@ module _ (d : Document) (t : TableRows) (rows : AreRows d t) where
   labels_on_outputs order = each_label (λ r. r.output < length t.outputs) (λ k x l.
       omega (arith, order.labels.below k (omega (arith, length-map d.labels (λ (y : LabelPart). y.output))), output_of k x l, rows.outputs_there))
 
+count_mapped : {X Y : Type 0} (p : Y → Bool) (f : X → Y) (xs : List X) → count_by p (map f xs) ≡ count_by (λ x. p (f x)) xs
+count_mapped p f [] = refl
+count_mapped p f (x ∷ xs) = omega (arith, counted p (f x) (map f xs), counted (λ y. p (f y)) x xs, count_mapped p f xs)
+
 module _ (d : Document) (t : TableRows) (rows : AreRows d t) (shape : ShapeObeys d) where
+  -- how many labels an output has
+  owned : (o : ℕ) → count_by (λ (r : OutputLabel). r.output == o) t.labels ≡ count_by (λ w. w == o) (label_owners d)
+  owned o =
+      ap (λ (l : List OutputLabel). count_by (λ (r : OutputLabel). r.output == o) l) rows.labels
+      ∙ count_mapped (λ (r : OutputLabel). r.output == o) (label_row_of d.tick_us d.parameters (stream_names d)) d.labels
+      ∙ sym (count_mapped (λ w. w == o) (λ (y : LabelPart). y.output) d.labels)
+
+  pub few_output_labels : (o : ℕ) → o < length t.outputs → count_by (λ (r : OutputLabel). r.output == o) t.labels ≤ 256
+  few_output_labels o h =
+      let l : o < length d.outputs = omega (arith, rows.outputs_there) in
+      let all = counts (label_owners d) (length d.outputs) in
+      let in_range = not_outside 1 256 (get_or all o 0) (each_fails (λ n. outside 1 256 n) all shape.labels_of o 0 (omega (arith, l, counts_length (label_owners d) (length d.outputs)))) in
+      omega (arith, in_range.1, counts_at (label_owners d) (length d.outputs) o l, owned o)
+
   sources_in : (k : ℕ) (x : LabelPart) → k < length d.labels → (1 ≤ length (get_or d.labels k x).sources.items) × (length (get_or d.labels k x).sources.items ≤ 8)
   sources_in k x l = not_outside 1 8 (length (get_or d.labels k x).sources.items) (each_fails (λ y. outside 1 8 (length y.sources.items)) d.labels shape.sources k x l)
 

@@ -1,6 +1,6 @@
 -- The tables as rows. Streams and labels are numbered through the whole document; a row names its owner by number.
 -- Ticks are rounded once, when the tables are built.
-use Rattle.std.specs.Prelude.{◌≡◌, ℕ, Bool, false, cond, ◌+◌, ◌*◌, ◌/◌, ◌%◌, ◌<◌, ◌≤◌, min, List, [], length, take, drop, map, slice_index, slice_index_or, None}
+use Rattle.std.specs.Prelude.{◌≡◌, ℕ, Bool, false, cond, ◌+◌, ◌*◌, ◌/◌, ◌%◌, ◌<◌, ◌≤◌, ◌==◌, min, List, [], length, take, drop, map, count_by, slice_index, slice_index_or, None}
 use Rattle.std.specs.List.{sum_by}
 use Rattle.dc_bound.specs.Window.{wire_cap}
 use Rattle.dc_bound.specs.Early.{jitter_cap}
@@ -16,7 +16,7 @@ use Rattle.dc_word.specs.declared.format.Format.TheVariants.{Bnr}
 use Rattle.dc_dict.specs.declared.parameter.Parameter.{Parameter as ParameterPart}
 use Rattle.dc_rules.specs.Rules.{sdis_meet}
 use Rattle.dc_tables.specs.TableKeys.{TableKeys}
-use Rattle.dc_parts.specs.declared.limits.TheConstants.{GREATEST_AGE, GREATEST_JITTER, GREATEST_QUEUE, LONGEST_FRAME, LONGEST_INTERVAL, LONGEST_STALE, LONGEST_TICK, LONGEST_WITHIN, MOST_BUSES, MOST_ENTRIES, MOST_LABELS, MOST_OUTPUTS, MOST_ROUTERS, MOST_SOURCES, MOST_STEPS, MOST_STREAMS, MOST_VISITS, SHORTEST_TICK}
+use Rattle.dc_parts.specs.declared.limits.TheConstants.{GREATEST_AGE, GREATEST_JITTER, GREATEST_QUEUE, LONGEST_FRAME, LONGEST_INTERVAL, LONGEST_STALE, LONGEST_TICK, LONGEST_WITHIN, MOST_BUSES, MOST_ENTRIES, MOST_LABELS, MOST_MEMBERS, MOST_OUTPUTS, MOST_ROUTERS, MOST_SOURCES, MOST_STEPS, MOST_STREAMS, MOST_VISITS, SHORTEST_TICK}
 
 pub record TableRows : Type 0 where
   pub tick_us : ℕ
@@ -76,6 +76,8 @@ pub record AreValid (t : TableRows) : Type 0 where
   pub queues_some : (b : ℕ) → b < length t.buses → 1 ≤ (bus_row t b).queue
   pub queues_small : (b : ℕ) → b < length t.buses → (bus_row t b).queue ≤ GREATEST_QUEUE
   pub spacings : (b : ℕ) → b < length t.buses → 1 ≤ (bus_row t b).spacing
+  pub bus_streams_some : (b : ℕ) → b < length t.buses → 1 ≤ (bus_row t b).streams
+  pub few_bus_streams : (b : ℕ) → b < length t.buses → (bus_row t b).streams ≤ MOST_MEMBERS
   pub streams_there : (b : ℕ) → b < length t.buses → (bus_row t b).first + (bus_row t b).streams ≤ length t.streams
   pub streams_of_bus : (b s : ℕ) → b < length t.buses → s < length t.streams → (stream_row t s).bus ≡ b → ((bus_row t b).first ≤ s) × (s < (bus_row t b).first + (bus_row t b).streams)
   pub bus_of_streams : (b s : ℕ) → b < length t.buses → (bus_row t b).first ≤ s → s < (bus_row t b).first + (bus_row t b).streams → (stream_row t s).bus ≡ b
@@ -116,6 +118,7 @@ pub record AreValid (t : TableRows) : Type 0 where
   pub entries_labelled : (o i : ℕ) → o < length t.outputs → i < length (output_row t o).entries → ((entry_row t o i).label < length t.labels) × ((label_row t (entry_row t o i).label).output ≡ o)
   -- labels: those of an output differ in label or SDI, and the sources of one differ
   pub labels_apart : (x y : ℕ) → x < length t.labels → y < length t.labels → (label_row t x).output ≡ (label_row t y).output → (label_row t x).label ≡ (label_row t y).label → (label_row t x).sdi ≡ (label_row t y).sdi → x ≡ y
+  pub few_output_labels : (o : ℕ) → o < length t.outputs → count_by (λ x. x.output == o) t.labels ≤ MOST_MEMBERS
   pub labels_on_outputs : (x : ℕ) → x < length t.labels → (label_row t x).output < length t.outputs
   pub labels_in_frames : (x : ℕ) → x < length t.labels → (i : ℕ) × (i < length (output_row t (label_row t x).output).entries) × ((entry_row t (label_row t x).output i).label ≡ x)
   pub labels_fit : (x : ℕ) → x < length t.labels → ((label_row t x).label < 256) × ((label_row t x).sdi < 4)

@@ -3,75 +3,104 @@ ghost use Rattle.std.specs.Prelude.{◌≡◌, ◌↔◌, [], length, IsTrue};
 use dc_word::{Format, Label, Sdi};
 use std::marker::Model;
 
-/// A receive bus: the capacity of its queue in words; whether it refuses early words (`police`); `spacing`,
-/// the least time between two words on the wire, in microseconds; its streams, those from number `first` on, `streams` of
-/// them; and the router that visits it.
+/// A receive bus. The ranges here and below are those of the rows of [`Tables`](crate::Tables), by its `valid`; the
+/// limits are this project's own, as in `dc_parts`.
 #[derive(Clone, Copy, Debug, PartialEq)]
 pub struct Bus {
+    /// The capacity of its receive queue in words, 1 to [`GREATEST_QUEUE`](dc_parts::GREATEST_QUEUE).
     pub queue: u32,
+    /// Whether it refuses early words.
     pub police: bool,
+    /// The least time between two words on its wire, in microseconds, 1 or more.
     pub spacing: u32,
+    /// The number of its first stream.
     pub first: usize,
+    /// How many streams it has, those from number `first` on: 1 to [`MOST_MEMBERS`](dc_parts::MOST_MEMBERS).
     pub streams: usize,
+    /// The number of the router that visits it, the only one.
     pub router: usize,
 }
 
-/// A stream of words: the bus that brings it, what it declares (no SDI: any), its least and greatest interval, and how
-/// late of their rhythm its words may come (`jitter`), in ticks.
+/// A stream of words: what it declares, and how its words come, in ticks.
 #[derive(Clone, Copy, Debug, PartialEq)]
 pub struct Stream {
+    /// The number of the bus that brings it.
     pub bus: usize,
+    /// The label of its words.
     pub label: Label,
+    /// The SDI of its words; `None` for any.
     pub sdi: Option<Sdi>,
+    /// The least interval between two of its words without jitter, in ticks: 1 to `maximum`.
     pub minimum: u32,
+    /// The greatest interval between two of its words, in ticks, up to
+    /// [`LONGEST_INTERVAL`](dc_parts::LONGEST_INTERVAL).
     pub maximum: u32,
+    /// How late of their rhythm its words may come, in ticks, up to [`GREATEST_JITTER`](dc_parts::GREATEST_JITTER).
     pub jitter: u32,
 }
 
-/// A router: at least `steps` steps in each `within` whole ticks, at most `most` in a tick, and the buses that it visits
-/// in turn.
+/// A router: its budget, and the buses that it visits in turn. `steps` is at most `most` x `within`.
 #[derive(Debug, Drop)]
 pub struct Router {
+    /// Its fewest steps in each `within` whole ticks, 1 to [`MOST_STEPS`](dc_parts::MOST_STEPS).
     pub steps: u32,
+    /// In so many ticks, 1 to [`LONGEST_WITHIN`](dc_parts::LONGEST_WITHIN), it makes `steps` steps or more.
     pub within: u32,
+    /// Its most steps in one tick, 1 to [`MOST_STEPS`](dc_parts::MOST_STEPS).
     pub most: u32,
+    /// The numbers of the buses that it visits in turn, 1 to [`MOST_VISITS`](dc_parts::MOST_VISITS) of them.
     pub visits: Numbers,
 }
 
-/// An output: at least `steps` sends in each `within` whole ticks, two sends at least `gap` ticks apart, and the entries
-/// of its frame of `frame` ticks in order of offset.
+/// An output: its budget, and its frame. `steps` x `gap` is at most `within`.
 #[derive(Debug, Drop)]
 pub struct Output {
+    /// Its fewest sends in each `within` whole ticks, 1 to [`MOST_STEPS`](dc_parts::MOST_STEPS).
     pub steps: u32,
+    /// In so many ticks, 1 to [`LONGEST_WITHIN`](dc_parts::LONGEST_WITHIN), it makes `steps` sends or more.
     pub within: u32,
+    /// How many ticks two of its sends lie apart at least, 1 or more.
     pub gap: u32,
+    /// After so many ticks, 1 to [`LONGEST_FRAME`](dc_parts::LONGEST_FRAME), its entries are due again.
     pub frame: u32,
+    /// The entries of its frame in ascending order of offset, 1 to [`MOST_ENTRIES`](dc_parts::MOST_ENTRIES) of them.
     pub entries: Entries,
 }
 
-/// An entry of a frame: the tick in it at which the label is due.
+/// An entry of a frame: a tick of it in which a label is due.
 #[derive(Clone, Copy, Debug, PartialEq)]
 pub struct Entry {
+    /// The tick of the frame in which the label is due, below the length of the frame.
     pub offset: u32,
+    /// The number of the label among the labels of all outputs.
     pub label: usize,
 }
 
-/// A label that an output sends: its streams in order of priority, how many ticks a source stays fresh, the limit on the
-/// age of its data, and the least and greatest interval between two of its words, all in ticks.
+/// A label that an output sends.
 #[derive(Debug, Drop)]
 pub struct OutputLabel {
+    /// The number of its output.
     pub output: usize,
+    /// The label of its words.
     pub label: Label,
+    /// The SDI of its words.
     pub sdi: Sdi,
+    /// The format of its data.
     pub format: Format,
+    /// The numbers of its streams in order of priority, 1 to [`MOST_SOURCES`](dc_parts::MOST_SOURCES) that differ.
     pub sources: Numbers,
+    /// How many ticks after it was routed a word is fresh, 1 to [`LONGEST_STALE`](dc_parts::LONGEST_STALE).
     pub stale: u32,
+    /// The limit on the age of its data in ticks, 1 to [`GREATEST_AGE`](dc_parts::GREATEST_AGE).
     pub age_limit: u32,
+    /// The least interval between two of its words, in ticks, up to `maximum`.
     pub minimum: u32,
+    /// The greatest interval between two of its words, in ticks, up to
+    /// [`LONGEST_INTERVAL`](dc_parts::LONGEST_INTERVAL).
     pub maximum: u32,
 }
 
-/// A list of numbers of rows.
+/// A list of numbers of rows, each from 0.
 #[derive(Debug, Drop)]
 pub struct Numbers {
     pub(crate) items: Vec<usize>,

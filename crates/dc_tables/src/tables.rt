@@ -58,7 +58,10 @@ impl Tables {
     ghost use Rattle.dc_rules.specs.Obeys.{Obeys};
     ghost use Rattle.dc_rules.specs.Passed.{ArePassed};
 
-    /// The tables of these parts, where no rule is broken, else the first broken rule; or memory is out.
+    /// The tables of these parts, where they break no rule.
+    ///
+    /// # Errors
+    /// `Refused` with the first broken rule, T06 and T08 to T24; `Memory` where memory is out.
     pub fn build(alloc: Global, parts: Parts) -> Result<Tables, BuildError>
         ensures verdict { Tells (verdict_of parts) result }
         ensures rows { IfOk result (λ t. AreRows parts t) }
@@ -115,35 +118,35 @@ impl Tables {
         }
     }
 
-    /// The number of the bus of this name.
+    /// The number of the bus of this name, from 0, where it is there.
     pub fn bus_named(&self, name: &Name) -> Option<usize>
         ensures { result ≡ number_of self.now.keys.buses name.now }
     {
         self.bus_names.number_of(name)
     }
 
-    /// The number of the router of this name.
+    /// The number of the router of this name, from 0, where it is there.
     pub fn router_named(&self, name: &Name) -> Option<usize>
         ensures { result ≡ number_of self.now.keys.routers name.now }
     {
         self.router_names.number_of(name)
     }
 
-    /// The number of the output of this name.
+    /// The number of the output of this name, from 0, where it is there.
     pub fn output_named(&self, name: &Name) -> Option<usize>
         ensures { result ≡ number_of self.now.keys.outputs name.now }
     {
         self.output_names.number_of(name)
     }
 
-    /// The number of the stream of this name.
+    /// The number of the stream of this name among the streams of all buses, from 0, where it is there.
     pub fn stream_named(&self, name: &Name) -> Option<usize>
         ensures { result ≡ number_of self.now.keys.streams name.now }
     {
         self.stream_names.number_of(name)
     }
 
-    /// The number of the label of this name.
+    /// The number of the label of this name among the labels of all outputs, from 0, where it is there.
     pub fn label_named(&self, name: &Name) -> Option<usize>
         ensures { result ≡ number_of self.now.keys.labels name.now }
     {
@@ -190,13 +193,15 @@ impl Tables {
         self.label_names.name(label)
     }
 
+    /// How many parameters there are, at most [`MOST_PARAMETERS`](dc_parts::MOST_PARAMETERS).
     pub fn parameter_count(&self) -> usize
         ensures { result ≡ length self.now.keys.parameters }
     {
         self.parameters.len()
     }
 
-    /// A parameter, as it is written.
+    /// A parameter, as it is written: its interval is 1 to [`LONGEST_INTERVAL_US`](dc_parts::LONGEST_INTERVAL_US)
+    /// microseconds, the least at most the greatest.
     pub fn parameter(&self, parameter: usize) -> &Parameter
         requires { parameter < length self.now.keys.parameters }
         ensures { result.now ≡ parameter_row self.now parameter }
@@ -228,7 +233,8 @@ impl Tables {
         self.written.stream_equipment(stream)
     }
 
-    /// The jitter of a stream in microseconds, as it is written, at most [`GREATEST_JITTER_US`](dc_parts::GREATEST_JITTER_US).
+    /// The jitter of a stream in microseconds, as it is written, at most
+    /// [`GREATEST_JITTER_US`](dc_parts::GREATEST_JITTER_US).
     pub fn stream_jitter(&self, stream: usize) -> u32
         requires { stream < length self.now.streams }
         ensures { result ≡ slice_index_or self.now.keys.written.stream_jitters stream 0 }
@@ -244,7 +250,8 @@ impl Tables {
         self.written.label_equipment(label)
     }
 
-    /// The ticks of the frame in which a label is due, in the order of the text, at most [`LAST_OFFSET`](dc_parts::LAST_OFFSET).
+    /// The ticks of the frame in which a label is due, in the order of the text: 1 to
+    /// [`MOST_OFFSETS`](dc_parts::MOST_OFFSETS) of them.
     pub fn label_offsets(&self, label: usize) -> &[u32]
         requires { label < length self.now.labels }
         ensures { result.now ≡ slice_index_or self.now.keys.written.label_offsets label [] }
@@ -252,14 +259,15 @@ impl Tables {
         self.written.label_offsets(label)
     }
 
-    /// Each row has its name.
+    /// Each row has its name and its written keys, the names of a kind differ, the parameters are in their ranges and
+    /// differ, and the format of a label is that of its parameter and of its sources. The call does nothing.
     pub fn keyed(&self)
         ensures { AreKeyed self.now }
     {
         let _ = &self.tick_us;
     }
 
-    /// The tables meet their rules.
+    /// The rows meet their rules. The call does nothing.
     pub fn valid(&self)
         ensures { AreValid self.now }
     {
@@ -275,36 +283,42 @@ impl Tables {
         *tick_us
     }
 
+    /// How many buses there are, at most [`MOST_BUSES`](dc_parts::MOST_BUSES).
     pub fn bus_count(&self) -> usize
         ensures { result ≡ length self.now.buses }
     {
         self.buses.len()
     }
 
+    /// How many streams all buses have, at most [`MOST_STREAMS`](dc_parts::MOST_STREAMS).
     pub fn stream_count(&self) -> usize
         ensures { result ≡ length self.now.streams }
     {
         self.streams.len()
     }
 
+    /// How many routers there are, at most [`MOST_ROUTERS`](dc_parts::MOST_ROUTERS).
     pub fn router_count(&self) -> usize
         ensures { result ≡ length self.now.routers }
     {
         self.routers.len()
     }
 
+    /// How many outputs there are, at most [`MOST_OUTPUTS`](dc_parts::MOST_OUTPUTS).
     pub fn output_count(&self) -> usize
         ensures { result ≡ length self.now.outputs }
     {
         self.outputs.len()
     }
 
+    /// How many labels all outputs have, at most [`MOST_LABELS`](dc_parts::MOST_LABELS).
     pub fn label_count(&self) -> usize
         ensures { result ≡ length self.now.labels }
     {
         self.labels.len()
     }
 
+    /// The row of a bus.
     pub fn bus(&self, bus: usize) -> &Bus
         requires { bus < length self.now.buses }
         ensures { result.now ≡ bus_row self.now bus }
@@ -313,6 +327,7 @@ impl Tables {
         &buses[bus]
     }
 
+    /// The row of a stream; `stream` is its number among the streams of all buses.
     pub fn stream(&self, stream: usize) -> &Stream
         requires { stream < length self.now.streams }
         ensures { result.now ≡ stream_row self.now stream }
@@ -320,6 +335,7 @@ impl Tables {
         &self.streams[stream]
     }
 
+    /// The row of a router.
     pub fn router(&self, router: usize) -> &Router
         requires { router < length self.now.routers }
         ensures { result.now ≡ router_row self.now router }
@@ -328,6 +344,7 @@ impl Tables {
         &routers[router]
     }
 
+    /// The row of an output.
     pub fn output(&self, output: usize) -> &Output
         requires { output < length self.now.outputs }
         ensures { result.now ≡ output_row self.now output }
@@ -344,7 +361,7 @@ impl Tables {
         &self.labels[label]
     }
 
-    /// The capacity of a bus's queue, 1 to [`GREATEST_QUEUE`](dc_parts::GREATEST_QUEUE).
+    /// The capacity of a bus's queue in words, 1 to [`GREATEST_QUEUE`](dc_parts::GREATEST_QUEUE).
     pub fn queue(&self, bus: usize) -> u32
         requires { bus < length self.now.buses }
         ensures { result ≡ (bus_row self.now bus).queue }
@@ -352,7 +369,7 @@ impl Tables {
         self.buses[bus].queue
     }
 
-    /// The bus of a stream.
+    /// The number of a stream's bus.
     pub fn bus_of(&self, stream: usize) -> usize
         requires { stream < length self.now.streams }
         ensures bus { result ≡ (stream_row self.now stream).bus }
@@ -361,8 +378,8 @@ impl Tables {
         self.streams[stream].bus
     }
 
-    /// What a bus may bring: the lesser of its streams' and its wire's, or its streams' alone where it is policed. Streams
-    /// of one minimum and one jitter are one term of the sum.
+    /// What a bus may bring in so many ticks, in words: the lesser of its streams' sum and its wire's, or its streams'
+    /// alone where it is policed.
     pub fn bus_bound(&self, bus: usize) -> Capped<SumOf<'_, Alike>>
         requires { bus < length self.now.buses }
         ensures { (d : ℕ) → ⟦<Capped<SumOf<'static, Alike>> as ArrivalBound>⟧.cap result d ≡ bus_cap self.now bus d }
@@ -372,7 +389,7 @@ impl Tables {
         Capped::new(streams, wire_of(self.tick_us, row))
     }
 
-    /// How a bus is served: the visits of it by its router.
+    /// How a bus is served: the fewest visits of it by its router in so many whole ticks.
     pub fn bus_service(&self, bus: usize) -> Visits<'_>
         requires { bus < length self.now.buses }
         ensures { (d : ℕ) → ⟦<Visits<'static> as ServiceBound>⟧.floor result d ≡ bus_floor self.now bus d }
@@ -382,7 +399,7 @@ impl Tables {
         Visits::new(pace, row.visits.as_slice(), bus)
     }
 
-    /// What falls due at an output: the entries of its frame, again and again.
+    /// What falls due at an output: the most entries in so many ticks, those of its frame again and again.
     pub fn output_bound(&self, output: usize) -> Cyclic<'_>
         requires { output < length self.now.outputs }
         ensures { (d : ℕ) → ⟦<Cyclic<'static> as ArrivalBound>⟧.cap result d ≡ output_cap self.now output d }
@@ -401,7 +418,8 @@ impl Tables {
         Paced::new(own.steps, own.within)
     }
 
-    /// The bus that the router visits at this cursor, and the cursor after it.
+    /// The number of the bus that the router visits at this cursor, a place in its list of visits taken round it, and
+    /// the cursor after it.
     pub fn visit(&self, router: usize, cursor: usize) -> (usize, usize)
         requires { router < length self.now.routers }
         ensures bus { result.0 ≡ visited self.now router cursor }

@@ -15,9 +15,11 @@ Reading A = Result A TableFault
 abbrev pub place : Section → ℕ → TablePlace
 place section index = record { section = section; index = index }
 
+-- the fault that this rule is broken in the table at this place
 abbrev pub fault_at : TablePlace → TableRule → TableFault
 fault_at p rule = record { rule = rule; section = p.section; index = p.index }
 
+-- nothing is read: this rule is broken at this place
 abbrev pub refused : {A : Type 0} → TablePlace → TableRule → Reading A
 refused p rule = Err (fault_at p rule)
 

@@ -42,11 +42,13 @@ keyed p keys ms = known p keys ms >>= (λ k. present p keys ms)
 
 -- ---- numbers
 
+-- a whole number, else T05, from low to high, else T06
 abbrev pub number_in : TablePlace → (low high : ℕ) → Option ℤ → Reading ℕ
 number_in p low high None = refused p WrongKind
 number_in p low high (Some (negsuc n)) = refused p NumberOutOfRange
 number_in p low high (Some (pos n)) = if nat_le low n && nat_le n high then Ok n else refused p NumberOutOfRange
 
+-- the number at a key
 abbrev pub number_at : TablePlace → List ℕ → (low high : ℕ) → Members → Reading ℕ
 number_at p key low high ms = number_in p low high (option_and_then as_integer (get_member key ms))
 
@@ -56,21 +58,27 @@ bool_at p key ms = found p WrongKind (option_and_then as_bool (get_member key ms
 
 -- ---- texts
 
+-- the text at a key, else T05
 abbrev pub text_at : TablePlace → List ℕ → Members → Reading (List ℕ)
 text_at p key ms = found p WrongKind (option_and_then as_str (get_member key ms))
 
+-- the name at a key, else T07
 abbrev pub name_at : TablePlace → List ℕ → Members → Reading (List ℕ)
 name_at p key ms = text_at p key ms >>= (λ s. found p WrongSpelling (name_of s))
 
+-- the speed that a text writes: `high` or `low`
 abbrev pub speed_of : List ℕ → Option Speed
 speed_of s = if same_key s (codes "high") then Some High else if same_key s (codes "low") then Some Low else None
 
+-- the speed at a key, else T07
 abbrev pub speed_at : TablePlace → List ℕ → Members → Reading Speed
 speed_at p key ms = text_at p key ms >>= (λ s. found p WrongSpelling (speed_of s))
 
+-- the format that a text writes: `bnr`, `bcd` or `disc`
 abbrev pub format_of : List ℕ → Option Format
 format_of s = if same_key s (codes "bnr") then Some Bnr else if same_key s (codes "bcd") then Some Bcd else if same_key s (codes "disc") then Some Disc else None
 
+-- the format at a key, else T07
 abbrev pub format_at : TablePlace → List ℕ → Members → Reading Format
 format_at p key ms = text_at p key ms >>= (λ s. found p WrongSpelling (format_of s))
 
@@ -79,6 +87,7 @@ abbrev pub digit_value : ℕ → Option ℕ
 digit_value c =
     if nat_le 48 c && nat_le c 57 then Some (c - 48) else if nat_le 65 c && nat_le c 70 then Some (c - 55) else if nat_le 97 c && nat_le c 102 then Some (c - 87) else None
 
+-- the value of a digit in this base
 abbrev pub digit : (base c : ℕ) → Option ℕ
 digit base c = option_and_then (λ n. if nat_lt n base then Some n else None) (digit_value c)
 
@@ -91,9 +100,11 @@ three_digits base s =
 abbrev pub label_in : ℕ → Option ℕ
 label_in n = if nat_le 1 n && nat_le n 255 then Some n else None
 
+-- the label that three octal digits write
 abbrev pub label_of : List ℕ → Option ℕ
 label_of s = option_and_then (λ d. label_in (64 * d.0 + 8 * d.1 + d.2)) (three_digits 8 s)
 
+-- the label at a key, else T07
 abbrev pub label_at : TablePlace → List ℕ → Members → Reading ℕ
 label_at p key ms = text_at p key ms >>= (λ s. found p WrongSpelling (label_of s))
 
@@ -101,23 +112,28 @@ label_at p key ms = text_at p key ms >>= (λ s. found p WrongSpelling (label_of 
 abbrev pub equipment_of : List ℕ → Option ℕ
 equipment_of s = option_map (λ d. 256 * d.0 + 16 * d.1 + d.2) (three_digits 16 s)
 
+-- the equipment code at a key, else T07
 abbrev pub equipment_at : TablePlace → List ℕ → Members → Reading ℕ
 equipment_at p key ms = text_at p key ms >>= (λ s. found p WrongSpelling (equipment_of s))
 
 -- ---- the SDI of a label, and that of a stream, which may be "any"
 
+-- the SDI of a label: 0 to 3
 abbrev pub sdi_at : TablePlace → List ℕ → Members → Reading ℕ
 sdi_at p key ms = number_at p key 0 3 ms
 
+-- none for the text `any`, T07 for another text, and else the number
 abbrev pub any_or : TablePlace → Option (List ℕ) → Reading ℕ → Reading (Option ℕ)
 any_or p (Some s) number = if same_key s (codes "any") then Ok None else refused p WrongSpelling
 any_or p None number = number >>= (λ n. Ok (Some n))
 
+-- the SDI of a stream: 0 to 3, or none for `any`
 abbrev pub stream_sdi_at : TablePlace → List ℕ → Members → Reading (Option ℕ)
 stream_sdi_at p key ms = any_or p (option_and_then as_str (get_member key ms)) (sdi_at p key ms)
 
 -- ---- lists
 
+-- how many items a list has
 abbrev pub items_len : Items → ℕ
 items_len no_items = 0
 items_len (item d ds) = 1 + items_len ds
@@ -132,6 +148,7 @@ abbrev pub each_item : {A : Type 0} → (Data → Reading A) → Items → Readi
 each_item one no_items = Ok []
 each_item one (item d ds) = one d >>= (λ x. each_item one ds >>= (λ xs. Ok (x ∷ xs)))
 
+-- the list at a key, else T05
 abbrev pub array_at : TablePlace → List ℕ → Members → Reading Items
 array_at p key ms = found p WrongKind (option_and_then as_array (get_member key ms))
 
@@ -139,15 +156,19 @@ array_at p key ms = found p WrongKind (option_and_then as_array (get_member key 
 abbrev pub counted : TablePlace → (low high : ℕ) → Items → Reading (Unit {0})
 counted p low high ds = wanted p CountOutOfRange (nat_le low (items_len ds) && nat_le (items_len ds) high)
 
+-- whether an item is a text
 abbrev pub is_text : Data → Bool
 is_text d = is_some (as_str d)
 
+-- whether an item is a whole number
 abbrev pub is_number : Data → Bool
 is_number d = is_some (as_integer d)
 
+-- the name that an item is, else T07
 abbrev pub name_item : TablePlace → Data → Reading (List ℕ)
 name_item p d = found p WrongSpelling (option_and_then name_of (as_str d))
 
+-- the number from low to high that an item is
 abbrev pub number_item : TablePlace → (low high : ℕ) → Data → Reading ℕ
 number_item p low high d = number_in p low high (as_integer d)
 
@@ -181,5 +202,6 @@ abbrev pub if_there : Option Data → Reading Items → Reading Items
 if_there None reading = Ok no_items
 if_there (Some d) reading = reading
 
+-- a list of at most so many tables, empty where its key is absent
 abbrev pub optional_at : TablePlace → List ℕ → (high : ℕ) → Members → Reading Items
 optional_at p key high ms = if_there (get_member key ms) (tables_at p key 0 high ms)

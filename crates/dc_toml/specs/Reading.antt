@@ -21,6 +21,7 @@ each_table one d (item v vs) = one d v >>= (λ more. each_table one more vs)
 
 -- ---- the places of the next tables
 
+-- of a parameter, by its number from 0 in the order of the text; likewise of the others
 abbrev pub next_parameter : Written → TablePlace
 next_parameter d = place Parameter (length d.parameters)
 
@@ -41,9 +42,11 @@ next_label d = place Label (length d.labels)
 
 -- ---- parameters
 
+-- the keys of a parameter
 abbrev pub parameter_keys : List (List ℕ)
 parameter_keys = codes "label" ∷ codes "equipment" ∷ codes "format" ∷ codes "min_us" ∷ codes "max_us" ∷ []
 
+-- a parameter, after what was read before it
 unfoldable pub read_parameter : Written → Data → Reading Written
 read_parameter d v = do
   ms ← table_of (next_parameter d) v
@@ -57,6 +60,7 @@ read_parameter d v = do
 
 -- ---- buses, each followed by its streams
 
+-- the keys of a stream, by the version
 abbrev pub stream_keys : Version → List (List ℕ)
 stream_keys One = codes "name" ∷ codes "label" ∷ codes "equipment" ∷ codes "sdi" ∷ []
 stream_keys Two = codes "name" ∷ codes "label" ∷ codes "equipment" ∷ codes "sdi" ∷ codes "jitter_us" ∷ []
@@ -78,6 +82,7 @@ read_stream d v = do
   jitter_us ← jitter_at d.version (next_stream d) ms
   Ok (and_stream d (record { bus = length d.buses - 1; name = name; label = label; equipment = equipment; sdi = sdi; jitter_us = jitter_us }))
 
+-- the keys of a bus, by the version
 abbrev pub bus_keys : Version → List (List ℕ)
 bus_keys One = codes "name" ∷ codes "speed" ∷ codes "queue" ∷ codes "stream" ∷ []
 bus_keys Two = codes "name" ∷ codes "speed" ∷ codes "queue" ∷ codes "police" ∷ codes "stream" ∷ []
@@ -87,6 +92,7 @@ abbrev pub police_at : Version → TablePlace → Members → Reading Bool
 police_at One p ms = Ok false
 police_at Two p ms = bool_at p (codes "police") ms
 
+-- a bus and its streams
 unfoldable pub read_bus : Written → Data → Reading Written
 read_bus d v = do
   ms ← table_of (next_bus d) v
@@ -100,9 +106,11 @@ read_bus d v = do
 
 -- ---- routers
 
+-- the keys of a router
 abbrev pub router_keys : List (List ℕ)
 router_keys = codes "name" ∷ codes "steps" ∷ codes "within" ∷ codes "most" ∷ codes "visits" ∷ []
 
+-- a router, after what was read before it
 unfoldable pub read_router : Written → Data → Reading Written
 read_router d v = do
   ms ← table_of (next_router d) v
@@ -116,6 +124,7 @@ read_router d v = do
 
 -- ---- outputs, each followed by its labels
 
+-- the keys of a label
 abbrev pub label_keys : List (List ℕ)
 label_keys = codes "name" ∷ codes "label" ∷ codes "equipment" ∷ codes "sdi" ∷ codes "sources" ∷ codes "stale" ∷ codes "age" ∷ codes "offsets" ∷ []
 
@@ -134,9 +143,11 @@ read_label d v = do
   offsets ← offsets_at (next_label d) (codes "offsets") 1 MOST_OFFSETS ms
   Ok (and_label d (record { output = length d.outputs - 1; name = name; label = label; equipment = equipment; sdi = sdi; sources = sources; stale = stale; age = age; offsets = offsets }))
 
+-- the keys of an output
 abbrev pub output_keys : List (List ℕ)
 output_keys = codes "name" ∷ codes "speed" ∷ codes "steps" ∷ codes "within" ∷ codes "frame" ∷ codes "label" ∷ []
 
+-- an output and its labels
 unfoldable pub read_output : Written → Data → Reading Written
 read_output d v = do
   ms ← table_of (next_output d) v
@@ -151,6 +162,7 @@ read_output d v = do
 
 -- ---- the whole text
 
+-- the place of the top
 abbrev pub top : TablePlace
 top = place Top 0
 
@@ -164,9 +176,11 @@ version_in (Some (pos n)) = if n == 1 then Some One else if n == 2 then Some Two
 abbrev pub version_of : TablePlace → Members → Reading Version
 version_of p ms = found p VersionUnknown (version_in (option_and_then as_integer (get_member (codes "version") ms)))
 
+-- the keys that the top must have
 abbrev pub wanted_keys : List (List ℕ)
 wanted_keys = codes "version" ∷ codes "tick_us" ∷ []
 
+-- the keys that it may have
 abbrev pub top_keys : List (List ℕ)
 top_keys = codes "version" ∷ codes "tick_us" ∷ codes "parameter" ∷ codes "bus" ∷ codes "router" ∷ codes "output" ∷ []
 

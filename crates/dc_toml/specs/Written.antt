@@ -42,20 +42,25 @@ pub record Written : Type 0 where
 
 -- ---- what the program's values say
 
+-- a router, with the names of the buses that it visits as a list
 abbrev pub router_text : RouterPart → RouterText
 router_text r = record { name = r.name; steps = r.steps; within = r.within; most = r.most; visits = r.visits.items }
 
+-- a label, with its sources and its offsets as lists
 abbrev pub label_text : LabelPart → LabelText
 label_text x = record { output = x.output; name = x.name; label = x.label; equipment = x.equipment; sdi = x.sdi; sources = x.sources.items; stale = x.stale; age = x.age; offsets = x.offsets.items }
 
+-- the tables of a document
 abbrev pub written : Document → Written
 written d = record { version = d.version; tick_us = d.tick_us; parameters = d.parameters; buses = d.buses; streams = d.streams; routers = map router_text d.routers; outputs = d.outputs; labels = map label_text d.labels }
 
 -- ---- one more
 
+-- the version and the length of a tick in microseconds, and no tables yet
 abbrev pub nothing_written : Version → ℕ → Written
 nothing_written version tick_us = record { version = version; tick_us = tick_us; parameters = []; buses = []; streams = []; routers = []; outputs = []; labels = [] }
 
+-- a parameter, after those before it; likewise a bus, a stream, a router, an output, a label
 abbrev pub and_parameter : Written → ParameterPart → Written
 and_parameter d x = record d { parameters = d.parameters ++ x ∷ [] }
 

@@ -19,7 +19,7 @@ use dc_tables::Tables;
 use std::alloc::{AllocError, Global};
 use toml::{Table, Value};
 
-/// The longest text that is read, in bytes.
+/// The longest text that is read, in bytes: this project's own number.
 pub const TEXT_LIMIT: usize = 1_048_576;
 
 // The length of a tick, where the top's keys are right.

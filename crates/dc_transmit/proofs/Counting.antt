@@ -5,11 +5,10 @@ use Rattle.std.specs.List.Sorted.{IsPartitionedBy, IsPartitionPoint}
 use Rattle.std.proofs.lemmas.Bool.{cases_lt}
 use Rattle.std.proofs.lemmas.List.Sums.{sum_by-cons}
 use Rattle.std.proofs.lemmas.List.Sorted.{IsPartitionedBy-leb, IsNonDecreasingBy-from_default}
-use Rattle.dc_bound.specs.Frame.{due_by, due_by_frames, due_of_entry, IsFrame}
-use Rattle.dc_bound.specs.lemmas.Dues.{due_by-frames, due_by_frames-is, due_in_ascends, ascending_ge}
-use Rattle.dc_tables.specs.TableRows.{TableRows, AreValid, output_row}
+use Rattle.dc_bound.specs.Frame.{due_by, due_of_entry, IsFrame}
+use Rattle.dc_bound.specs.lemmas.Dues.{due_by_frames, due_by-frames, due_by_frames-is, due_in_ascends, ascending_ge}
 use Rattle.dc_tables.specs.declared.rows.Entry.{Entry}
-use Rattle.dc_transmit.specs.Schedule.{off, no_entry, IsSchedule}
+use Rattle.dc_transmit.specs.Schedule.{off, no_entry}
 
 count-yes : (p : Entry → Bool) (e : Entry) (es : List Entry) → p e ≡ true → count_by p (e ∷ es) ≡ 1 + count_by p es
 count-yes p e es h = sum_by-cons (λ x. cond (p x) 1 0) e es ∙ ap (λ b. cond b 1 0 + count_by p es) h
@@ -52,11 +51,3 @@ due-found frame wide es same f tick i l point =
     let q = ap (λ w. tick / w * length es) same in
     let n = ap (λ w. count_by (λ e. leb (off e) (tick % w)) es) same in
     (omega (arith, due_by-frames off no_entry frame es f tick, count, q, n), omega (arith, few_due frame es f tick, count, q, n))
-
--- the schedules of valid tables
-pub schedule_valid : (t : TableRows) (o : ℕ) → AreValid t → o < length t.outputs → IsSchedule (output_row t o).frame (output_row t o).entries
-schedule_valid t o v h = record {
-  framed = record { some = v.entries_some o h; ascend = λ i j a b. v.entries_ascend o i j h a b; below = λ i a. v.entries_in_frame o i h a };
-  few = v.few_entries o h;
-  short = v.frames_short o h;
-}

@@ -15,9 +15,11 @@ pub record ScheduleData : Type 0 where
 abbrev pub schedule_of : TableRows → ℕ → ScheduleData
 schedule_of t o = record { frame = (output_row t o).frame; entries = (output_row t o).entries }
 
+-- the tick of the frame in which an entry is due
 abbrev pub off : Entry → ℕ
 off e = e.offset
 
+-- what is read where there is no entry
 abbrev pub no_entry : Entry
 no_entry = record { offset = 0; label = 0 }
 

@@ -1,4 +1,5 @@
-//! The transmit schedule of an output: which entries are due, which one is next, and how far those of a label lie apart.
+//! The transmit schedule of an output: which entries are due, which one is next, and how far those of a label lie
+//! apart.
 #![tactic(auto)]
 
 mod limits;

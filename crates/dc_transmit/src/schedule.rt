@@ -53,7 +53,8 @@ impl<'a> Schedule<'a> {
         tick / frame * self.entries.len() as u64 + in_frame as u64
     }
 
-    /// The label of entry number `sent`, 0 to [`MOST_SENT`](crate::MOST_SENT), which is the oldest unsent one, and the tick in which it is due.
+    /// The label of entry number `sent`, 0 to [`MOST_SENT`](crate::MOST_SENT), which is the oldest unsent one, and the
+    /// tick in which it is due.
     pub fn next(&self, sent: u64) -> (usize, u64)
         requires { sent ≤ MOST_SENT }
         ensures label { result.0 ≡ label_at self.now sent }
@@ -67,7 +68,8 @@ impl<'a> Schedule<'a> {
         )
     }
 
-    /// The least gap between neighbouring entries of the label, round the frame: the frame where it has one entry, or none.
+    /// The least gap between neighbouring entries of the label, round the frame: the frame where it has one entry, or
+    /// none.
     pub fn min_gap(&self, label: usize) -> u64
         ensures { result ≡ least_label_gap self.now label }
     {

@@ -1,7 +1,7 @@
 -- The fields of a composed word, and that they leave room for no other odd word.
 use Rattle.std.proofs.Common.{◌≡◌, ℕ, ◌+◌, ◌-◌, ◌*◌, ◌/◌, ◌%◌, ◌^◌, ◌<◌, ap, sym, ◌∙◌, subst, arith, w8}
 use Rattle.std.specs.Int.{reverse_bits, reverse_bits_onto}
-use Rattle.dc_word.specs.Word.{reversed, sdi_of, data_of, ssm_of, ones_in, IsOddParity, HasFields, IsOneOddWord, body_of, composed_word, copied_word, fallback_word}
+use Rattle.dc_word.specs.Word.{reversed, sdi_of, data_of, ssm_of, ones_in, IsOddParity, HasFields, IsOneOddWord, body_of, composed_word}
 use Rattle.dc_word.proofs.Parity.{odd_by_parity, only_parity}
 
 -- the reversal of eight digits, as std has it
@@ -89,13 +89,3 @@ composed_word-one label sdi bits ssm label_fits sdi_fits bits_fits ssm_fits =
           let parity = only_parity body (w / 2 ^ 31) small bit (subst IsOddParity whole odd) in
           whole ∙ ap (λ (top : ℕ). body + top * 2 ^ 31) parity;
     }
-
--- the copied word is the one odd word of its label, its SDI, and its source's data and SSM
-pub copied_word-one : (label sdi w : ℕ) → label < 256 → sdi < 4 → IsOneOddWord (copied_word label sdi w) label sdi (data_of w) (ssm_of w)
-unfolding copied_word
-copied_word-one label sdi w label_fits sdi_fits =
-    composed_word-one label sdi (data_of w) (ssm_of w) label_fits sdi_fits (omega arith) (omega arith)
-
-pub fallback_word-one : (label sdi : ℕ) → label < 256 → sdi < 4 → IsOneOddWord (fallback_word label sdi) label sdi 0 1
-unfolding fallback_word
-fallback_word-one label sdi label_fits sdi_fits = composed_word-one label sdi 0 1 label_fits sdi_fits (omega arith) (omega arith)

@@ -2,7 +2,8 @@ ghost use Rattle.std.specs.Prelude.{◌≡◌, ℕ, ◌<◌, ◌≤◌, ◌↔�
 
 use std::marker::Model;
 
-/// A label as the number that its three octal digits write, 1 to 255: label 203 is 131.
+/// A label as the number that its three octal digits write, 1 to 255: label 203 is 131
+/// (ARINC Specification 429 Part 1, 2.1.3).
 #[derive(Clone, Copy, Debug, PartialEq, Eq, PartialOrd, Ord, Hash)]
 pub struct Label(u8);
 
@@ -17,7 +18,7 @@ impl Model for Label {
 }
 
 impl Label {
-    /// The label of this number. 0 is no label.
+    /// The label of this number, 1 to 255; `None` for 0, which is no label.
     pub fn new(number: u8) -> Option<Label>
         ensures valid { IsSome result ↔ (1 ≤ number) }
         ensures value { IfSome result (λ label. label ≡ number) }
@@ -39,7 +40,7 @@ impl Label {
     }
 }
 
-/// A source or destination identifier, 0 to 3: bit 9 and twice bit 10.
+/// A source or destination identifier, 0 to 3: bit 9 and twice bit 10 (ARINC Specification 429 Part 1, 2.1.4).
 #[derive(Clone, Copy, Debug, PartialEq, Eq, PartialOrd, Ord, Hash)]
 pub struct Sdi(u8);
 
@@ -54,7 +55,7 @@ impl Model for Sdi {
 }
 
 impl Sdi {
-    /// The SDI of this number, where it is at most 3.
+    /// The SDI of this number, 0 to 3; `None` for a greater one.
     pub fn new(number: u8) -> Option<Sdi>
         ensures valid { IsSome result ↔ (number < 4) }
         ensures value { IfSome result (λ sdi. sdi ≡ number) }

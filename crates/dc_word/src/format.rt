@@ -12,15 +12,22 @@ pub enum Format {
     Disc,
 }
 
-/// What the SSM of a word says of its data.
+/// What the SSM of a word says of its data (ARINC Specification 429 Part 1, 2.1.5).
 #[derive(Clone, Copy, Debug, PartialEq, Eq, Hash)]
 pub enum Status {
+    /// Failure warning: SSM 0 in BNR, 3 in discretes.
     FailureWarning,
+    /// No computed data: SSM 1.
     NoComputedData,
+    /// Functional test: SSM 2.
     FunctionalTest,
+    /// Normal operation: SSM 3 in BNR.
     Normal,
+    /// A plus: SSM 0 in BCD.
     Plus,
+    /// A minus: SSM 3 in BCD.
     Minus,
+    /// Verified data: SSM 0 in discretes.
     Verified,
 }
 
@@ -46,7 +53,7 @@ impl Format {
         }
     }
 
-    /// Whether a word with an SSM of 0 to 3 is usable in this format.
+    /// Whether a word with this SSM is usable in this format: 3 in BNR, 0 and 3 in BCD, 0 in discretes.
     pub fn is_usable(self, ssm: u32) -> bool
         ensures { result ≡ is_usable_ssm self ssm }
     {

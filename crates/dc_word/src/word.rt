@@ -8,7 +8,8 @@ use crate::field::{Label, Sdi};
 use crate::format::{Format, Status};
 use std::marker::Model;
 
-/// A word as a number of 32 bits: bit n of the standard, 1 to 32, has the value 2^(n-1).
+/// A word as a number of 32 bits: bit n of the standard, 1 to 32, has the value 2^(n-1)
+/// (ARINC Specification 429 Part 1, 2.1).
 #[derive(Clone, Copy, Debug, PartialEq, Eq, Hash)]
 pub struct Word(pub u32);
 
@@ -23,9 +24,13 @@ impl Model for Word {
 /// Which of the five BCD digits, the most significant being the first. The first has three bits and is always a digit.
 #[derive(Clone, Copy, Debug, PartialEq, Eq, Hash)]
 pub enum DigitPlace {
+    /// The second digit, bits 23 to 26.
     Second,
+    /// The third digit, bits 19 to 22.
     Third,
+    /// The fourth digit, bits 15 to 18.
     Fourth,
+    /// The fifth digit, bits 11 to 14.
     Fifth,
 }
 
@@ -53,35 +58,35 @@ impl Word {
         bits
     }
 
-    /// The label as the number that its three octal digits write, 0 to 255.
+    /// The label as the number that its three octal digits write, 0 to 255 (ARINC Specification 429 Part 1, 2.1.3).
     pub fn label_number(self) -> u8
         ensures { result ≡ label_of self }
     {
         reversed_bits((self.0 % 256) as u8)
     }
 
-    /// Bit 9 and twice bit 10, 0 to 3.
+    /// The SDI: bit 9 and twice bit 10, 0 to 3 (ARINC Specification 429 Part 1, 2.1.4).
     pub fn sdi(self) -> u32
         ensures { result ≡ sdi_of self }
     {
         self.0 / 256 % 4
     }
 
-    /// Bits 11 to 29, below 2^19.
+    /// The data: bits 11 to 29, below 2^19.
     pub fn data(self) -> u32
         ensures { result ≡ data_of self }
     {
         self.0 / 1024 % 524_288
     }
 
-    /// Bit 30 and twice bit 31, 0 to 3.
+    /// The SSM: bit 30 and twice bit 31, 0 to 3 (ARINC Specification 429 Part 1, 2.1.5).
     pub fn ssm(self) -> u32
         ensures { result ≡ ssm_of self }
     {
         self.0 / 536_870_912 % 4
     }
 
-    /// Whether the number of ones in all 32 bits is odd.
+    /// Whether the number of ones in all 32 bits is odd (ARINC Specification 429 Part 1, 2.3.4).
     pub fn is_odd(self) -> bool
         ensures test { result ≡ is_odd self }
         ensures fact { IsTrue result ↔ IsOddParity self }

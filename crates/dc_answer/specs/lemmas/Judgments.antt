@@ -1,6 +1,5 @@
 -- What was judged before it is written: from one text to the next, and how it is reported.
-use Rattle.std.proofs.Common.{◌≡◌, ◌≢◌, ℕ, ◌+◌, ◌≤◌, ◌++◌, true, false, List, [], ◌∷◌, refl, sym, ◌∙◌, ap, subst, Option, Some, None, IfErr, IfOk, IfSome, Result, Ok, Err, inl, inr}
-use Rattle.dc_device.specs.Lines.{spelled}
+use Rattle.std.proofs.Common.{◌≡◌, ◌≢◌, ℕ, ◌+◌, ◌≤◌, ◌++◌, List, [], ◌∷◌, refl, sym, ◌∙◌, ap, subst, Option, IfErr, IfOk, Result, Ok, Err, inl, inr}
 use Rattle.dc_answer.specs.Answer.{Answer, Any, Ends, Raises, Reported, ReportsBy, WholeOrNone, judged_answer, nothing, one_line, sink_failures_of}
 use Rattle.dc_answer.specs.Exits.{exit_of, is_answered, is_whole}
 use Rattle.dc_answer.specs.Judging.{Judged}
@@ -26,11 +25,6 @@ pub failed_judged : (Is : Answer → Type 0) (text : List ℕ) (failure : Failur
 failed_judged Is text Source other = tt
 failed_judged Is text Memory other = tt
 failed_judged Is text Sink other = absurd (other refl)
-
--- nor of any text of a source
-pub failed_texts : (r : Option (List ℕ)) (Is : List ℕ → Answer → Type 0) (text : List ℕ) (failure : Failure) → failure ≢ Sink → IfSome r (λ given. Judged (Is given) text (Err failure))
-failed_texts None Is text failure other = tt
-failed_texts (Some given) Is text failure other = failed_judged (Is given) text failure other
 
 -- whatever was judged is some answer
 pub some_judged : (text : List ℕ) (judged : Result Outcome Failure) → IfErr judged (λ e. e ≢ Sink) → Judged Any text judged

@@ -2,14 +2,26 @@
 use Rattle.std.proofs.Common.{◌≡◌, ℕ, ◌<◌, List, length, refl, ◌∙◌, subst, arith, false, nat_le, Option, Some, None, IfSome, Ok, Err, inl, inr}
 use Rattle.std.proofs.lemmas.Bool.Decides.{nat_tests}
 use Rattle.dc_cert.specs.Reading.{certificate_of, document_of as certificate_document_of}
+use Rattle.dc_cert.specs.declared.fault.CertRule.TheVariants.{NotJson}
 use Rattle.dc_cert.specs.declared.fault.Fault.{Fault}
+use Rattle.dc_cert.specs.declared.fault.TextPlace.TheVariants.{Top as TopPlace}
 use Rattle.dc_tables.specs.TableRows.{TableRows}
+use Rattle.dc_parts.specs.declared.fault.Section.TheVariants.{Top}
 use Rattle.dc_parts.specs.declared.fault.TableFault.{TableFault}
+use Rattle.dc_parts.specs.declared.fault.TableRule.TheVariants.{NotToml}
 use Rattle.dc_toml.specs.Reading.{document_of, tables_of}
 use Rattle.dc_toml.specs.declared.read.TheConstants.{TEXT_LIMIT}
-use Rattle.dc_answer.specs.Inputs.{Loads, LoadsCertificate, OnlyBehind, ReadsText, no_document, no_json}
+use Rattle.dc_answer.specs.Inputs.{Loads, LoadsCertificate, OnlyBehind, ReadsText}
 use Rattle.dc_answer.specs.declared.inputs.Unloaded.{Unloaded}
 use Rattle.dc_answer.specs.declared.inputs.Unloaded.TheVariants.{Refused, Failed}
+
+-- the fault of a text that is too long, not UTF-8 or no TOML document
+abbrev pub no_document : TableFault
+no_document = record { rule = NotToml; section = Top; index = 0 }
+
+-- the fault of a text that is too long, not UTF-8 or no JSON document
+abbrev pub no_json : Fault
+no_json = record { rule = NotJson; place = TopPlace }
 
 pub over : (n m : ℕ) → m < n → nat_le n m ≡ false
 over n m h = grind (arith, nat_tests)

@@ -57,13 +57,6 @@ jitter_cap-bounded m j d p g h = omega (arith, jitter_cap-le m j d p)
 
 -- ---- its jumps
 
-pub jitter_cap-first : (m j : ℕ) → 1 ≤ m → (0 < 1) × FlatTo (jitter_cap m j) 0 (1 - 1) × (jitter_cap m j 0 < jitter_cap m j 1)
-jitter_cap-first m j p = (
-  omega arith,
-  (λ k from to. let z : k ≡ 0 = omega arith in ap (jitter_cap m j) z),
-  (let up : 1 ≤ (1 + j + (m - 1)) / m = ceil_from m 1 (1 + j + (m - 1)) p (omega arith) in up),
-)
-
 at_most : (m j c k : ℕ) → 1 ≤ m → k + j ≤ c * m → jitter_cap m j k ≤ c
 at_most m j c zero p h = omega arith
 at_most m j c (suc k) p h = ceil_within m c (suc k + j) p h

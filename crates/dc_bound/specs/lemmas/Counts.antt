@@ -67,12 +67,6 @@ Spaced-count m p (x ∷ xs) u d h =
       ]
     ]
 
-pub Spaced-prefix : (m : ℕ) (xs ys : List (ℕ × ℕ)) → Spaced m (xs ++ ys) → Spaced m xs
-unfolding Spaced
-Spaced-prefix m [] ys h = tt
-Spaced-prefix m (x ∷ []) ys h = tt
-Spaced-prefix m (x ∷ y ∷ xs) ys h = (h.0, Spaced-prefix m (y ∷ xs) ys h.1)
-
 pub both_zero : (a b : ℕ) → a ≡ 0 → min a b ≡ 0
 both_zero a b h = omega arith
 

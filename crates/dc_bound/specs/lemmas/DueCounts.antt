@@ -9,10 +9,6 @@ use Rattle.dc_bound.specs.lemmas.Due.{due_ascend, due_mod, one_some, none_or_at,
 
 -- ---- counting what is closed downwards
 
-count_below-le : (p : ℕ → Bool) (n : ℕ) → count_below p n ≤ n
-count_below-le p zero = omega arith
-count_below-le p (suc n) = let rec = count_below-le p n in elim (p n) as (λ b. count_below p n + cond b 1 0 ≤ suc n) [ true ↦ omega arith | false ↦ omega arith ]
-
 count_below-all : (p : ℕ → Bool) (n : ℕ) → ((k : ℕ) → k < n → p k ≡ true) → count_below p n ≡ n
 count_below-all p zero h = refl
 count_below-all p (suc n) h = let rec = count_below-all p n (λ k l. h k (omega arith)) in let here : p n ≡ true = h n (omega arith) in rw here (omega arith)

@@ -8,8 +8,15 @@ use Rattle.std.proofs.lemmas.Bool.Decides.{nat_tests}
 use Rattle.std.proofs.lemmas.List.Sums.{count_by-le-length, sum_by-cons}
 use Rattle.dc_bound.specs.Places.{count_below}
 use Rattle.dc_bound.specs.lemmas.Counts.{ceil_from}
-use Rattle.dc_bound.specs.Frame.{due_of_entry, IsFrame, due_by_frames, IsDueCount}
-use Rattle.dc_bound.specs.Frame.{due_by}
+use Rattle.dc_bound.specs.Frame.{due_of_entry, IsFrame, due_by}
+
+-- how many entries are due at a tick or before it, from the offsets: whole frames, and the part of the last
+abbrev pub due_by_frames : {E : Type 0} → (E → ℕ) → ℕ → List E → ℕ → ℕ
+due_by_frames off frame es tick = tick / frame * length es + count_by (λ e. nat_le (off e) (tick % frame)) es
+
+-- `count` tells the number of entries due by each tick: entry n is among them where it is due
+abbrev pub IsDueCount : (due count : ℕ → ℕ) → Type 0
+IsDueCount due count = (n t : ℕ) → (n < count t) ↔ (due n ≤ t)
 
 -- a count that tells the same of each entry is the same
 pub same_count : (due a b : ℕ → ℕ) → IsDueCount due a → IsDueCount due b → (t : ℕ) → a t ≡ b t

@@ -1,10 +1,6 @@
 -- The items of a queue: their numbers, ticks and tags.
-use Rattle.std.proofs.Common.{◌≡◌, ℕ, suc, ◌+◌, ◌≤◌, ◌<◌, true, false, eqb, List, [], ◌∷◌, ◌++◌, length, get_or, refl, sym, ap, inl, inr, ◌∙◌, arith, add-zero, add_assoc}
-use Rattle.std.proofs.lemmas.Bool.{cases_eq, eq-eqb, ne_eqb}
-use Rattle.dc_bound.specs.Window.{count_in, ticks_of, within}
-use Rattle.dc_bound.specs.lemmas.Counts.{within_cases}
+use Rattle.std.proofs.Common.{◌≡◌, ℕ, suc, ◌+◌, ◌≤◌, ◌<◌, List, [], ◌∷◌, ◌++◌, length, get_or, refl, sym, ap, ◌∙◌, arith, add-zero, add_assoc}
 use Rattle.dc_bound.specs.Run.{ticks, stamped}
-use Rattle.dc_bound.specs.Tags.{with_tag}
 use Rattle.dc_bound.specs.Moves.{Move, move_ends, tag_of, ticks_in, entries, ins, arrived_tick}
 use Rattle.dc_bound.specs.Moves.Move.{Tick, In, Visit}
 use Rattle.dc_bound.specs.lemmas.QueueTimes.{comes, comes-tick}
@@ -20,29 +16,6 @@ pub record IsWithin (s u d : ℕ) (xs : List (ℕ × ℕ)) (n : ℕ) : Type 0 wh
   pub tag : (entry xs n).1 ≡ s
   pub from : u ≤ (entry xs n).0
   pub to : (entry xs n).0 < u + d
-
-later_entry : (s u d : ℕ) (x : ℕ × ℕ) (xs : List (ℕ × ℕ)) → (n : ℕ) × IsWithin s u d xs n → (n : ℕ) × IsWithin s u d (x ∷ xs) n
-later_entry s u d x xs r = (suc r.0, record { there = omega (arith, r.1.there); tag = r.1.tag; from = r.1.from; to = r.1.to })
-
-pub found_within : (s u d : ℕ) (xs : List (ℕ × ℕ)) → 1 ≤ count_in u d (ticks_of (with_tag s xs)) → (n : ℕ) × IsWithin s u d xs n
-unfolding count_in
-found_within s u d [] h = absurd (omega arith)
-found_within s u d (x ∷ xs) h =
-    elim (cases_eq x.1 s) [
-      | inr other ↦
-          let no' : eqb x.1 s ≡ false = ne_eqb x.1 s other in
-          later_entry s u d x xs (found_within s u d xs (rw no' at h))
-      | inl same ↦
-          let yes' : eqb x.1 s ≡ true = eq-eqb x.1 s same in
-          let g : 1 ≤ within u d x.0 + count_in u d (ticks_of (with_tag s xs)) = rw yes' at h in
-          elim (within_cases u d x.0) [
-            | inl w ↦ (0, record { there = omega arith; tag = same; from = w.0; to = w.1 })
-            | inr v ↦ elim v [
-              | inl w ↦ later_entry s u d x xs (found_within s u d xs (omega (arith, w.1)))
-              | inr w ↦ later_entry s u d x xs (found_within s u d xs (omega (arith, w.1)))
-            ]
-          ]
-    ]
 
 -- ---- the entry of a number
 
@@ -83,13 +56,3 @@ pub record ArrivesWithin (s u d : ℕ) (ms : List Move) (n : ℕ) : Type 0 where
   pub stream : (get_or (ins ms) n (0, 0)).0 ≡ s
   pub from : u ≤ arrived_tick n ms
   pub to : arrived_tick n ms < u + d
-
--- where ticks hold an arrival of the stream, some item of it came in them
-pub arrives_within : (s u d : ℕ) (ms : List Move) → 1 ≤ count_in u d (ticks_of (with_tag s (entries ms))) → (n : ℕ) × ArrivesWithin s u d ms n
-arrives_within s u d ms h =
-    let r = found_within s u d (entries ms) h in
-    let inside : r.0 < length (ins ms) = omega (arith, r.1.there, entries-count ms 0) in
-    let e : entry (entries ms) r.0 ≡ (arrived_tick r.0 ms, (get_or (ins ms) r.0 (0, 0)).0) = entry-arrived ms r.0 inside in
-    let tick_is : (entry (entries ms) r.0).0 ≡ arrived_tick r.0 ms = ap (λ (p : ℕ × ℕ). p.0) e in
-    let tag_is : (entry (entries ms) r.0).1 ≡ (get_or (ins ms) r.0 (0, 0)).0 = ap (λ (p : ℕ × ℕ). p.1) e in
-    (r.0, record { there = inside; stream = sym tag_is ∙ r.1.tag; from = omega (arith, tick_is, r.1.from); to = omega (arith, tick_is, r.1.to) })

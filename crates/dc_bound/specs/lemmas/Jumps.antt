@@ -111,9 +111,6 @@ wire_jump t s (suc e) j some_t some_s some is =
 
 -- ---- the sum of members
 
-pub no_jump : (d : ℕ) → IsNextJump (λ e. 0) d None
-no_jump d = λ k from to. omega arith
-
 sum_grows : {B : Type 0} (cap : B → ℕ → ℕ) → ((b : B) (d e : ℕ) → d ≤ e → cap b d ≤ cap b e) → (bs : List B) → Grows (λ e. sum_by (λ b. cap b e) bs)
 sum_grows cap grows bs d e h = sum_monotone cap grows bs d e h
 

@@ -1,6 +1,5 @@
 -- One number for each stream: the code's rule is the definition of early words.
-use Rattle.std.proofs.Common.{◌≡◌, ℕ, suc, ◌+◌, ◌-◌, ◌*◌, ◌≤◌, ◌<◌, ◌⊎◌, max, Bool, true, false, cond, ltb, List, [], ◌∷◌, ◌++◌, refl, sym, ap, ◌∙◌, subst, arith, inl, inr}
-use Rattle.std.proofs.lemmas.List.{append-nil}
+use Rattle.std.proofs.Common.{◌≡◌, ℕ, suc, ◌+◌, ◌-◌, ◌*◌, ◌≤◌, ◌<◌, ◌⊎◌, max, false, ltb, List, [], ◌∷◌, ◌++◌, refl, sym, ap, ◌∙◌, subst, arith, inl, inr}
 use Rattle.std.proofs.lemmas.Bool.{cases_lt, cases_Bool, lt-ltb, le-ltb}
 use Rattle.std.proofs.Math.Nat.{mul-le-mul_right}
 use Rattle.dc_bound.specs.Window.{count_in}
@@ -10,9 +9,9 @@ use Rattle.dc_bound.specs.lemmas.Budget.{count_in_sum}
 use Rattle.dc_bound.specs.lemmas.Steps.{count_in-push}
 use Rattle.dc_bound.specs.lemmas.Recent.{NoneLater}
 use Rattle.dc_bound.specs.Turns.{NeverFall}
-use Rattle.dc_bound.specs.Early.{jitter_cap, up_to, would_pass, admitted, pace_from, pace_of, let_through}
+use Rattle.dc_bound.specs.Early.{jitter_cap, up_to, would_pass, pace_from, pace_of}
 use Rattle.dc_bound.specs.lemmas.Caps.{ceil_covers, ceil_within}
-use Rattle.dc_bound.specs.lemmas.Earliness.{none_later-push, fits, fits_within, admitted-nil, admitted-push, admitted-none_later, never_fall-last, never_fall-front}
+use Rattle.dc_bound.specs.lemmas.Earliness.{none_later-push, fits, fits_within, never_fall-last, never_fall-front}
 
 -- ---- what the number is
 
@@ -180,25 +179,7 @@ is_pace m some ts =
 pub rule_is : (m j : ℕ) → 1 ≤ m → (ts : List ℕ) → NeverFall ts → (t : ℕ) → NoneLater t ts → would_pass (jitter_cap m j) ts t ≡ ltb (t + j) (pace_of m ts)
 rule_is m j some ts order t none = early-is m j (pace_of m ts) ts t some (is_pace m some ts order t none)
 
--- ---- and of any offered ticks in order: what the number lets through is what is not early
-
-let_through-append : (m j n : ℕ) (xs ys : List ℕ) → let_through m j n (xs ++ ys) ≡ let_through m j n xs ++ let_through m j (pace_from m n (let_through m j n xs)) ys
-let_through-append m j n [] ys = refl
-let_through-append m j n (t ∷ xs) ys =
-    elim (ltb (t + j) n) as
-    (λ b. cond b (let_through m j n (xs ++ ys)) (t ∷ let_through m j (max t n + m) (xs ++ ys))
-    ≡ cond b (let_through m j n xs) (t ∷ let_through m j (max t n + m) xs) ++ let_through m j (pace_from m n (cond b (let_through m j n xs) (t ∷ let_through m j (max t n + m) xs))) ys) [
-      | true ↦ let_through-append m j n xs ys
-      | false ↦ ap (λ l. t ∷ l) (let_through-append m j (max t n + m) xs ys)
-    ]
-
-let_through-push : (m j : ℕ) (ts : List ℕ) (t : ℕ) → let_through m j 0 (ts ++ t ∷ []) ≡ let_through m j 0 ts ++ cond (ltb (t + j) (pace_of m (let_through m j 0 ts))) [] (t ∷ [])
-unfolding pace_of
-let_through-push m j ts t = let_through-append m j 0 ts (t ∷ [])
-
-either_way : (b : Bool) (kept : List ℕ) (t : ℕ) → kept ++ cond b [] (t ∷ []) ≡ cond b kept (kept ++ t ∷ [])
-either_way true kept t = append-nil kept
-either_way false kept t = refl
+-- ---- ticks in order, one more
 
 front_before : (x t : ℕ) (ts : List ℕ) → NoneLater t (x ∷ ts) → x ≤ t
 unfolding count_in
@@ -213,31 +194,3 @@ unfolding NeverFall count_in
 in_order-push [] t order none = tt
 in_order-push (x ∷ []) t order none = (front_before x t [] none, tt)
 in_order-push (x ∷ y ∷ ts) t order none = (order.0, in_order-push (y ∷ ts) t order.1 (λ u d late. omega (arith, none u d late)))
-
--- what is kept is in order
-pub admitted-in_order : (cap : ℕ → ℕ) (ts : List ℕ) → NeverFall ts → NeverFall (admitted cap ts)
-admitted-in_order cap ts =
-    let P : List ℕ → Type 0 = λ ts. NeverFall ts → NeverFall (admitted cap ts) in
-    snoc_induction P (λ order. rw (admitted-nil cap) order) (λ ts t h order.
-    let rest = h (never_fall-front ts (t ∷ []) order) in
-    let none = admitted-none_later cap t ts (never_fall-last ts t order) in
-    rw (admitted-push cap ts t) (elim (would_pass cap (admitted cap ts) t) as (λ b. NeverFall (cond b (admitted cap ts) (admitted cap ts ++ t ∷ []))) [
-      | true ↦ rest
-      | false ↦ in_order-push (admitted cap ts) t rest none
-    ])) ts
-
-pub rule-admits : (m j : ℕ) → 1 ≤ m → (ts : List ℕ) → NeverFall ts → let_through m j 0 ts ≡ admitted (jitter_cap m j) ts
-rule-admits m j some ts =
-    let P : List ℕ → Type 0 = λ ts. NeverFall ts → let_through m j 0 ts ≡ admitted (jitter_cap m j) ts in
-    snoc_induction P (λ order. sym (admitted-nil (jitter_cap m j))) (λ ts t h order.
-    let kept : List ℕ = admitted (jitter_cap m j) ts in
-    let front = never_fall-front ts (t ∷ []) order in
-    let same : let_through m j 0 ts ≡ admitted (jitter_cap m j) ts = h front in
-    let none = admitted-none_later (jitter_cap m j) t ts (never_fall-last ts t order) in
-    let rule : ltb (t + j) (pace_of m (admitted (jitter_cap m j) ts)) ≡ would_pass (jitter_cap m j) (admitted (jitter_cap m j) ts) t =
-    sym (rule_is m j some (admitted (jitter_cap m j) ts) (admitted-in_order (jitter_cap m j) ts front) t none) in
-    let_through-push m j ts t
-    ∙ ap (λ (l : List ℕ). l ++ cond (ltb (t + j) (pace_of m l)) [] (t ∷ [])) same
-    ∙ ap (λ (b : Bool). admitted (jitter_cap m j) ts ++ cond b [] (t ∷ [])) rule
-    ∙ either_way (would_pass (jitter_cap m j) (admitted (jitter_cap m j) ts) t) (admitted (jitter_cap m j) ts) t
-    ∙ sym (admitted-push (jitter_cap m j) ts t)) ts

@@ -4,10 +4,9 @@ use Rattle.std.proofs.lemmas.List.{take_all, append-nil, take_more, get_or_appen
 use Rattle.std.proofs.lemmas.Bool.{ltb-false, lt-ltb, le-ltb, false≢true, le-leb, lt-leb}
 use Rattle.std.proofs.lemmas.Bool.Decides.{nat_tests}
 use Rattle.dc_bound.specs.Places.{served_in, or_else, when, first_place, last_below}
-use Rattle.dc_bound.specs.Run.{ticks, picks, one_if}
-use Rattle.dc_bound.specs.Moves.{Move, move_ends, visit_of, ticks_in, visits, ins, passed, is_overfull, latch, before, entered, taken, routed_tick, latest_number, latest_by}
+use Rattle.dc_bound.specs.Run.{picks, one_if}
+use Rattle.dc_bound.specs.Moves.{Move, visit_of, ticks_in, visits, ins, passed, is_overfull, latch, before, entered, taken, routed_tick, latest_number, latest_by}
 use Rattle.dc_bound.specs.Moves.Move.{Tick, In, Visit}
-use Rattle.dc_bound.specs.lemmas.Segments.{ticks-append}
 use Rattle.dc_bound.specs.lemmas.Queued.{ins-append, visits-append}
 use Rattle.dc_bound.specs.lemmas.PlacesPush.{least-same, served-push, first_place-push, take_before_last, served-le, first_place-none_now, first_place-none_earlier, first_place-bound, last_below-same}
 use Rattle.dc_bound.specs.lemmas.FirstPlaces.{first_place-none}
@@ -27,10 +26,6 @@ ins-push ms Visit = ins-append ms (Visit ∷ [])
 pub visits-push : (ms : List Move) (m : Move) → visits (ms ++ m ∷ []) ≡ visits ms + one_if (visit_of m)
 unfolding picks
 visits-push ms m = omega (arith, visits-append ms (m ∷ []))
-
-pub ticks_in-push : (ms : List Move) (m : Move) → ticks_in (ms ++ m ∷ []) ≡ ticks_in ms + move_ends m
-unfolding ticks
-ticks_in-push ms m = omega (arith, ticks-append move_ends visit_of ms (m ∷ []))
 
 pub visits-rises : (ms : List Move) (j : ℕ) → visits (take j ms) ≤ visits ms
 visits-rises ms j = omega (arith, visits-append (take j ms) (drop j ms), ap visits (take-append-drop j ms))

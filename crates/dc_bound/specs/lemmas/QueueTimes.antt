@@ -9,7 +9,7 @@ use Rattle.dc_bound.specs.Moves.Move.{Tick, In, Visit}
 use Rattle.dc_bound.specs.lemmas.Segments.{ticks-append}
 use Rattle.dc_bound.specs.lemmas.Least.{served_in-le}
 use Rattle.dc_bound.specs.lemmas.Queued.{ins-append, passed-le}
-use Rattle.dc_bound.specs.KeepsUp.{NeverFull, HandsOn, KeepsUp}
+use Rattle.dc_bound.specs.lemmas.KeepsUp.{NeverFull, HandsOn, KeepsUp}
 use Rattle.dc_bound.specs.lemmas.FirstPlaces.{IsFirstPlace, first_place-none, first_place-found}
 
 -- ---- cuts
@@ -173,13 +173,6 @@ more_taken room n past = ltb n (taken room past)
 routed-is_first : (room n : ℕ) (ms : List Move) → routed_tick room n ms ≡ first_tick (more_taken room n) ms
 unfolding routed_tick first_tick more_taken
 routed-is_first room n ms = refl
-
--- ticks in which items are taken rise
-pub routed-rises : (room i j : ℕ) (ms : List Move) → i ≤ j → j < taken room ms → routed_tick room i ms ≤ routed_tick room j ms
-unfolding more_taken
-routed-rises room i j ms h k =
-    let le = first_tick-le (more_taken room j) (more_taken room i) ms (λ l b p. lt-ltb i (taken room (take l ms)) (omega (arith, ltb-true j (taken room (take l ms)) p))) (lt-ltb j (taken room ms) k) in
-    omega (arith, le, routed-is_first room i ms, routed-is_first room j ms)
 
 passed-le_came : (ms : List Move) → passed ms ≤ length (ins ms)
 unfolding picks

@@ -3,7 +3,7 @@ use Rattle.std.proofs.Common.{◌≡◌, ℕ, ◌+◌, ◌≤◌, List, [], ◌�
 use Rattle.dc_bound.specs.Run.{ticks, picks, stamped}
 use Rattle.dc_bound.specs.Window.{ticks_of}
 use Rattle.dc_bound.specs.lemmas.Steps.{stamped-append, ticks_of-append}
-use Rattle.dc_bound.specs.Moves.{Move, move_ends, tag_of, visit_of, ticks_in, entries, visit_ticks, visits, ins, passed}
+use Rattle.dc_bound.specs.Moves.{Move, move_ends, tag_of, visit_of, ticks_in, visit_ticks, visits, ins, passed}
 use Rattle.dc_bound.specs.Moves.Move.{Tick, In, Visit}
 use Rattle.dc_bound.specs.lemmas.Segments.{picks-append}
 use Rattle.dc_bound.specs.lemmas.Least.{served_in-le, le-served_in}
@@ -42,6 +42,3 @@ pub visit_ticks-push : (ms more : List Move) → visit_ticks (ms ++ more) ≡ vi
 visit_ticks-push ms more =
     ap ticks_of (stamped-append move_ends visit_of 0 ms more) ∙ ticks_of-append (stamped move_ends visit_of 0 ms) (stamped move_ends visit_of (0 + ticks move_ends ms) more)
     ∙ ap (λ k. ticks_of (stamped move_ends visit_of 0 ms) ++ ticks_of (stamped move_ends visit_of k more)) (zero-add (ticks move_ends ms))
-
-pub entries-push : (ms more : List Move) → entries (ms ++ more) ≡ entries ms ++ stamped move_ends tag_of (ticks_in ms) more
-entries-push ms more = stamped-append move_ends tag_of 0 ms more ∙ ap (λ k. stamped move_ends tag_of 0 ms ++ stamped move_ends tag_of k more) (zero-add (ticks move_ends ms))

@@ -14,8 +14,8 @@ use Rattle.dc_bound.specs.Rounds.{among, greatest_to}
 use Rattle.dc_bound.specs.lemmas.Cycle.{most_holds, most_mono}
 use Rattle.dc_bound.specs.Frame.{due, IsDue, entries_at, Offsets, IsLeastSpan}
 use Rattle.dc_bound.specs.lemmas.Due.{due_ascend, due_most}
-use Rattle.dc_bound.specs.Frame.{IsFrame, IsDueCount, due_by_frames}
-use Rattle.dc_bound.specs.lemmas.Dues.{due_by_frames-is}
+use Rattle.dc_bound.specs.Frame.{IsFrame}
+use Rattle.dc_bound.specs.lemmas.Dues.{IsDueCount, due_by_frames, due_by_frames-is}
 use Rattle.dc_bound.specs.Frame.{cyclic_cap}
 
 -- ---- one more tick

@@ -1,7 +1,7 @@
 -- Budgets and spacings when one event is added to a run.
 use Rattle.std.proofs.Common.{◌≡◌, ℕ, suc, ◌+◌, ◌-◌, ◌≤◌, ◌<◌, ◌↔◌, List, [], ◌∷◌, ◌++◌, Option, Some, None, refl, sym, ap, ◌∙◌, arith, inl, inr, add-zero, add_assoc, length}
 use Rattle.std.proofs.lemmas.Bool.{cases_lt}
-use Rattle.dc_bound.specs.Window.{count_in, ticks_of, within, Spaced, HoldAtLeast, HoldAtMost}
+use Rattle.dc_bound.specs.Window.{count_in, ticks_of, within, HoldAtLeast, HoldAtMost}
 use Rattle.dc_bound.specs.Run.{ticks, picks, stamp, stamped}
 use Rattle.dc_bound.specs.lemmas.Counts.{within_cases}
 
@@ -74,12 +74,3 @@ most_step most ts t = (
     | inr v ↦ elim v [ inl w ↦ omega (arith, h.0 u, count_in-push u 1 ts t) | inr w ↦ omega (arith, h.0 u, count_in-push u 1 ts t) ]
   ]),
 )
-
--- one more entry, after a last one
-pub Spaced-push : (m : ℕ) (xs : List (ℕ × ℕ)) (x y : ℕ × ℕ) → Spaced m ((xs ++ (x ∷ [])) ++ (y ∷ [])) ↔ (Spaced m (xs ++ (x ∷ [])) × (x.0 + m ≤ y.0))
-unfolding Spaced
-Spaced-push m [] x y = ((λ h. (tt, h.0)), (λ h. (h.1, tt)))
-Spaced-push m (z ∷ []) x y = ((λ h. ((h.0, tt), h.1.0)), (λ h. (h.0.0, (h.1, tt))))
-Spaced-push m (z ∷ w ∷ xs) x y =
-    let rest = Spaced-push m (w ∷ xs) x y in
-    ((λ h. let r = rest.0 h.1 in ((h.0, r.0), r.1)), (λ h. (h.0.0, rest.1 (h.0.1, h.1))))

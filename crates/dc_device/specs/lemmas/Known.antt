@@ -1,14 +1,8 @@
 -- Lemmas on known bytes: what was written and read, in one step after another.
-use Rattle.std.proofs.Common.{◌≡◌, ℕ, List, [], ◌++◌, sym, ◌∙◌, ap, append_assoc, append-nil, Option, None, Some, Result, Ok, Err, subst, take, drop, take-append-drop}
-use Rattle.std.proofs.KnownBytes.{Appends-nil, Appends-trans}
-use Rattle.std.specs.Io.KnownBytes.{Appends, Keeps}
+use Rattle.std.proofs.Common.{◌≡◌, ℕ, List, [], ◌++◌, sym, ◌∙◌, ap, append_assoc, append-nil, Option, Result, Ok, Err, subst, take, drop, take-append-drop}
+use Rattle.std.proofs.KnownBytes.{Appends-trans}
+use Rattle.std.specs.Io.KnownBytes.{Appends}
 use Rattle.dc_device.specs.Bytes.{AppendsFront, Gathered, Gathers, Writes}
-
-pub Appends-kept : (r s t : Option (List ℕ)) (xs : List ℕ) → Appends r s xs → Keeps s t → Appends r t xs
-Appends-kept None s t xs p q = tt
-Appends-kept (Some x) None t xs p q = absurd p
-Appends-kept (Some x) (Some y) None xs p q = absurd q
-Appends-kept (Some x) (Some y) (Some z) xs p q = q ∙ p
 
 -- a front of some bytes is a front of more bytes
 pub front_more : (r s : Option (List ℕ)) (xs ys : List ℕ) → AppendsFront r s xs → AppendsFront r s (xs ++ ys)
@@ -19,10 +13,6 @@ pub front_after : (r s t : Option (List ℕ)) (xs ys : List ℕ) → Appends r s
 front_after r s t xs ys p (front, back, whole, q) =
     (xs ++ front, back, append_assoc xs front back ∙ ap (λ l. xs ++ l) whole, Appends-trans r s t xs front p q)
 
--- all of the bytes are a front of them
-pub front_all : (r s : Option (List ℕ)) (xs : List ℕ) → Appends r s xs → AppendsFront r s xs
-front_all r s xs p = (xs, [], append-nil xs, p)
-
 -- one more push of a slice's front
 pub push_more : (r s t : Option (List ℕ)) (front rest all : List ℕ) (n : ℕ) → front ++ rest ≡ all → Appends r s front → Appends s t (take n rest)
     → (done : List ℕ) × (done ++ drop n rest ≡ all) × Appends r t done
@@ -31,16 +21,6 @@ push_more r s t front rest all n whole p q = (
   append_assoc front (take n rest) (drop n rest) ∙ ap (λ l. front ++ l) (take-append-drop n rest) ∙ whole,
   Appends-trans r s t front (take n rest) p q,
 )
-
--- bytes were put after what waits
-pub put_behind : (r : Option (List ℕ)) (old new bytes : List ℕ) → new ≡ old ++ bytes → Gathered r old r new bytes
-put_behind r old new bytes e = ([], Appends-nil r, e)
-
--- what waited was pushed, and then bytes were put
-pub pushed_then_put : (r s : Option (List ℕ)) (old mid empty new bytes : List ℕ) → mid ≡ old → Appends r s mid → empty ≡ [] → new ≡ empty ++ bytes
-    → Gathered r old s new bytes
-pushed_then_put r s old mid empty new bytes same p e q =
-    (mid, p, ap (λ l. mid ++ l) (q ∙ ap (λ l. l ++ bytes) e) ∙ ap (λ l. l ++ bytes) same)
 
 -- what waited was pushed, and then bytes, and nothing waits
 pub pushed_then_pushed : {T E : Type 0} (r s t : Option (List ℕ)) (old mid empty new bytes : List ℕ) (result : Result T E) → mid ≡ old → Appends r s mid

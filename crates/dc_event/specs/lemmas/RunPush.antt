@@ -49,10 +49,6 @@ module _ (pick : Event → Option ℕ) where
   pub steps-rise : (run : List Event) (j : ℕ) → picks pick (take j run) ≤ picks pick run
   steps-rise run j = omega (arith, picks-append ends pick (take j run) (drop j run), ap (picks pick) (take-append-drop j run))
 
-  -- the ticks of the picked events
-  pub step_ticks : List Event → List ℕ
-  step_ticks run = ticks_of (stamped ends pick 0 run)
-
   last_stamp : (t : ℕ) (e : Event) → stamped ends pick t (e ∷ []) ≡ stamp t (pick e) []
   unfolding stamped
   last_stamp t e = refl

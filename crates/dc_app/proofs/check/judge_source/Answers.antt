@@ -2,7 +2,7 @@ use Rattle.dc_app.proofs.Checking.{read_judged, unread_judged}
 use Rattle.dc_app.proofs.check.judge_source.Goals as goal
 
 pub returns-in-Ok-clause-answer : goal.returns-in-Ok-clause-answer
-returns-in-Ok-clause-answer g c = read_judged _ _ _ _ _ c.in-Ok.ensures.certificate c.judge.ensures
+returns-in-Ok-clause-answer g c = read_judged _ _ _ _ _ c.in-Ok.ensures.certificate c.judge.ensures.answer
 
 pub returns-in-Err-Refused-clause-answer : goal.returns-in-Err-Refused-clause-answer
 returns-in-Err-Refused-clause-answer g c =

@@ -5,10 +5,10 @@ use Rattle.dc_app.proofs.Checking.{both_judged, refused_judged}
 use Rattle.dc_app.proofs.check.judge_sources.Goals as goal
 
 pub returns-in-Ok-clause-answer : goal.returns-in-Ok-clause-answer
-returns-in-Ok-clause-answer g c = λ rows text e f. both_judged c.in-Ok.tables _ _ rows text _ _ e f c.in-Ok.ensures.tables c.judge_source.ensures.answer
+returns-in-Ok-clause-answer g c = λ rows text e f. both_judged c.in-Ok.tables _ _ rows text _ _ e f c.in-Ok.ensures.tables c.judge_for.ensures.answer
 
 pub returns-in-Ok-clause-source : goal.returns-in-Ok-clause-source
-returns-in-Ok-clause-source g c = both_raised _ _ _ _ c.judge_source.result c.in-Ok.ensures.count c.judge_source.ensures.source
+returns-in-Ok-clause-source g c = both_raised _ _ _ _ c.judge_for.result c.in-Ok.ensures.count c.judge_for.ensures.source
 
 pub returns-in-Err-Refused-clause-answer : goal.returns-in-Err-Refused-clause-answer
 returns-in-Err-Refused-clause-answer g c = λ rows text e f.
