@@ -8,6 +8,7 @@ ghost use Rattle.dc_drive.specs.Played.{AreOfHub};
 ghost use Rattle.dc_hub.specs.Entries.{events as events_in};
 ghost use Rattle.dc_script.specs.declared.limits.TheConstants.{LONGEST_SCRIPT};
 ghost use Rattle.dc_print.specs.declared.text.TheConstants.{TEXT_CAPACITY};
+ghost use Rattle.dc_hub.specs.declared.limits.TheConstants.{MOST_ACTORS};
 
 use dc_answer::{Failure, Outcome};
 use dc_app::{NoThread, append_claims};
@@ -203,7 +204,7 @@ fn run_hub<L: Ledger + Send + Sync, R: Threads + Wait + Sync>(
 ) -> Result<Result<Outcome, Failure>, NoThread>
     requires name { blank.name ≡ L.name }
     requires parts { blank.parts ≡ L.parts }
-    requires enough { 161 ≤ blank.parts }
+    requires enough { MOST_ACTORS ≤ blank.parts }
     ensures answer { IfOk result (Judged (AnswersRun script.now.ticks) text.new.items) }
     ensures memory { IfOk result (λ judged. IfErr judged (λ e. e ≡ Failure.Memory)) }
 {
