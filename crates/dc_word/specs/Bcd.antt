@@ -1,4 +1,4 @@
--- Data of five decimal digits (ARINC Specification 429 Part 1, 2.3.1.1).
+-- Data of five decimal digits.
 use Rattle.std.specs.Prelude.{ℕ, ◌+◌, ◌-◌, ◌*◌, ◌/◌, ◌%◌, ◌^◌, nat_lt, if◌then◌else◌, Result, Ok, Err}
 use Rattle.dc_word.specs.Word.{data_of}
 use Rattle.dc_word.specs.declared.word.DigitPlace.{DigitPlace}

@@ -16,7 +16,7 @@ label_of w = reversed w
 abbrev pub sdi_of : ℕ → ℕ
 sdi_of w = w / 2 ^ 8 % 2 ^ 2
 
--- the data: bits 11 to 29 (ARINC Specification 429 Part 1, 2.1.2)
+-- the data: bits 11 to 29
 abbrev pub data_of : ℕ → ℕ
 data_of w = w / 2 ^ 10 % 2 ^ 19
 
@@ -37,7 +37,7 @@ is_odd w = ones_in 32 w % 2 == 1
 abbrev pub IsOddParity : ℕ → Type 0
 IsOddParity w = ones_in 32 w % 2 ≡ 1
 
--- the data as a number in two's complement, its sign in bit 29 (ARINC Specification 429 Part 1, 2.3.1.1)
+-- the data as a number in two's complement, its sign in bit 29
 unfoldable pub bnr_of : ℕ → ℤ
 bnr_of w = if nat_lt (data_of w) (2 ^ 18) then pos (data_of w) else negsuc (2 ^ 19 - 1 - data_of w)
 
