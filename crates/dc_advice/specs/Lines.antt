@@ -46,7 +46,7 @@ abbrev pub decider_text : TableRows → Decider → List ℕ
 decider_text t Numbers = codes "-"
 decider_text t (Window w) = codes "window=" ++ decimal w
 decider_text t (Gap g) = codes "gap=" ++ decimal g
-decider_text t (Source s) = codes "source=" ++ name_at t.keys.streams s
+decider_text t (Source s) = codes "source=" ++ name_at t.names.streams s
 
 abbrev pub by_text : TableRows → Option Margin → List ℕ
 by_text t None = codes "-"

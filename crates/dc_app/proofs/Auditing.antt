@@ -14,7 +14,7 @@ use Rattle.dc_event.specs.declared.trace.TraceFault.{TraceFault}
 use Rattle.dc_parts.specs.FaultText.{table_fault_text}
 use Rattle.dc_parts.specs.declared.fault.BuildError.TheVariants.{Refused as RefusedTables}
 use Rattle.dc_parts.specs.declared.fault.TableFault.{TableFault}
-use Rattle.dc_tables.specs.Keyed.{AreKeyed}
+use Rattle.dc_tables.specs.Named.{HaveNames}
 use Rattle.dc_tables.specs.TableRows.{TableRows}
 use Rattle.dc_toml.specs.Reading.{tables_of}
 use Rattle.dc_answer.specs.Answer.{Answer, fault_text, one_line}
@@ -39,7 +39,7 @@ found_judged t ages run f text outcome found same is = (answer_findings f, (f, f
 
 module _ (t : TableRows) (ages : List ℕ) (events : Option (List ℕ)) where
   -- it was read, and judged
-  pub run_judged : (run items : List Event) (text : List ℕ) (result : Result Outcome Failure) → AreKeyed t → items ≡ run → IfSome events (λ trace. run_of t trace ≡ Ok run)
+  pub run_judged : (run items : List Event) (text : List ℕ) (result : Result Outcome Failure) → HaveNames t → items ≡ run → IfSome events (λ trace. run_of t trace ≡ Ok run)
       → (IsRun t items → Judged (λ answer. AnswersRun t ages answer (Ok items)) text result) → IfSome events (λ trace. Judged (λ answer. AnswersRun t ages answer (run_of t trace)) text result)
   run_judged run items text result keyed same reported judged = by events reported where
     by : (from : Option (List ℕ)) → IfSome from (λ trace. run_of t trace ≡ Ok run) → IfSome from (λ trace. Judged (λ answer. AnswersRun t ages answer (run_of t trace)) text result)

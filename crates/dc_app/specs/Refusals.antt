@@ -39,14 +39,14 @@ StopsBy stop (Err Memory) = ⊥
 
 abbrev pub actor_name : TableRows → Actor → List ℕ
 actor_name t (Wire b) = []
-actor_name t (Router r) = name_at t.keys.routers r
-actor_name t (Output o) = name_at t.keys.outputs o
+actor_name t (Router r) = name_at t.names.routers r
+actor_name t (Output o) = name_at t.names.outputs o
 actor_name t Clock = []
 
 -- the actor that an event is refused for, after a space
 abbrev pub culprit_text : TableRows → StepFault → Event → List ℕ
-culprit_text t Spent (Route r) = codes " " ++ name_at t.keys.routers r
-culprit_text t TooSoon (Send o) = codes " " ++ name_at t.keys.outputs o
+culprit_text t Spent (Route r) = codes " " ++ name_at t.names.routers r
+culprit_text t TooSoon (Send o) = codes " " ++ name_at t.names.outputs o
 culprit_text t (Owed a) e = codes " " ++ actor_name t a
 culprit_text t _ e = []
 

@@ -154,7 +154,7 @@ fn audit_trace<S: Source>(
     ensures asks { AsksUpTo TRACE_LIMIT (S.asked trace.old) (S.asked trace.new) (S.dry trace.old) (S.dry trace.new) }
     ensures sink { IfErr result (λ e. e ≢ Failure.Sink) }
 {
-    tables.keyed();
+    tables.named();
     match load_run(alloc, tables, trace) {
         Ok(run) => audit_run(alloc, tables, certificate, run.as_slice(), text),
         Err(Unloaded::Refused(fault)) => {

@@ -16,10 +16,10 @@ use dc_word::Word;
 
 // The text of a bus's name.
 fn bus_text(tables: &Tables, bus: usize) -> &[u8]
-    ensures text { result.now ≡ name_at tables.now.keys.buses bus }
+    ensures text { result.now ≡ name_at tables.now.names.buses bus }
     ensures short { length result.now ≤ NAME_LIMIT }
 {
-    tables.keyed();
+    tables.named();
     if bus < tables.bus_count() {
         tables.bus_name(bus).text()
     } else {
@@ -29,10 +29,10 @@ fn bus_text(tables: &Tables, bus: usize) -> &[u8]
 
 // The text of a router's name.
 fn router_text(tables: &Tables, router: usize) -> &[u8]
-    ensures text { result.now ≡ name_at tables.now.keys.routers router }
+    ensures text { result.now ≡ name_at tables.now.names.routers router }
     ensures short { length result.now ≤ NAME_LIMIT }
 {
-    tables.keyed();
+    tables.named();
     if router < tables.router_count() {
         tables.router_name(router).text()
     } else {
@@ -42,10 +42,10 @@ fn router_text(tables: &Tables, router: usize) -> &[u8]
 
 // The text of an output's name.
 fn output_text(tables: &Tables, output: usize) -> &[u8]
-    ensures text { result.now ≡ name_at tables.now.keys.outputs output }
+    ensures text { result.now ≡ name_at tables.now.names.outputs output }
     ensures short { length result.now ≤ NAME_LIMIT }
 {
-    tables.keyed();
+    tables.named();
     if output < tables.output_count() {
         tables.output_name(output).text()
     } else {

@@ -4,6 +4,7 @@ use Rattle.std.specs.List.{All}
 use Rattle.std.proofs.lemmas.List.{get_or-take, get_or-drop, length-take, length-drop}
 use Rattle.std.proofs.lemmas.List.Elements.{All-append, All-same, All-nil, All-cons, All-weaker}
 use Rattle.std.proofs.lemmas.Bool.{cases_Bool}
+use Rattle.dc_word.specs.declared.format.Format.TheVariants.{Bnr}
 use Rattle.dc_bound.specs.Early.{jitter_cap, HoldsCap}
 use Rattle.dc_bound.specs.lemmas.Counts.{wire_holds, both_holds}
 use Rattle.dc_bound.specs.lemmas.Cycle.{fewest_visits_zero}
@@ -120,17 +121,17 @@ module _ (t : TableRows) (valid : AreValid t) (b : ℕ) (there : b < length t.bu
 
   pub moves-allowed : (run : List Event) → KeepsSources t run → BusAllows t b (entries (moves t b run))
   moves-allowed run keeps =
-      let none : Stream = record { bus = 0; label = 0; sdi = None; minimum = 0; maximum = 0; jitter = 0 } in
+      let none : Stream = record { bus = 0; label = 0; sdi = None; format = Bnr; minimum = 0; maximum = 0; jitter = 0 } in
       let first : ℕ = (bus_row t b).first in (
         record {
           from = All-weaker (λ e. IsStreamOf t b e.1) (λ e. (bus_row t b).first ≤ e.1) (λ e h. (valid.streams_of_bus b e.1 there h.0 h.1).0) (bus_arrivals t b run) (tags t b run);
           below = All-weaker (λ e. IsStreamOf t b e.1) (λ e. e.1 < (bus_row t b).first + length (bus_streams t b)) (λ e h. omega (arith, (valid.streams_of_bus b e.1 there h.0 h.1).1, streams_count)) (bus_arrivals t b run) (tags t b run);
-          each = each_allows (bus_row t b).first (bus_streams t b) (bus_arrivals t b run) (record { bus = 0; label = 0; sdi = None; minimum = 0; maximum = 0; jitter = 0 }) (λ k l.
+          each = each_allows (bus_row t b).first (bus_streams t b) (bus_arrivals t b run) (record { bus = 0; label = 0; sdi = None; format = Bnr; minimum = 0; maximum = 0; jitter = 0 }) (λ k l.
               let inside : k < (bus_row t b).streams = omega (arith, streams_count) in
               let s_there : (bus_row t b).first + k < length t.streams = omega (arith, valid.streams_there b there) in
-              let row : get_or (bus_streams t b) k (record { bus = 0; label = 0; sdi = None; minimum = 0; maximum = 0; jitter = 0 }) ≡ stream_row t ((bus_row t b).first + k) =
-              get_or-take (bus_row t b).streams (drop (bus_row t b).first t.streams) k (record { bus = 0; label = 0; sdi = None; minimum = 0; maximum = 0; jitter = 0 }) inside
-              ∙ get_or-drop (bus_row t b).first t.streams k (record { bus = 0; label = 0; sdi = None; minimum = 0; maximum = 0; jitter = 0 }) in
+              let row : get_or (bus_streams t b) k (record { bus = 0; label = 0; sdi = None; format = Bnr; minimum = 0; maximum = 0; jitter = 0 }) ≡ stream_row t ((bus_row t b).first + k) =
+              get_or-take (bus_row t b).streams (drop (bus_row t b).first t.streams) k (record { bus = 0; label = 0; sdi = None; format = Bnr; minimum = 0; maximum = 0; jitter = 0 }) inside
+              ∙ get_or-drop (bus_row t b).first t.streams k (record { bus = 0; label = 0; sdi = None; format = Bnr; minimum = 0; maximum = 0; jitter = 0 }) in
               let bus : (stream_row t ((bus_row t b).first + k)).bus ≡ b = valid.bus_of_streams b ((bus_row t b).first + k) there (omega arith) (omega arith) in
               let P : Stream → Type 0 = λ row. StreamAllows row (with_tag ((bus_row t b).first + k) (bus_arrivals t b run)) in
               let Q : ℕ → Type 0 = λ a. HoldsCap (cap_of t ((bus_row t b).first + k)) (ticks_of (with_tag ((bus_row t b).first + k) (bus_arrivals t a run))) in

@@ -57,6 +57,11 @@ visits_on_buses zero zero h = lit≤ tt
 visits_on_buses zero (suc n) h = lit≤ tt
 visits_on_buses (suc r) n h = absurd (omega arith)
 
+sources_alike : (x k : ℕ) → x < 1 → k < length (label_row small_tables x).sources → (stream_row small_tables (slice_index (label_row small_tables x).sources k)).format ≡ (label_row small_tables x).format
+sources_alike zero zero h l = refl
+sources_alike zero (suc k) h l = absurd (omega arith)
+sources_alike (suc x) k h l = absurd (omega arith)
+
 streams_apart : (s u : ℕ) → u < s → s < 2 → (stream_row small_tables s).bus ≡ (stream_row small_tables u).bus → (stream_row small_tables s).label ≡ (stream_row small_tables u).label → sdis_meet (stream_row small_tables s).sdi (stream_row small_tables u).sdi ≡ false
 streams_apart zero u h k bus label = absurd (omega arith)
 streams_apart (suc zero) zero h k bus label = let same : 132 ≡ 131 = label in absurd (omega (arith, same))
@@ -157,6 +162,7 @@ small_valid = record {
   few_sources = only_first _ (lit≤ tt);
   sources_once = sources_once;
   sources_there = sources_there;
+  sources_alike = sources_alike;
   stales = only_first _ (lit≤ tt, lit≤ tt);
   limits = only_first _ (lit≤ tt, lit≤ tt);
   intervals = only_first _ (lit≤ tt);

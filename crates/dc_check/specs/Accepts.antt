@@ -86,9 +86,9 @@ pub record IsNamed (count : ℕ) (names keys : List (List ℕ)) : Type 0 where
 
 -- the certificate's parts are the tables' buses, outputs and labels
 pub record AreNamed (t : TableRows) (claims : NamedRows) : Type 0 where
-  pub inputs : IsNamed (length t.buses) (map (λ i. i.bus) claims.inputs) t.keys.buses
-  pub outputs : IsNamed (length t.outputs) (map (λ o. o.output) claims.outputs) t.keys.outputs
-  pub labels : IsNamed (length t.labels) (map (λ l. l.label) claims.labels) t.keys.labels
+  pub inputs : IsNamed (length t.buses) (map (λ i. i.bus) claims.inputs) t.names.buses
+  pub outputs : IsNamed (length t.outputs) (map (λ o. o.output) claims.outputs) t.names.outputs
+  pub labels : IsNamed (length t.labels) (map (λ l. l.label) claims.labels) t.names.labels
 
 -- the certificate is accepted for the tables
 pub record Accepts (t : TableRows) (claims : NamedRows) : Type 0 where

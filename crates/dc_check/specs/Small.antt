@@ -6,40 +6,27 @@ use Rattle.dc_event.specs.Emissions.{emission}
 use Rattle.dc_event.specs.declared.event.Event.{Event}
 use Rattle.dc_event.specs.declared.event.Event.TheVariants.{Tick, Arrive, Route, Send}
 use Rattle.dc_parts.specs.Names.{padded}
-use Rattle.dc_tables.specs.TableKeys.{TableKeys}
+use Rattle.dc_tables.specs.TableNames.{TableNames}
 use Rattle.dc_tables.specs.TableRows.{TableRows}
-use Rattle.dc_parts.specs.declared.parts.Speed.TheVariants.{High}
 use Rattle.dc_tables.specs.declared.rows.Stream.{Stream}
 use Rattle.dc_tables.specs.declared.rows.Router.{Router}
 use Rattle.dc_tables.specs.declared.rows.Output.{Output}
 use Rattle.dc_tables.specs.declared.rows.OutputLabel.{OutputLabel}
 use Rattle.dc_word.specs.declared.format.Format.TheVariants.{Bnr}
 
--- the names A; A-203 and A-204; R1; O; x, and what else their text says
-abbrev pub small_keys : TableKeys
-small_keys = record {
+-- the names A; A-203 and A-204; R1; O; x
+abbrev pub small_names : TableNames
+small_names = record {
   buses = padded (65 ∷ []) ∷ [];
   streams = padded (65 ∷ 45 ∷ 50 ∷ 48 ∷ 51 ∷ []) ∷ padded (65 ∷ 45 ∷ 50 ∷ 48 ∷ 52 ∷ []) ∷ [];
   routers = padded (82 ∷ 49 ∷ []) ∷ [];
   outputs = padded (79 ∷ []) ∷ [];
   labels = padded (120 ∷ []) ∷ [];
-  parameters =
-      record { label = 131; equipment = 1; format = Bnr; min_us = 10000; max_us = 20000 }
-      ∷ record { label = 132; equipment = 1; format = Bnr; min_us = 10000; max_us = 20000 }
-      ∷ [];
-  written = record {
-    bus_speeds = High ∷ [];
-    output_speeds = High ∷ [];
-    stream_equipment = 1 ∷ 1 ∷ [];
-    stream_jitters = 0 ∷ 0 ∷ [];
-    label_equipment = 1 ∷ [];
-    label_offsets = (0 ∷ []) ∷ [];
-  };
 }
 
 -- a stream of bus A with this label, at least 10 ticks of a millisecond between its words
 abbrev pub small_stream : ℕ → Stream
-small_stream label = record { bus = 0; label = label; sdi = None; minimum = 10; maximum = 20; jitter = 0 }
+small_stream label = record { bus = 0; label = label; sdi = None; format = Bnr; minimum = 10; maximum = 20; jitter = 0 }
 
 -- router R, which visits bus A; output O, which sends label x every 15 ticks; label x, with the first stream as its source
 abbrev pub small_router : Router
@@ -60,7 +47,7 @@ small_tables = record {
   routers = small_router ∷ [];
   outputs = small_output ∷ [];
   labels = small_label ∷ [];
-  keys = small_keys;
+  names = small_names;
 }
 
 -- their certificate, with this age of label x

@@ -73,9 +73,9 @@ is_named count names keys = length names == count && pointwise bytes_eq names (m
 -- the rules on names
 abbrev pub name_rules : TableRows → NamedRows → List (Option CheckFault)
 name_rules t claims =
-    unless (is_named (length t.buses) (map (λ i. i.bus) claims.inputs) t.keys.buses) (fault_at Inputs 0 NamesDiffer 0)
-    ∷ unless (is_named (length t.outputs) (map (λ o. o.output) claims.outputs) t.keys.outputs) (fault_at Outputs 0 NamesDiffer 0)
-    ∷ unless (is_named (length t.labels) (map (λ l. l.label) claims.labels) t.keys.labels) (fault_at Labels 0 NamesDiffer 0)
+    unless (is_named (length t.buses) (map (λ i. i.bus) claims.inputs) t.names.buses) (fault_at Inputs 0 NamesDiffer 0)
+    ∷ unless (is_named (length t.outputs) (map (λ o. o.output) claims.outputs) t.names.outputs) (fault_at Outputs 0 NamesDiffer 0)
+    ∷ unless (is_named (length t.labels) (map (λ l. l.label) claims.labels) t.names.labels) (fault_at Labels 0 NamesDiffer 0)
     ∷ []
 
 -- the fault of the names, if any

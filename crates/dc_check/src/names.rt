@@ -34,9 +34,9 @@ pub fn misnamed(tables: &Tables, certificate: &Certificate) -> Option<CheckFault
 
 /// Whether these are the tables' buses, once each and in their order.
 fn are_buses(tables: &Tables, inputs: &[InputRow]) -> bool
-    ensures { result ≡ is_named (length tables.now.buses) (map (λ i. i.bus) (map named_input inputs.now)) tables.now.keys.buses }
+    ensures { result ≡ is_named (length tables.now.buses) (map (λ i. i.bus) (map named_input inputs.now)) tables.now.names.buses }
 {
-    tables.keyed();
+    tables.named();
     if inputs.len() != tables.bus_count() {
         return false;
     }
@@ -51,9 +51,9 @@ fn are_buses(tables: &Tables, inputs: &[InputRow]) -> bool
 
 /// Whether these are the tables' outputs, once each and in their order.
 fn are_outputs(tables: &Tables, outputs: &[OutputRow]) -> bool
-    ensures { result ≡ is_named (length tables.now.outputs) (map (λ o. o.output) (map named_output outputs.now)) tables.now.keys.outputs }
+    ensures { result ≡ is_named (length tables.now.outputs) (map (λ o. o.output) (map named_output outputs.now)) tables.now.names.outputs }
 {
-    tables.keyed();
+    tables.named();
     if outputs.len() != tables.output_count() {
         return false;
     }
@@ -68,9 +68,9 @@ fn are_outputs(tables: &Tables, outputs: &[OutputRow]) -> bool
 
 /// Whether these are the tables' labels, once each and in their order.
 fn are_labels(tables: &Tables, labels: &[LabelRow]) -> bool
-    ensures { result ≡ is_named (length tables.now.labels) (map (λ l. l.label) (map named_label labels.now)) tables.now.keys.labels }
+    ensures { result ≡ is_named (length tables.now.labels) (map (λ l. l.label) (map named_label labels.now)) tables.now.names.labels }
 {
-    tables.keyed();
+    tables.named();
     if labels.len() != tables.label_count() {
         return false;
     }

@@ -5,6 +5,7 @@ use Rattle.std.proofs.lemmas.List.{drop_all, take_all, length-set, append-nil, g
 use Rattle.std.proofs.lemmas.List.Quantifiers.{position-Some}
 use Rattle.std.proofs.lemmas.Bool.{lt-ltb, le-ltb, cases_eq, ne_eqb, and_parts, eqb-true, leb-true, leb-false}
 use Rattle.std.proofs.Math.Nat.{mod-mod, mod-add-mod}
+use Rattle.dc_word.specs.declared.format.Format.TheVariants.{Bnr}
 use Rattle.dc_bound.specs.Window.{HoldAtMost}
 use Rattle.dc_bound.specs.Run.{one_if}
 use Rattle.dc_bound.specs.lemmas.Steps.{most_step}
@@ -240,7 +241,7 @@ module _ (t : TableRows) (now : ℕ) (buses buses' : ℕ → BusData) (lasts : L
   bus_of : (x k : ℕ) → stream_of t b x ≡ Some k → b ≡ (stream_row t k).bus
   unfolding stream_of
   bus_of x k of =
-      let p = position-Some (declares b x) t.streams k (record { bus = 0; label = 0; sdi = None; minimum = 0; maximum = 0; jitter = 0 }) of in
+      let p = position-Some (declares b x) t.streams k (record { bus = 0; label = 0; sdi = None; format = Bnr; minimum = 0; maximum = 0; jitter = 0 }) of in
       let parts = and_parts (((stream_row t k).bus == b) && ((stream_row t k).label == label_of x)) (fits (stream_row t k).sdi (sdi_of x)) p.1 in
       let first = and_parts ((stream_row t k).bus == b) ((stream_row t k).label == label_of x) parts.0 in
       sym (eqb-true _ _ first.0)

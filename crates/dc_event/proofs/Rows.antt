@@ -8,7 +8,7 @@ use Rattle.dc_bound.specs.Places.{served_in, first_place, each_place}
 use Rattle.dc_bound.specs.Moves.{ins, passed, is_overfull, latch, entered, taken, routed_tick, arrived_tick, latest_number, latest_by}
 use Rattle.dc_word.specs.Word.{reversed, ones_in, is_odd, body_of, composed_word, copied_word, fallback_word}
 use Rattle.dc_word.specs.declared.format.Format.TheVariants.{Bnr}
-use Rattle.dc_tables.specs.TableKeys.{no_keys}
+use Rattle.dc_tables.specs.TableNames.{no_names}
 use Rattle.dc_tables.specs.TableRows.{TableRows}
 use Rattle.dc_tables.specs.Declares.{stream_of}
 use Rattle.dc_event.specs.Buses.{moves}
@@ -30,11 +30,11 @@ abbrev pub small : ℕ → TableRows
 small queue = record {
   tick_us = 1000;
   buses = record { queue = queue; police = false; spacing = 350; first = 0; streams = 2; router = 0 } ∷ [];
-  streams = record { bus = 0; label = 131; sdi = None; minimum = 10; maximum = 20; jitter = 0 } ∷ record { bus = 0; label = 132; sdi = None; minimum = 10; maximum = 20; jitter = 0 } ∷ [];
+  streams = record { bus = 0; label = 131; sdi = None; format = Bnr; minimum = 10; maximum = 20; jitter = 0 } ∷ record { bus = 0; label = 132; sdi = None; format = Bnr; minimum = 10; maximum = 20; jitter = 0 } ∷ [];
   routers = record { steps = 1; within = 1; most = 2; visits = 0 ∷ [] } ∷ [];
   outputs = record { steps = 1; within = 2; gap = 1; frame = 15; entries = record { offset = 0; label = 0 } ∷ [] } ∷ [];
   labels = record { output = 0; label = 131; sdi = 0; format = Bnr; sources = 0 ∷ []; stale = 22; age_limit = 30; minimum = 11; maximum = 19 } ∷ [];
-  keys = no_keys;
+  names = no_names;
 }
 
 -- the same with two entries of the label, in ticks 0 and 1 of the frame
@@ -42,11 +42,11 @@ abbrev twice : TableRows
 twice = record {
   tick_us = 1000;
   buses = record { queue = 2; police = false; spacing = 350; first = 0; streams = 2; router = 0 } ∷ [];
-  streams = record { bus = 0; label = 131; sdi = None; minimum = 10; maximum = 20; jitter = 0 } ∷ record { bus = 0; label = 132; sdi = None; minimum = 10; maximum = 20; jitter = 0 } ∷ [];
+  streams = record { bus = 0; label = 131; sdi = None; format = Bnr; minimum = 10; maximum = 20; jitter = 0 } ∷ record { bus = 0; label = 132; sdi = None; format = Bnr; minimum = 10; maximum = 20; jitter = 0 } ∷ [];
   routers = record { steps = 1; within = 1; most = 2; visits = 0 ∷ [] } ∷ [];
   outputs = record { steps = 1; within = 2; gap = 1; frame = 15; entries = record { offset = 0; label = 0 } ∷ record { offset = 1; label = 0 } ∷ [] } ∷ [];
   labels = record { output = 0; label = 131; sdi = 0; format = Bnr; sources = 0 ∷ []; stale = 22; age_limit = 30; minimum = 11; maximum = 19 } ∷ [];
-  keys = no_keys;
+  names = no_names;
 }
 
 -- two buses with a stream of the label each, visited in turn
@@ -54,11 +54,11 @@ abbrev two_buses : TableRows
 two_buses = record {
   tick_us = 1000;
   buses = record { queue = 2; police = false; spacing = 350; first = 0; streams = 2; router = 0 } ∷ record { queue = 2; police = false; spacing = 350; first = 2; streams = 1; router = 0 } ∷ [];
-  streams = record { bus = 0; label = 131; sdi = None; minimum = 10; maximum = 20; jitter = 0 } ∷ record { bus = 0; label = 132; sdi = None; minimum = 10; maximum = 20; jitter = 0 } ∷ record { bus = 1; label = 131; sdi = None; minimum = 10; maximum = 20; jitter = 0 } ∷ [];
+  streams = record { bus = 0; label = 131; sdi = None; format = Bnr; minimum = 10; maximum = 20; jitter = 0 } ∷ record { bus = 0; label = 132; sdi = None; format = Bnr; minimum = 10; maximum = 20; jitter = 0 } ∷ record { bus = 1; label = 131; sdi = None; format = Bnr; minimum = 10; maximum = 20; jitter = 0 } ∷ [];
   routers = record { steps = 1; within = 1; most = 2; visits = 0 ∷ 1 ∷ [] } ∷ [];
   outputs = record { steps = 1; within = 2; gap = 1; frame = 15; entries = record { offset = 0; label = 0 } ∷ [] } ∷ [];
   labels = record { output = 0; label = 131; sdi = 0; format = Bnr; sources = 0 ∷ 2 ∷ []; stale = 22; age_limit = 30; minimum = 11; maximum = 19 } ∷ [];
-  keys = no_keys;
+  names = no_names;
 }
 
 -- ---- replies
@@ -111,7 +111,7 @@ usable_source_before_fresh = refl
 abbrev policed : ℕ → ℕ → TableRows
 policed queue jitter = record (small queue) {
   buses = record { queue = queue; police = true; spacing = 350; first = 0; streams = 2; router = 0 } ∷ [];
-  streams = record { bus = 0; label = 131; sdi = None; minimum = 10; maximum = 20; jitter = jitter } ∷ record { bus = 0; label = 132; sdi = None; minimum = 10; maximum = 20; jitter = jitter } ∷ [];
+  streams = record { bus = 0; label = 131; sdi = None; format = Bnr; minimum = 10; maximum = 20; jitter = jitter } ∷ record { bus = 0; label = 132; sdi = None; format = Bnr; minimum = 10; maximum = 20; jitter = jitter } ∷ [];
 }
 
 -- a second word at once is early, one of another stream is not, and it is judged before the latch and the full queue

@@ -8,7 +8,6 @@ use Rattle.dc_bound.specs.Moves.{ins, passed, is_overfull, latch, entered, taken
 use Rattle.dc_device.specs.Lines.{spelled}
 use Rattle.dc_word.specs.Word.{reversed, ones_in, is_odd, body_of, composed_word, copied_word, fallback_word}
 use Rattle.dc_parts.specs.Names.{padded}
-use Rattle.dc_tables.specs.TableKeys.{no_keys}
 use Rattle.dc_tables.specs.TableRows.{TableRows}
 use Rattle.dc_tables.specs.Declares.{stream_of}
 use Rattle.dc_event.specs.Buses.{moves}
@@ -26,7 +25,7 @@ use Rattle.dc_event.proofs.Rows.{small}
 -- the small tables with names
 abbrev named : ℕ → TableRows
 named queue = record (small queue) {
-  keys = record no_keys {
+  names = record {
     buses = padded (codes "A") ∷ [];
     streams = padded (codes "A-203") ∷ padded (codes "A-204") ∷ [];
     routers = padded (codes "R1") ∷ [];

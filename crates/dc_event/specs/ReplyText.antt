@@ -42,8 +42,8 @@ arrival_text w _ = []
 
 -- of a routing step's reply after the router
 abbrev pub routing_text : TableRows → Reply → List ℕ
-routing_text t (Took w b) = codes " took " ++ name_at t.keys.buses b ++ codes " " ++ eight_hex w
-routing_text t (Empty b) = codes " empty " ++ name_at t.keys.buses b
+routing_text t (Took w b) = codes " took " ++ name_at t.names.buses b ++ codes " " ++ eight_hex w
+routing_text t (Empty b) = codes " empty " ++ name_at t.names.buses b
 routing_text t _ = []
 
 -- of a send's reply after the output
@@ -55,9 +55,9 @@ sending_text _ = []
 -- the line of an event and its reply, with the tick of the event, for a Tick the new one
 unfoldable pub reply_line : TableRows → ℕ → Event → Reply → List ℕ
 reply_line t tick Tick r = decimal tick ++ codes " tick"
-reply_line t tick (Arrive w b) r = decimal tick ++ codes " " ++ name_at t.keys.buses b ++ arrival_text w r
-reply_line t tick (Route q) r = decimal tick ++ codes " " ++ name_at t.keys.routers q ++ routing_text t r
-reply_line t tick (Send o) r = decimal tick ++ codes " " ++ name_at t.keys.outputs o ++ sending_text r
+reply_line t tick (Arrive w b) r = decimal tick ++ codes " " ++ name_at t.names.buses b ++ arrival_text w r
+reply_line t tick (Route q) r = decimal tick ++ codes " " ++ name_at t.names.routers q ++ routing_text t r
+reply_line t tick (Send o) r = decimal tick ++ codes " " ++ name_at t.names.outputs o ++ sending_text r
 
 -- the lines that an event prints, after the events of past, with --all or without
 abbrev pub event_lines : TableRows → Bool → List Event → Event → List (List ℕ)

@@ -44,19 +44,19 @@ arrival (Some b) (Some w) = Ok (Arrive w b)
 abbrev pub arrive_fields : TableRows → List (List ℕ) → Result Event LineRule
 arrive_fields t [] = Err FieldCountWrong
 arrive_fields t (bus ∷ []) = Err FieldCountWrong
-arrive_fields t (bus ∷ word ∷ []) = arrival (number_named t.keys.buses bus) (word_of word)
+arrive_fields t (bus ∷ word ∷ []) = arrival (number_named t.names.buses bus) (word_of word)
 arrive_fields t (bus ∷ word ∷ more ∷ rest) = Err FieldCountWrong
 
 -- after R: a router
 abbrev pub route_fields : TableRows → List (List ℕ) → Result Event LineRule
 route_fields t [] = Err FieldCountWrong
-route_fields t (router ∷ []) = or_fault NameUnknown (option_map (λ r. Route r) (number_named t.keys.routers router))
+route_fields t (router ∷ []) = or_fault NameUnknown (option_map (λ r. Route r) (number_named t.names.routers router))
 route_fields t (router ∷ more ∷ rest) = Err FieldCountWrong
 
 -- after S: an output
 abbrev pub send_fields : TableRows → List (List ℕ) → Result Event LineRule
 send_fields t [] = Err FieldCountWrong
-send_fields t (output ∷ []) = or_fault NameUnknown (option_map (λ o. Send o) (number_named t.keys.outputs output))
+send_fields t (output ∷ []) = or_fault NameUnknown (option_map (λ o. Send o) (number_named t.names.outputs output))
 send_fields t (output ∷ more ∷ rest) = Err FieldCountWrong
 
 -- after T: nothing

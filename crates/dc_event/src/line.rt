@@ -2,27 +2,14 @@
 ghost use Rattle.std.specs.Prelude.{◌≡◌, ◌∷◌, [], ◌<◌, IfSome};
 ghost use Rattle.std.specs.Str.{bytes_eq};
 ghost use Rattle.dc_event.specs.TraceText.{arrive_fields, line_event, number_named, route_fields, send_fields, tick_fields};
-ghost use Rattle.dc_event.specs.WordText.{hex_value, word_of};
+ghost use Rattle.dc_event.specs.WordText.{word_of};
 
 use crate::event::Event;
 use crate::fields::Fields;
 use crate::trace::LineRule;
 use dc_parts::Name;
 use dc_tables::Tables;
-use dc_word::Word;
-
-// The value of a hexadecimal digit in either case.
-fn digit_value(c: u8) -> Option<u8>
-    ensures value { result ≡ hex_value c }
-    ensures digit { IfSome result (λ d. d < 16) }
-{
-    match c {
-        b'0'..=b'9' => Some(c - b'0'),
-        b'A'..=b'F' => Some(c - 55),
-        b'a'..=b'f' => Some(c - 87),
-        _ => None,
-    }
-}
+use dc_word::{Word, digit_in};
 
 /// The word that a text writes: eight hexadecimal digits in either case, and nothing else.
 #[tactic(auto, unfolding(crate::specs::WordText::word_of))]
@@ -34,7 +21,7 @@ pub fn read_word(text: &[u8]) -> Option<Word>
     }
     let mut n = 0;
     for c in text {
-        n = n * 16 + u32::from(digit_value(*c)?);
+        n = n * 16 + digit_in(16, *c)?;
     }
     Some(Word(n))
 }
@@ -48,7 +35,7 @@ fn is_letter(field: &[u8], letter: u8) -> bool
 
 // The number of the bus that a text names.
 fn bus_named(tables: &Tables, text: &[u8]) -> Option<usize>
-    ensures { result ≡ number_named tables.now.keys.buses text.now }
+    ensures { result ≡ number_named tables.now.names.buses text.now }
 {
     let name = Name::new(text)?;
     tables.bus_named(&name)
@@ -56,7 +43,7 @@ fn bus_named(tables: &Tables, text: &[u8]) -> Option<usize>
 
 // The number of the router that a text names.
 fn router_named(tables: &Tables, text: &[u8]) -> Option<usize>
-    ensures { result ≡ number_named tables.now.keys.routers text.now }
+    ensures { result ≡ number_named tables.now.names.routers text.now }
 {
     let name = Name::new(text)?;
     tables.router_named(&name)
@@ -64,7 +51,7 @@ fn router_named(tables: &Tables, text: &[u8]) -> Option<usize>
 
 // The number of the output that a text names.
 fn output_named(tables: &Tables, text: &[u8]) -> Option<usize>
-    ensures { result ≡ number_named tables.now.keys.outputs text.now }
+    ensures { result ≡ number_named tables.now.names.outputs text.now }
 {
     let name = Name::new(text)?;
     tables.output_named(&name)

@@ -15,6 +15,7 @@ use Rattle.dc_rules.specs.Rules.{verdict_of}
 use Rattle.dc_rules.specs.declared.keys.PlacedEntry.{PlacedEntry}
 use Rattle.dc_parts.specs.declared.parts.OutputPart.{OutputPart}
 use Rattle.dc_parts.specs.declared.parts.Speed.TheVariants.{High}
+use Rattle.dc_word.specs.declared.format.Format.TheVariants.{Bnr}
 use Rattle.dc_check.specs.Small.{small_tables, small_output}
 
 -- ---- what the text says
@@ -41,7 +42,10 @@ abbrev pub example_written : Written
 example_written = record {
   version = One;
   tick_us = 1000;
-  parameters = small_tables.keys.parameters;
+  parameters =
+      record { label = 131; equipment = 1; format = Bnr; min_us = 10000; max_us = 20000 }
+      ∷ record { label = 132; equipment = 1; format = Bnr; min_us = 10000; max_us = 20000 }
+      ∷ [];
   buses = record { name = padded (65 ∷ []); speed = High; queue = 2; police = false } ∷ [];
   streams =
       record { bus = 0; name = padded (65 ∷ 45 ∷ 50 ∷ 48 ∷ 51 ∷ []); label = 131; equipment = 1; sdi = None; jitter_us = 0 }
@@ -161,4 +165,4 @@ rows_are r x a b c rows h =
     let u : IsOutputRow 1000 (the_placed ∷ []) 0 the_output (output_row rows 0) = h.outputs 0 the_output (lit≤ tt) in
     let row : output_row rows 0 ≡ small_output = λ i. record { steps = u.steps i; within = u.within i; gap = u.gap i; frame = u.frame i; entries = frame_alone the_entry (output_row rows 0).entries u.entries.same i } in
     let outputs : rows.outputs ≡ small_output ∷ [] = one_output _ rows.outputs h.outputs_there row in
-    λ i. record { tick_us = h.tick i; buses = h.buses i; streams = h.streams i; routers = h.routers i; outputs = outputs i; labels = h.labels i; keys = h.keys i }
+    λ i. record { tick_us = h.tick i; buses = h.buses i; streams = h.streams i; routers = h.routers i; outputs = outputs i; labels = h.labels i; names = h.names i }

@@ -15,7 +15,7 @@ use Rattle.dc_find.specs.Least.{IsLeastAccepted}
 use Rattle.dc_find.specs.Rows.{EachAt, IsLeastInput, IsLeastOutput, IsInputRow, IsOutputRow, AreInputRows, AreOutputRows, AreLabelRows, IsOldEnough, inputs_alone}
 use Rattle.dc_find.specs.Ways.{AcceptsQueues, IsClearBelow}
 use Rattle.dc_parts.specs.Names.{text_of}
-use Rattle.dc_tables.specs.Keyed.{AreKeyed}
+use Rattle.dc_tables.specs.Named.{HaveNames}
 use Rattle.dc_tables.specs.TableRows.{TableRows, label_row}
 
 abbrev pub no_input : NamedInput
@@ -106,20 +106,20 @@ named t names keys count sized keyed each = record {
 }
 
 -- the tables' names, where each row has its own
-pub are-named : (t : TableRows) (claims : NamedRows) → AreKeyed t →
-    length claims.inputs ≡ length t.buses → EachAt (λ b claim. claim.bus ≡ text_of (get_or t.keys.buses b [])) claims.inputs →
-    length claims.outputs ≡ length t.outputs → EachAt (λ o claim. claim.output ≡ text_of (get_or t.keys.outputs o [])) claims.outputs →
-    length claims.labels ≡ length t.labels → EachAt (λ x claim. claim.label ≡ text_of (get_or t.keys.labels x [])) claims.labels → AreNamed t claims
+pub are-named : (t : TableRows) (claims : NamedRows) → HaveNames t →
+    length claims.inputs ≡ length t.buses → EachAt (λ b claim. claim.bus ≡ text_of (get_or t.names.buses b [])) claims.inputs →
+    length claims.outputs ≡ length t.outputs → EachAt (λ o claim. claim.output ≡ text_of (get_or t.names.outputs o [])) claims.outputs →
+    length claims.labels ≡ length t.labels → EachAt (λ x claim. claim.label ≡ text_of (get_or t.names.labels x [])) claims.labels → AreNamed t claims
 are-named t claims keyed i inputs o outputs x labels = record {
-  inputs = named t (map (λ (i : NamedInput). i.bus) claims.inputs) t.keys.buses (length t.buses) (length-map claims.inputs (λ (i : NamedInput). i.bus) ∙ i) keyed.buses
+  inputs = named t (map (λ (i : NamedInput). i.bus) claims.inputs) t.names.buses (length t.buses) (length-map claims.inputs (λ (i : NamedInput). i.bus) ∙ i) keyed.buses
       (λ k l d. get_or-map (λ (i : NamedInput). i.bus) claims.inputs k no_input d (omega (arith, i)) ∙ inputs k no_input (omega (arith, i)));
-  outputs = named t (map (λ (o : NamedOutput). o.output) claims.outputs) t.keys.outputs (length t.outputs) (length-map claims.outputs (λ (o : NamedOutput). o.output) ∙ o) keyed.outputs
+  outputs = named t (map (λ (o : NamedOutput). o.output) claims.outputs) t.names.outputs (length t.outputs) (length-map claims.outputs (λ (o : NamedOutput). o.output) ∙ o) keyed.outputs
       (λ k l d. get_or-map (λ (o : NamedOutput). o.output) claims.outputs k no_output d (omega (arith, o)) ∙ outputs k no_output (omega (arith, o)));
-  labels = named t (map (λ (x : NamedLabel). x.label) claims.labels) t.keys.labels (length t.labels) (length-map claims.labels (λ (x : NamedLabel). x.label) ∙ x) keyed.labels
+  labels = named t (map (λ (x : NamedLabel). x.label) claims.labels) t.names.labels (length t.labels) (length-map claims.labels (λ (x : NamedLabel). x.label) ∙ x) keyed.labels
       (λ k l d. get_or-map (λ (x : NamedLabel). x.label) claims.labels k no_label d (omega (arith, x)) ∙ labels k no_label (omega (arith, x)));
 }
 
-pub least-accepted : (t : TableRows) (claims : NamedRows) → AreKeyed t → AreInputRows t claims.inputs → AreOutputRows t claims.outputs → AreLabelRows t claims.inputs claims.labels →
+pub least-accepted : (t : TableRows) (claims : NamedRows) → HaveNames t → AreInputRows t claims.inputs → AreOutputRows t claims.outputs → AreLabelRows t claims.inputs claims.labels →
     ((x : ℕ) → x < length t.labels → AcceptsLabel t x (numbers_of claims)) →
     ((other : NamedRows) → Accepts t other → (x : ℕ) → x < length t.labels → IsOldEnough t x (numbers_of claims) (slice_index (numbers_of other).ages x)) →
     IsLeastAccepted t claims

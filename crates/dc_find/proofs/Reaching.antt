@@ -11,7 +11,7 @@ use Rattle.dc_find.specs.Ways.{NeverCloses, IsFirstInTheWay}
 use Rattle.dc_find.specs.declared.fault.FindFault.{FindFault}
 use Rattle.dc_find.specs.declared.fault.FindFault.TheVariants.{WindowNeverCloses, QueueTooShort, LabelRule, Memory}
 use Rattle.dc_find.specs.declared.fault.Queue.TheVariants.{Input, Output}
-use Rattle.dc_tables.specs.Keyed.{AreKeyed}
+use Rattle.dc_tables.specs.Named.{HaveNames}
 use Rattle.dc_tables.specs.TableRows.{TableRows, bus_cap, bus_floor, output_cap, output_floor}
 
 module _ (t : TableRows) where
@@ -38,7 +38,7 @@ module _ (t : TableRows) where
   close-below fault f = record { inputs = inputs-close fault f; outputs = outputs-close fault f }
 
   -- the rows that were reached, as a certificate
-  pub reached : (parts : ℕ) (claims : NamedRows) → AreKeyed t → AreInputsReached t parts claims.inputs → AreOutputsReached t parts claims.outputs → AreLabelRows t claims.inputs claims.labels → IsReached t parts claims
+  pub reached : (parts : ℕ) (claims : NamedRows) → HaveNames t → AreInputsReached t parts claims.inputs → AreOutputsReached t parts claims.outputs → AreLabelRows t claims.inputs claims.labels → IsReached t parts claims
   reached parts claims keyed inputs outputs labels = record {
     named = are-named t claims keyed inputs.count (λ k d l. (inputs.each k d l).named) outputs.count (λ k d l. (outputs.each k d l).named) labels.count (λ k d l. (labels.each k d l).named);
     inputs = λ b there below.

@@ -39,12 +39,12 @@ pub record CloseBelow (t : TableRows) (parts : ℕ) : Type 0 where
 
 -- the bus's name, and its least numbers where it is one of the first parts
 pub record IsInputReached (t : TableRows) (parts : ℕ) (b : ℕ) (claim : NamedInput) : Type 0 where
-  pub named : claim.bus ≡ text_of (slice_index_or t.keys.buses b [])
+  pub named : claim.bus ≡ text_of (slice_index_or t.names.buses b [])
   pub least : b < parts → AreLeastNumbers t b (input_numbers claim)
   pub short : claim.delay ≤ LONGEST_WINDOW
 
 pub record IsOutputReached (t : TableRows) (parts : ℕ) (o : ℕ) (claim : NamedOutput) : Type 0 where
-  pub named : claim.output ≡ text_of (slice_index_or t.keys.outputs o [])
+  pub named : claim.output ≡ text_of (slice_index_or t.names.outputs o [])
   pub least : length t.buses + o < parts → IsLeastOutput t o (output_numbers claim)
 
 -- a row for each

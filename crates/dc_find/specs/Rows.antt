@@ -38,11 +38,11 @@ pub record IsLeastOutput (t : TableRows) (o : ℕ) (c : OutputBound) : Type 0 wh
 
 -- the same with the name of its row
 pub record IsInputRow (t : TableRows) (b : ℕ) (claim : NamedInput) : Type 0 where
-  pub named : claim.bus ≡ text_of (slice_index_or t.keys.buses b [])
+  pub named : claim.bus ≡ text_of (slice_index_or t.names.buses b [])
   pub least : IsLeastInput t b (input_numbers claim)
 
 pub record IsOutputRow (t : TableRows) (o : ℕ) (claim : NamedOutput) : Type 0 where
-  pub named : claim.output ≡ text_of (slice_index_or t.keys.outputs o [])
+  pub named : claim.output ≡ text_of (slice_index_or t.names.outputs o [])
   pub least : IsLeastOutput t o (output_numbers claim)
 
 -- numbers of inputs alone
@@ -54,7 +54,7 @@ abbrev pub IsOldEnough : TableRows → ℕ → CertificateRows → ℕ → Type 
 IsOldEnough t x c age = All (λ s. (label_row t x).stale + source_delay t c s ≤ age) (label_row t x).sources
 
 pub record IsLabelRow (t : TableRows) (inputs : List NamedInput) (x : ℕ) (claim : NamedLabel) : Type 0 where
-  pub named : claim.label ≡ text_of (slice_index_or t.keys.labels x [])
+  pub named : claim.label ≡ text_of (slice_index_or t.names.labels x [])
   pub least : IsLeast (IsOldEnough t x (inputs_alone inputs)) claim.age
 
 -- a row for each, with no delay out of range

@@ -45,7 +45,7 @@ pub fn find(alloc: Global, tables: &Tables) -> Result<Certificate, FindFault>
     ensures first { IfErr result (λ fault. fault ≢ Memory → IsFirstInTheWay tables.now fault) }
 {
     tables.valid();
-    tables.keyed();
+    tables.named();
     let inputs = input_rows(alloc, tables)?;
     let outputs = output_rows(alloc, tables)?;
     let labels = label_rows(alloc, tables, inputs.as_slice())?;

@@ -142,7 +142,7 @@ pub fn reach(alloc: Global, tables: &Tables, fault: FindFault) -> Result<Reached
     ensures reached { IfOk result (λ r. IsReached tables.now r.parts (named_rows r.certificate)) }
     ensures sized { IfOk result (λ r. IsSized tables.now (certificate_rows r.certificate)) }
 {
-    tables.keyed();
+    tables.named();
     let parts = parts_before(tables, fault);
     let inputs = reached_inputs(alloc, tables, parts)?;
     let outputs = reached_outputs(alloc, tables, parts)?;

@@ -33,7 +33,7 @@ pub(crate) fn named_input_row(
     numbers: InputNumbers,
 ) -> Result<InputRow, AllocError>
     requires { bus < length tables.now.buses }
-    ensures named { IfOk result (λ row. (named_input row).bus ≡ text_of (slice_index_or tables.now.keys.buses bus [])) }
+    ensures named { IfOk result (λ row. (named_input row).bus ≡ text_of (slice_index_or tables.now.names.buses bus [])) }
     ensures numbers { IfOk result (λ row. input_numbers (named_input row) ≡ record { window = numbers.times.window; backlog = numbers.backlog; delay = numbers.times.delay }) }
 {
     Ok(InputRow {
@@ -52,7 +52,7 @@ pub(crate) fn named_output_row(
     times: Times,
 ) -> Result<OutputRow, AllocError>
     requires { output < length tables.now.outputs }
-    ensures named { IfOk result (λ row. (named_output row).output ≡ text_of (slice_index_or tables.now.keys.outputs output [])) }
+    ensures named { IfOk result (λ row. (named_output row).output ≡ text_of (slice_index_or tables.now.names.outputs output [])) }
     ensures numbers { IfOk result (λ row. output_numbers (named_output row) ≡ record { window = times.window; delay = times.delay }) }
 {
     Ok(OutputRow {

@@ -240,9 +240,9 @@ lines-parts lines (suc n) = ap (λ o. option_or o (fault_of_lines (lines n))) (l
 
 named-none : (t : TableRows) (claims : NamedRows) → AreNamed t claims → misnaming t claims ≡ None
 named-none t claims ok =
-    none-or _ _ (none-unless _ _ (is-named (length t.buses) (map (λ i. i.bus) claims.inputs) t.keys.buses ok.inputs))
-    (none-or _ _ (none-unless _ _ (is-named (length t.outputs) (map (λ o. o.output) claims.outputs) t.keys.outputs ok.outputs))
-    (none-or _ _ (none-unless _ _ (is-named (length t.labels) (map (λ l. l.label) claims.labels) t.keys.labels ok.labels)) refl))
+    none-or _ _ (none-unless _ _ (is-named (length t.buses) (map (λ i. i.bus) claims.inputs) t.names.buses ok.inputs))
+    (none-or _ _ (none-unless _ _ (is-named (length t.outputs) (map (λ o. o.output) claims.outputs) t.names.outputs ok.outputs))
+    (none-or _ _ (none-unless _ _ (is-named (length t.labels) (map (λ l. l.label) claims.labels) t.names.labels ok.labels)) refl))
 
 -- the verdict on right names is the first negative margin
 pub verdict-by_lines : (t : TableRows) → AreValid t → (claims : NamedRows) → misnaming t claims ≡ None → option_map windowless (verdict_of t claims) ≡ first_negative t (numbers_of claims)

@@ -4,6 +4,7 @@ use Rattle.std.proofs.lemmas.List.{append-nil, get_or-set_same, get_or-set_other
 use Rattle.std.proofs.lemmas.List.Quantifiers.{position-Some}
 use Rattle.std.proofs.lemmas.Bool.{cases_Bool, cases_lt, cases_eq, ne_eqb, lt-ltb, le-ltb, and_parts, eqb-true}
 use Rattle.std.proofs.Math.Nat.{mod-mod, mod-add-mod, zero-mod}
+use Rattle.dc_word.specs.declared.format.Format.TheVariants.{Bnr}
 use Rattle.dc_bound.specs.Run.{ticks, picks, one_if}
 use Rattle.dc_bound.specs.Places.{served_in, first_place, each_place}
 use Rattle.dc_bound.specs.Moves.{Move, ticks_in, ins, passed, is_overfull, latch, entered, taken, item, latest_number, latest_by}
@@ -258,7 +259,7 @@ visit_elsewhere t run r b a is other = let none : (visited t r (routes r run) ==
 bus_of : (t : TableRows) (b x k : ℕ) → stream_of t b x ≡ Some k → b ≡ (stream_row t k).bus
 unfolding stream_of
 bus_of t b x k of =
-    let p = position-Some (declares b x) t.streams k (record { bus = 0; label = 0; sdi = None; minimum = 0; maximum = 0; jitter = 0 }) of in
+    let p = position-Some (declares b x) t.streams k (record { bus = 0; label = 0; sdi = None; format = Bnr; minimum = 0; maximum = 0; jitter = 0 }) of in
     let parts = and_parts (((stream_row t k).bus == b) && ((stream_row t k).label == label_of x)) (fits (stream_row t k).sdi (sdi_of x)) p.1 in
     let first = and_parts ((stream_row t k).bus == b) ((stream_row t k).label == label_of x) parts.0 in
     sym (eqb-true _ _ first.0)

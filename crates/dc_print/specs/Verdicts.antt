@@ -32,9 +32,9 @@ member_text Labels = codes "label "
 
 -- the name of a bus, an output or a label
 abbrev pub member_name : TableRows → CertificateList → ℕ → List ℕ
-member_name t Inputs index = text_of (slice_index_or t.keys.buses index [])
-member_name t Outputs index = text_of (slice_index_or t.keys.outputs index [])
-member_name t Labels index = text_of (slice_index_or t.keys.labels index [])
+member_name t Inputs index = text_of (slice_index_or t.names.buses index [])
+member_name t Outputs index = text_of (slice_index_or t.names.outputs index [])
+member_name t Labels index = text_of (slice_index_or t.names.labels index [])
 
 abbrev pub window_text : CheckFault → List ℕ
 window_text fault = if names_window fault.condition then codes " window " ++ decimal fault.window else []

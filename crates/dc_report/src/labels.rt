@@ -35,8 +35,9 @@ fn push_due(text: &mut String, tables: &Tables, label: usize) -> Result<(), Allo
     tables.valid();
     let output = tables.output(tables.label(label).output);
     text.push_str("<div>")?;
-    push_strip(text, output.entries.as_slice(), output.frame, Some(label))?;
-    let times = tables.label_offsets(label).len();
+    let entries = output.entries.as_slice();
+    push_strip(text, entries, output.frame, Some(label))?;
+    let times = entries.iter().filter(|e| e.label == label).count();
     let due = Amount {
         count: times as u64,
         unit: Unit::Entries,

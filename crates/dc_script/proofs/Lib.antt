@@ -1,2 +1,1 @@
-mod Finds
 mod Writings

@@ -2,9 +2,7 @@
 use Rattle.std.specs.Prelude.{ℕ, zero, suc, ◌+◌, ◌-◌, ◌*◌, ◌%◌, ◌<◌, ◌≤◌, Bool, true, ◌&&◌, cond, nat_lt, nat_le, max, Option, Some, None, option_map, List, [], ◌∷◌, ◌++◌, All, length, replicate, slice_set, slice_index_or, unwrap_or}
 use Rattle.dc_script.specs.declared.script.Timed.{Timed}
 use Rattle.dc_script.specs.declared.limits.TheConstants.{DATA_VALUES, LONGEST_SCRIPT}
-use Rattle.dc_tables.specs.Keyed.{stream_parameter}
 use Rattle.dc_tables.specs.TableRows.{TableRows, bus_row, stream_row}
-use Rattle.dc_dict.specs.declared.parameter.Parameter.{Parameter as ParameterPart}
 use Rattle.dc_word.specs.Word.{composed_word}
 use Rattle.dc_word.specs.declared.format.Format.{Format}
 use Rattle.dc_word.specs.declared.format.Format.TheVariants.{Bnr, Bcd, Disc}
@@ -51,16 +49,13 @@ good_ssm Bnr = 3
 good_ssm Bcd = 0
 good_ssm Disc = 0
 
-abbrev pub ssm_of_parameter : Option ParameterPart → ℕ
-ssm_of_parameter p = unwrap_or (option_map (λ q. good_ssm q.format) p) 0
-
 -- the SDI that is declared, 0 where any is
 abbrev pub sdi_or_zero : Option ℕ → ℕ
 sdi_or_zero sdi = unwrap_or sdi 0
 
 -- the word of a stream in a tick
 abbrev pub word_of : TableRows → (stream tick : ℕ) → ℕ
-word_of t s tick = composed_word (stream_row t s).label (sdi_or_zero (stream_row t s).sdi) (tick % DATA_VALUES) (ssm_of_parameter (stream_parameter t s))
+word_of t s tick = composed_word (stream_row t s).label (sdi_or_zero (stream_row t s).sdi) (tick % DATA_VALUES) (good_ssm (stream_row t s).format)
 
 -- whether a word of the bus's stream k, from 0, comes in this tick
 abbrev pub comes : TableRows → (bus tick k : ℕ) → Writing → Bool

@@ -1,8 +1,7 @@
 //! The script of a bench: on each bus as many words as its streams and its wire let come.
 
 ghost use Rattle.std.specs.Prelude.{◌≡◌, ℕ, ◌+◌, ◌<◌, ◌≤◌, IfOk, OnOk, Option, List, length};
-ghost use Rattle.dc_script.specs.Script.{Writing as WritingView, bench_script, comes, good_ssm, is_rested, sdi_or_zero, ssm_of_parameter, turn, turns, unwritten, word_of, written};
-ghost use Rattle.dc_tables.specs.Keyed.{stream_parameter};
+ghost use Rattle.dc_script.specs.Script.{Writing as WritingView, bench_script, comes, good_ssm, is_rested, sdi_or_zero, turn, turns, unwritten, word_of, written};
 ghost use Rattle.dc_tables.specs.TableRows.{bus_row, stream_row};
 ghost use Rattle.dc_script.specs.declared.limits.TheConstants.{LONGEST_SCRIPT};
 
@@ -29,29 +28,13 @@ impl Model for Writing {
 
 /// The SSM of data that are good: 11 for BNR, 00 else.
 fn good_ssm(format: Format) -> u32
-    ensures { result ≡ good_ssm format }
+    ensures value { result ≡ good_ssm format }
+    ensures range { result < 4 }
 {
     match format {
         Format::Bnr => 3,
         _ => 0,
     }
-}
-
-/// The SSM of a stream's words.
-fn ssm_of(tables: &Tables, stream: usize) -> u32
-    requires { stream < length tables.now.streams }
-    ensures value { result ≡ ssm_of_parameter (stream_parameter tables.now stream) }
-    ensures range { result < 4 }
-{
-    let label = tables.stream(stream).label;
-    let equipment = tables.stream_equipment(stream);
-    for k in 0..tables.parameter_count() {
-        let parameter = tables.parameter(k);
-        if label == parameter.label && equipment == parameter.equipment {
-            return good_ssm(parameter.format);
-        }
-    }
-    0
 }
 
 /// The declared SDI, or 0 for any.
@@ -74,7 +57,7 @@ fn word_of(tables: &Tables, stream: usize, tick: u64) -> Word
 {
     let row = tables.stream(stream);
     let data = (tick % DATA_VALUES) as u32;
-    Word::compose(row.label, sdi_of(row.sdi), data, ssm_of(tables, stream))
+    Word::compose(row.label, sdi_of(row.sdi), data, good_ssm(row.format))
 }
 
 /// Whether a stream's last word is at least its minimum back, or it had none.

@@ -6,6 +6,7 @@ use Rattle.std.proofs.lemmas.Bool.{cases_Bool}
 use Rattle.std.proofs.lemmas.List.Elements.{All-head, All-tail, All-take, All-drop}
 use Rattle.std.proofs.lemmas.List.Sums.{sum_by-cons, sum_by_push}
 use Rattle.std.proofs.lemmas.List.{length-take, length-drop, length-map, get_or-map, get_or_read}
+use Rattle.dc_word.specs.declared.format.Format.TheVariants.{Bnr}
 use Rattle.dc_bound.specs.lemmas.Caps.{jitter_cap-le}
 use Rattle.dc_bound.specs.Capping.{capped}
 use Rattle.dc_bound.specs.declared.arrival.Wire.{Wire}
@@ -146,7 +147,7 @@ same_read (x ∷ xs) (suc k) z h = same_read xs k z (omega arith)
 -- each stream has a bound
 pub bounds_some : (t : TableRows) → AreValid t → All (λ (s : Stream). (1 ≤ s.minimum) × (s.jitter ≤ 1000000000)) t.streams
 bounds_some t valid = λ k z h.
-    let none : Stream = record { bus = 0; label = 0; sdi = None; minimum = 0; maximum = 0; jitter = 0 } in
+    let none : Stream = record { bus = 0; label = 0; sdi = None; format = Bnr; minimum = 0; maximum = 0; jitter = 0 } in
     let P : Stream → Type 0 = λ s. (1 ≤ s.minimum) × (s.jitter ≤ 1000000000) in
     subst P (sym (get_or_read t.streams k (get_or t.streams k z) h (same_read t.streams k z h) none)) (valid.minimums k h, omega (arith, valid.jitters_small k h))
 

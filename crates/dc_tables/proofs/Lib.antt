@@ -6,7 +6,6 @@ pub mod ValidLabels
 pub mod ValidApart
 pub mod ValidVisits
 pub mod ValidFormats
-pub mod ValidKeys
 pub mod ValidEntries
 pub mod ValidOutputs
 pub mod Valid

@@ -5,6 +5,7 @@ use Rattle.std.specs.Prelude.{option_map}
 use Rattle.std.proofs.lemmas.List.{length-drop, get_or-drop}
 use Rattle.std.proofs.lemmas.Iterator.Adapters.{position_from-zero}
 use Rattle.std.proofs.lemmas.Bool.Decides.{eqb_tells}
+use Rattle.dc_word.specs.declared.format.Format.TheVariants.{Bnr}
 use Rattle.dc_tables.specs.Declares.{declares, stream_of}
 use Rattle.dc_tables.specs.TableRows.{TableRows, AreValid, bus_row, stream_row, bus_streams}
 use Rattle.dc_tables.specs.declared.rows.Stream.{Stream}
@@ -51,7 +52,7 @@ not_of_bus : (b w : ℕ) (s : Stream) → (s.bus ≡ b → ⊥) → declares b w
 not_of_bus b w s h = elim (eqb_tells s.bus b) [ inl q ↦ absurd (h q.1) | inr q ↦ rw (q.0) refl ]
 
 abbrev no_row : Stream
-no_row = record { bus = 0; label = 0; sdi = None; minimum = 0; maximum = 0; jitter = 0 }
+no_row = record { bus = 0; label = 0; sdi = None; format = Bnr; minimum = 0; maximum = 0; jitter = 0 }
 
 -- the streams that declare a word on a bus are those of the bus
 own_stream : (t : TableRows) (b w : ℕ) → AreValid t → b < length t.buses → option_map (λ k. (bus_row t b).first + k) (position (declares b w) (bus_streams t b)) ≡ stream_of t b w

@@ -6,11 +6,10 @@ use Rattle.std.proofs.lemmas.List.{length-map}
 use Rattle.dc_word.specs.declared.format.Format.TheVariants.{Bnr}
 use Rattle.dc_parts.specs.Document.{Document, IsInOrder}
 use Rattle.dc_rules.specs.Rules.{bus_names, stream_names, router_names, output_names, label_names}
-use Rattle.dc_tables.specs.RowsOf.{AreRows, keys_of}
+use Rattle.dc_tables.specs.RowsOf.{AreRows, names_of}
 use Rattle.dc_tables.specs.TableRows.{TableRows, AreValid}
-use Rattle.dc_tables.specs.TableKeys.{TableKeys, WrittenKeys}
-use Rattle.dc_dict.specs.declared.parameter.Parameter.{Parameter as ParameterPart}
-use Rattle.dc_tables.specs.Keyed.{AreKeyed, AreOnce}
+use Rattle.dc_tables.specs.TableNames.{TableNames}
+use Rattle.dc_tables.specs.Named.{HaveNames, AreOnce}
 use Rattle.dc_tables.specs.declared.rows.OutputLabel.{OutputLabel}
 use Rattle.dc_rules.specs.lemmas.Picks.{no_item, not_below}
 use Rattle.dc_rules.specs.Obeys.{ShapeObeys, TotalsObey, QuantitiesObey, NamesObey, ReferencesObey, SchedulesObey, Obeys}
@@ -21,7 +20,6 @@ use Rattle.dc_tables.proofs.ValidOutputs as outputs
 use Rattle.dc_tables.proofs.ValidApart as apart
 use Rattle.dc_tables.proofs.ValidVisits as visits
 use Rattle.dc_tables.proofs.ValidFormats as formats
-use Rattle.dc_tables.proofs.ValidKeys as keys
 
 unmapped : {A : Type 0} (f : A → ℕ) (r : Option A) → option_map f r ≡ None → r ≡ None
 unmapped f None h = refl
@@ -87,6 +85,7 @@ valid d t order rows fit shape totals quantities names refs schedules = record {
   few_sources = labels.few_sources d t rows shape;
   sources_once = apart.sources_once d t rows refs;
   sources_there = labels.sources_there d t rows shape quantities refs;
+  sources_alike = formats.sources_alike d t rows refs schedules;
   stales = labels.stales d t rows shape;
   limits = labels.limits d t rows shape;
   intervals = labels.intervals d t rows shape quantities refs;
@@ -96,42 +95,26 @@ valid d t order rows fit shape totals quantities names refs schedules = record {
 pub valid_rows : (d : Document) (t : TableRows) → IsInOrder d → AreRows d t → LabelsFit t → Obeys d → AreValid t
 valid_rows d t order rows fit all = valid d t order rows fit all.shape all.totals all.quantities all.names all.references all.schedules
 
--- names alike make keys alike
-pub keys_same : {a b e f g a2 b2 e2 f2 g2 : List (List ℕ)} {m m2 : List ParameterPart} {w w2 : WrittenKeys} → a ≡ a2 → b ≡ b2 → e ≡ e2 → f ≡ f2 → g ≡ g2 → m ≡ m2 → w ≡ w2
-    → ◌≡◌ {A = TableKeys} (record { buses = a; streams = b; routers = e; outputs = f; labels = g; parameters = m; written = w }) (record { buses = a2; streams = b2; routers = e2; outputs = f2; labels = g2; parameters = m2; written = w2 })
-keys_same p q r s u v w = λ i. record { buses = p i; streams = q i; routers = r i; outputs = s i; labels = u i; parameters = v i; written = w i }
+-- lists alike make names alike
+pub names_same : {a b e f g a2 b2 e2 f2 g2 : List (List ℕ)} → a ≡ a2 → b ≡ b2 → e ≡ e2 → f ≡ f2 → g ≡ g2
+    → ◌≡◌ {A = TableNames} (record { buses = a; streams = b; routers = e; outputs = f; labels = g }) (record { buses = a2; streams = b2; routers = e2; outputs = f2; labels = g2 })
+names_same p q r s u = λ i. record { buses = p i; streams = q i; routers = r i; outputs = s i; labels = u i }
 
--- names that stand once in the document do so in the keys
-once : (d : Document) (t : TableRows) → AreRows d t → (f : TableKeys → List (List ℕ)) → AreOnce (f (keys_of d)) → AreOnce (f t.keys)
-once d t rows f h = let P : TableKeys → Type 0 = λ k. AreOnce (f k) in subst P (sym rows.keys) h
+-- names that stand once in the document do so in the tables
+once : (d : Document) (t : TableRows) → AreRows d t → (f : TableNames → List (List ℕ)) → AreOnce (f (names_of d)) → AreOnce (f t.names)
+once d t rows f h = let P : TableNames → Type 0 = λ k. AreOnce (f k) in subst P (sym rows.names) h
 
 -- each row has a name
-pub keyed_rows : (d : Document) (t : TableRows) → AreRows d t → Obeys d → AreKeyed t
-keyed_rows d t rows all = record {
-  buses = ap (λ (k : TableKeys). length k.buses) rows.keys ∙ length-map d.buses (λ b. b.name) ∙ sym (buses.bus_count d t rows);
-  streams = ap (λ (k : TableKeys). length k.streams) rows.keys ∙ length-map d.streams (λ s. s.name) ∙ sym (buses.stream_count d t rows);
-  routers = ap (λ (k : TableKeys). length k.routers) rows.keys ∙ length-map d.routers (λ r. r.name) ∙ sym (routers.router_count d t rows);
-  outputs = ap (λ (k : TableKeys). length k.outputs) rows.keys ∙ length-map d.outputs (λ o. o.name) ∙ sym rows.outputs_there;
-  labels = ap (λ (k : TableKeys). length k.labels) rows.keys ∙ length-map d.labels (λ x. x.name) ∙ sym (labels.label_count d t rows);
-  bus_speeds = ap (λ (k : TableKeys). length k.written.bus_speeds) rows.keys ∙ length-map d.buses (λ b. b.speed) ∙ sym (buses.bus_count d t rows);
-  output_speeds = ap (λ (k : TableKeys). length k.written.output_speeds) rows.keys ∙ length-map d.outputs (λ o. o.speed) ∙ sym rows.outputs_there;
-  stream_equipment = ap (λ (k : TableKeys). length k.written.stream_equipment) rows.keys ∙ length-map d.streams (λ s. s.equipment) ∙ sym (buses.stream_count d t rows);
-  stream_jitters = ap (λ (k : TableKeys). length k.written.stream_jitters) rows.keys ∙ length-map d.streams (λ s. s.jitter_us) ∙ sym (buses.stream_count d t rows);
-  label_equipment = ap (λ (k : TableKeys). length k.written.label_equipment) rows.keys ∙ length-map d.labels (λ x. x.equipment) ∙ sym (labels.label_count d t rows);
-  label_offsets = ap (λ (k : TableKeys). length k.written.label_offsets) rows.keys ∙ length-map d.labels (λ x. x.offsets.items) ∙ sym (labels.label_count d t rows);
-  buses_once = once d t rows (λ k. k.buses) (apart.names_once (bus_names d) all.names.buses);
-  streams_once = once d t rows (λ k. k.streams) (apart.names_once (stream_names d) all.names.streams);
-  routers_once = once d t rows (λ k. k.routers) (apart.names_once (router_names d) all.names.routers);
-  outputs_once = once d t rows (λ k. k.outputs) (apart.names_once (output_names d) all.names.outputs);
-  labels_once = once d t rows (λ k. k.labels) (apart.names_once (label_names d) all.names.labels);
-  few_parameters = keys.few_parameters d t rows all.shape;
-  parameters_some = keys.parameters_some d t rows all.shape;
-  parameters_ordered = keys.parameters_ordered d t rows all.quantities;
-  parameters_small = keys.parameters_small d t rows all.shape;
-  parameters_once = keys.parameters_once d t rows all.quantities;
-  jitters_small = keys.jitters_small d t rows all.shape;
-  offsets_some = keys.offsets_some d t rows all.shape;
-  few_offsets = keys.few_offsets d t rows all.shape;
-  formats = formats.formats d t rows all.references;
-  sources_alike = formats.sources_alike d t rows all.references all.schedules;
+pub named_rows : (d : Document) (t : TableRows) → AreRows d t → NamesObey d → HaveNames t
+named_rows d t rows all = record {
+  buses = ap (λ (k : TableNames). length k.buses) rows.names ∙ length-map d.buses (λ b. b.name) ∙ sym (buses.bus_count d t rows);
+  streams = ap (λ (k : TableNames). length k.streams) rows.names ∙ length-map d.streams (λ s. s.name) ∙ sym (buses.stream_count d t rows);
+  routers = ap (λ (k : TableNames). length k.routers) rows.names ∙ length-map d.routers (λ r. r.name) ∙ sym (routers.router_count d t rows);
+  outputs = ap (λ (k : TableNames). length k.outputs) rows.names ∙ length-map d.outputs (λ o. o.name) ∙ sym rows.outputs_there;
+  labels = ap (λ (k : TableNames). length k.labels) rows.names ∙ length-map d.labels (λ x. x.name) ∙ sym (labels.label_count d t rows);
+  buses_once = once d t rows (λ k. k.buses) (apart.names_once (bus_names d) all.buses);
+  streams_once = once d t rows (λ k. k.streams) (apart.names_once (stream_names d) all.streams);
+  routers_once = once d t rows (λ k. k.routers) (apart.names_once (router_names d) all.routers);
+  outputs_once = once d t rows (λ k. k.outputs) (apart.names_once (output_names d) all.outputs);
+  labels_once = once d t rows (λ k. k.labels) (apart.names_once (label_names d) all.labels);
 }

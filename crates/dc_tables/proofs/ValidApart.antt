@@ -16,7 +16,7 @@ use Rattle.dc_parts.specs.declared.parts.LabelPart.{LabelPart}
 use Rattle.dc_rules.specs.lemmas.Apart.{apart}
 use Rattle.dc_rules.specs.lemmas.Picks.{each_fails, any_fails, number_there}
 use Rattle.dc_word.specs.declared.format.Format.TheVariants.{Bnr}
-use Rattle.dc_tables.specs.Keyed.{AreOnce}
+use Rattle.dc_tables.specs.Named.{AreOnce}
 use Rattle.dc_tables.specs.RowsOf.{number_in, stream_row_of, label_row_of, AreRows}
 use Rattle.dc_tables.specs.TableRows.{TableRows, stream_row, label_row}
 use Rattle.dc_tables.specs.declared.rows.Stream.{Stream}
@@ -97,7 +97,7 @@ no_stream = record { bus = 0; name = []; label = 0; equipment = 0; sdi = None; j
 module _ (d : Document) (t : TableRows) (rows : AreRows d t) where
   pub stream_at : (s : ℕ) (x : StreamPart) → s < length d.streams → stream_row t s ≡ stream_row_of d.tick_us d.parameters (get_or d.streams s x)
   stream_at s x l =
-      let e : Stream = record { bus = 0; label = 0; sdi = None; minimum = 0; maximum = 0; jitter = 0 } in
+      let e : Stream = record { bus = 0; label = 0; sdi = None; format = Bnr; minimum = 0; maximum = 0; jitter = 0 } in
       ap (λ (ws : List Stream). get_or ws s e) rows.streams ∙ get_or-map (stream_row_of d.tick_us d.parameters) d.streams s x e l
 
   pub label_at : (x : ℕ) (p : LabelPart) → x < length d.labels → label_row t x ≡ label_row_of d.tick_us d.parameters (stream_names d) (get_or d.labels x p)

@@ -3,6 +3,7 @@ use Rattle.std.proofs.Common.{false, ◌≡◌, ℕ, zero, suc, ◌+◌, ◌<◌
 use Rattle.std.specs.List.{count_by}
 use Rattle.std.specs.Prelude.{is_none}
 use Rattle.std.proofs.lemmas.List.{get_or-map, length-map}
+use Rattle.dc_word.specs.declared.format.Format.TheVariants.{Bnr}
 use Rattle.dc_parts.specs.Document.{Document, stream_owners, IsInOrder}
 use Rattle.dc_rules.specs.Rules.{parameter_of, too_quick, outside, counts, parameter_out}
 use Rattle.dc_parts.specs.Keys.{stream_key}
@@ -62,12 +63,12 @@ module _ (d : Document) (t : TableRows) (rows : AreRows d t) where
       subst S (sym y) (each k x m)) b l))
 
   pub each_stream : (P : Stream → Type 0) → ((k : ℕ) (x : StreamPart) → k < length d.streams → P (stream_row_of d.tick_us d.parameters (get_or d.streams k x))) → (s : ℕ) → s < length t.streams → P (stream_row t s)
-  each_stream P each = rows_each P (stream_row_of d.tick_us d.parameters) d.streams t.streams (record { bus = 0; label = 0; sdi = None; minimum = 0; maximum = 0; jitter = 0 }) rows.streams each
+  each_stream P each = rows_each P (stream_row_of d.tick_us d.parameters) d.streams t.streams (record { bus = 0; label = 0; sdi = None; format = Bnr; minimum = 0; maximum = 0; jitter = 0 }) rows.streams each
 
   pub owner_of : (s : ℕ) → s < length t.streams → (stream_row t s).bus ≡ get_or (stream_owners d) s 0
   owner_of s h =
       let l : s < length d.streams = omega (arith, stream_count) in
-      let e : Stream = record { bus = 0; label = 0; sdi = None; minimum = 0; maximum = 0; jitter = 0 } in
+      let e : Stream = record { bus = 0; label = 0; sdi = None; format = Bnr; minimum = 0; maximum = 0; jitter = 0 } in
       let x : StreamPart = record { bus = 0; name = []; label = 0; equipment = 0; sdi = None; jitter_us = 0 } in
       ap (λ (ys : List Stream). (get_or ys s e).bus) rows.streams
       ∙ ap (λ (r : Stream). r.bus) (get_or-map (stream_row_of d.tick_us d.parameters) d.streams s x e l)

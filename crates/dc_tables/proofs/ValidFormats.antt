@@ -1,6 +1,6 @@
 -- The sources of a label have its format, in tables that break no rule.
 use Rattle.std.proofs.Common.{◌≡◌, ℕ, ◌<◌, true, false, not, ◌==◌, Option, Some, None, is_none, List, [], length, get_or, map, refl, sym, ap, ◌∙◌, arith}
-use Rattle.std.specs.Prelude.{option_map, option_and_then}
+use Rattle.std.specs.Prelude.{option_and_then}
 use Rattle.std.specs.List.{slice_get}
 use Rattle.std.specs.Option.{option_map_or}
 use Rattle.std.proofs.lemmas.List.{length-map, get_or-map}
@@ -14,20 +14,17 @@ use Rattle.dc_parts.specs.Keys.{stream_key, label_key}
 use Rattle.dc_parts.specs.Names.{number_of}
 use Rattle.dc_dict.specs.declared.parameter.Parameter.{Parameter as ParameterPart}
 use Rattle.dc_parts.specs.declared.parts.StreamPart.{StreamPart}
-use Rattle.dc_parts.specs.declared.parts.LabelPart.{LabelPart}
 use Rattle.dc_rules.specs.lemmas.Picks.{each_fails, any_fails, not_false}
-use Rattle.dc_tables.specs.Keyed.{stream_parameter, label_parameter}
 use Rattle.dc_tables.specs.RowsOf.{number_in, AreRows}
-use Rattle.dc_tables.specs.TableKeys.{TableKeys}
 use Rattle.dc_tables.specs.TableRows.{TableRows, stream_row, label_row}
 use Rattle.dc_tables.specs.declared.rows.Stream.{Stream}
-use Rattle.dc_tables.specs.declared.rows.OutputLabel.{OutputLabel}
-use Rattle.dc_tables.proofs.ValidApart.{stream_at, label_at, item, number_below}
+use Rattle.dc_tables.proofs.ValidApart.{stream_at, item, number_below}
 use Rattle.dc_tables.proofs.ValidVisits.{some_is}
-use Rattle.dc_tables.proofs.ValidLabels.{label_count, each_label}
+use Rattle.dc_tables.proofs.ValidLabels.{each_label}
 
-abbrev format_of : Option ParameterPart → Option Format
-format_of = option_map (λ p. p.format)
+-- the format of a parameter, that of BNR where there is none
+abbrev format_of : Option ParameterPart → Format
+format_of p = option_map_or (λ q. q.format) p Bnr
 
 one_format : (a b : Format) → (format_number a == format_number b) ≡ true → a ≡ b
 one_format Bnr Bnr h = refl
@@ -40,42 +37,15 @@ one_format Disc Bnr h = absurd (cc h)
 one_format Disc Bcd h = absurd (cc h)
 one_format Disc Disc h = refl
 
-same_is : (a b : Option ParameterPart) → same_format a b ≡ true → format_of b ≡ Some (option_map_or (λ p. p.format) a Bnr)
+same_is : (a b : Option ParameterPart) → same_format a b ≡ true → format_of b ≡ format_of a
 same_is None b h = absurd (cc h)
 same_is (Some p) None h = absurd (cc h)
-same_is (Some p) (Some q) h = ap (λ f. Some f) (sym (one_format p.format q.format h))
-
-own_is : (a : Option ParameterPart) → is_none a ≡ false → format_of a ≡ Some (option_map_or (λ p. p.format) a Bnr)
-own_is None h = absurd (cc h)
-own_is (Some p) h = refl
+same_is (Some p) (Some q) h = sym (one_format p.format q.format h)
 
 module _ (d : Document) (t : TableRows) (rows : AreRows d t) where
-  -- the parameter of a stream's row is that of the stream
-  parameter_at : (s : ℕ) (x : StreamPart) → s < length d.streams → stream_parameter t s ≡ parameter_of d.parameters (stream_key (get_or d.streams s x))
-  parameter_at s x l =
-      let a : StreamPart = get_or d.streams s x in
-      ap (λ (k : TableKeys). parameter_of k.parameters (record { label = (stream_row t s).label; equipment = get_or k.written.stream_equipment s 0 })) rows.keys
-      ∙ ap (λ (r : Stream). parameter_of d.parameters (record { label = r.label; equipment = get_or (map (λ (s : StreamPart). s.equipment) d.streams) s 0 })) (stream_at d t rows s x l)
-      ∙ ap (λ e. parameter_of d.parameters (record { label = a.label; equipment = e })) (get_or-map (λ (s : StreamPart). s.equipment) d.streams s x 0 l)
-
-  label_parameter_at : (x : ℕ) (p : LabelPart) → x < length d.labels → label_parameter t x ≡ parameter_of d.parameters (label_key (get_or d.labels x p))
-  label_parameter_at x p l =
-      let a : LabelPart = get_or d.labels x p in
-      ap (λ (k : TableKeys). parameter_of k.parameters (record { label = (label_row t x).label; equipment = get_or k.written.label_equipment x 0 })) rows.keys
-      ∙ ap (λ (r : OutputLabel). parameter_of d.parameters (record { label = r.label; equipment = get_or (map (λ (y : LabelPart). y.equipment) d.labels) x 0 })) (label_at d t rows x p l)
-      ∙ ap (λ e. parameter_of d.parameters (record { label = a.label; equipment = e })) (get_or-map (λ (y : LabelPart). y.equipment) d.labels x p 0 l)
-
-  pub formats : ReferencesObey d → (x : ℕ) → x < length t.labels → format_of (label_parameter t x) ≡ Some (label_row t x).format
-  formats refs x h =
-      let l : x < length d.labels = omega (arith, label_count d t rows) in
-      let p : LabelPart = item d.labels x l in
-      ap format_of (label_parameter_at x p l)
-      ∙ own_is (parameter_of d.parameters (label_key (get_or d.labels x p))) (each_fails (λ y. is_none (parameter_of d.parameters (label_key y))) d.labels refs.labels x p l)
-      ∙ ap (λ (r : OutputLabel). Some r.format) (sym (label_at d t rows x p l))
-
-  -- the parameter of a source is that of the stream of its number
+  -- the format of a source is that of the parameter of the stream of its number
   source_is : (wanted : List (List ℕ)) → has_unknown (stream_names d) wanted ≡ false → (k : ℕ) → k < length wanted
-      → stream_parameter t (number_in (stream_names d) (get_or wanted k [])) ≡ source_parameter d.parameters d.streams (stream_names d) (get_or wanted k [])
+      → (stream_row t (number_in (stream_names d) (get_or wanted k []))).format ≡ format_of (source_parameter d.parameters d.streams (stream_names d) (get_or wanted k []))
   source_is wanted known k l =
       let names = stream_names d in
       let w = get_or wanted k [] in
@@ -84,12 +54,12 @@ module _ (d : Document) (t : TableRows) (rows : AreRows d t) where
       let below : n < length d.streams = omega (arith, there, number_below names wanted known k l) in
       let x : StreamPart = item d.streams n below in
       let at : number_of names w ≡ Some n = some_is (number_of names w) (any_fails (λ v. is_none (number_of names v)) wanted known k [] l) in
-      parameter_at n x below
-      ∙ ap (λ r. option_and_then (λ s. parameter_of d.parameters (stream_key s)) r) (sym (slice_get-get_or d.streams n x below))
-      ∙ ap (λ r. option_and_then (λ s. parameter_of d.parameters (stream_key s)) (option_and_then (slice_get d.streams) r)) (sym at)
+      ap (λ (r : Stream). r.format) (stream_at d t rows n x below)
+      ∙ ap (λ r. format_of (option_and_then (λ s. parameter_of d.parameters (stream_key s)) r)) (sym (slice_get-get_or d.streams n x below))
+      ∙ ap (λ r. format_of (option_and_then (λ s. parameter_of d.parameters (stream_key s)) (option_and_then (slice_get d.streams) r))) (sym at)
 
-  pub sources_alike : ReferencesObey d → SchedulesObey d → (x k : ℕ) → x < length t.labels → k < length (label_row t x).sources → format_of (stream_parameter t (get_or (label_row t x).sources k 0)) ≡ Some (label_row t x).format
-  sources_alike refs schedules x k h = each_label d t rows (λ r. k < length r.sources → format_of (stream_parameter t (get_or r.sources k 0)) ≡ Some r.format) (λ j y l m.
+  pub sources_alike : ReferencesObey d → SchedulesObey d → (x k : ℕ) → x < length t.labels → k < length (label_row t x).sources → (stream_row t (get_or (label_row t x).sources k 0)).format ≡ (label_row t x).format
+  sources_alike refs schedules x k h = each_label d t rows (λ r. k < length r.sources → (stream_row t (get_or r.sources k 0)).format ≡ r.format) (λ j y l m.
       let own = get_or d.labels j y in
       let wanted = own.sources.items in
       let names = stream_names d in
@@ -97,6 +67,6 @@ module _ (d : Document) (t : TableRows) (rows : AreRows d t) where
       let there : k < length wanted = omega (arith, m, length-map wanted (number_in names)) in
       let alike = not_false (same_format (parameter_of d.parameters (label_key own)) (source_parameter d.parameters d.streams names (get_or wanted k [])))
       (any_fails (λ n. not (same_format (parameter_of d.parameters (label_key own)) (source_parameter d.parameters d.streams names n))) wanted (each_fails (λ w. differs d.parameters d.streams names w) d.labels schedules.formats j y l) k [] there) in
-      ap (λ n. format_of (stream_parameter t n)) (get_or-map (number_in names) wanted k [] 0 there)
-      ∙ ap format_of (source_is wanted known k there)
+      ap (λ n. (stream_row t n).format) (get_or-map (number_in names) wanted k [] 0 there)
+      ∙ source_is wanted known k there
       ∙ same_is (parameter_of d.parameters (label_key own)) (source_parameter d.parameters d.streams names (get_or wanted k [])) alike) x h

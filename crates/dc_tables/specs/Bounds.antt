@@ -8,7 +8,7 @@ use Rattle.dc_tables.specs.declared.rows.Bus.{Bus}
 use Rattle.dc_tables.specs.declared.rows.Stream.{Stream}
 use Rattle.dc_tables.specs.declared.rows.Output.{Output}
 use Rattle.dc_tables.specs.declared.made.Rows.{Rows}
-use Rattle.dc_tables.specs.TableKeys.{TableKeys}
+use Rattle.dc_tables.specs.TableNames.{TableNames}
 use Rattle.dc_tables.specs.TableRows.{TableRows, stream_cap}
 
 -- the most words of such a stream in d ticks
@@ -31,7 +31,7 @@ AreBounds bounds buses streams = AllZip (λ own row. AreBoundsOf own (take row.s
 abbrev pub frame_offsets : List Output → List (List ℕ)
 frame_offsets outputs = map (λ o. map (λ e. e.offset) o.entries) outputs
 
--- the rows with their keys and the length of a tick
-abbrev pub table_rows : ℕ → TableKeys → Rows → TableRows
-table_rows tick_us keys rows =
-    record { tick_us = tick_us; buses = rows.buses.items; streams = rows.streams.items; routers = rows.routers.items; outputs = rows.outputs.items; labels = rows.labels.items; keys = keys }
+-- the rows with their names and the length of a tick
+abbrev pub table_rows : ℕ → TableNames → Rows → TableRows
+table_rows tick_us names rows =
+    record { tick_us = tick_us; buses = rows.buses.items; streams = rows.streams.items; routers = rows.routers.items; outputs = rows.outputs.items; labels = rows.labels.items; names = names }

@@ -1,7 +1,8 @@
-pub mod TableKeys
+pub mod TableNames
 pub mod TableRows
-pub mod Keyed
+pub mod Named
 pub mod Bounds
 pub mod RowsOf
+pub mod Written
 pub mod Placed
 pub mod Declares

@@ -22,7 +22,7 @@ use Rattle.dc_parts.specs.Ticks.{output_gap, input_spacing}
 use Rattle.dc_rules.specs.Rules.{parameter_of, visits_bus, entries_from, bus_names, stream_names, router_names, output_names, label_names}
 use Rattle.dc_parts.specs.Keys.{stream_key, label_key}
 use Rattle.dc_parts.specs.Names.{number_of}
-use Rattle.dc_tables.specs.TableKeys.{TableKeys, WrittenKeys}
+use Rattle.dc_tables.specs.TableNames.{TableNames}
 use Rattle.dc_tables.specs.TableRows.{TableRows, output_row}
 
 -- a bus with these streams and this router
@@ -45,12 +45,13 @@ abbrev pub bus_rows_from : List ℕ → List RouterPart → ℕ → List BusPart
 bus_rows_from owners routers b [] = []
 bus_rows_from owners routers b (x ∷ xs) = bus_row_of owners routers b x ∷ bus_rows_from owners routers (suc b) xs
 
--- a stream: its parameter's interval and its jitter in ticks
+-- a stream: its parameter's format, its parameter's interval and its jitter in ticks
 abbrev pub stream_row_of : (tick : ℕ) → List ParameterPart → StreamPart → Stream
 stream_row_of tick parameters s = record {
   bus = s.bus;
   label = s.label;
   sdi = s.sdi;
+  format = option_map_or (λ p. p.format) (parameter_of parameters (stream_key s)) Bnr;
   minimum = option_map_or (λ p. in_minimum p.min_us tick) (parameter_of parameters (stream_key s)) 0;
   maximum = option_map_or (λ p. in_maximum p.max_us tick) (parameter_of parameters (stream_key s)) 0;
   jitter = jitter_ticks s.jitter_us tick;
@@ -102,26 +103,14 @@ pub record AreOutputs (tick : ℕ) (all : List PlacedEntry) (parts : List Output
   pub there : length rows ≡ n
   pub each : (o : ℕ) (e : OutputPart) → o < n → IsOutputRow tick all o (slice_index_or parts o e) (slice_index_or rows o (record { steps = 0; within = 0; gap = 0; frame = 0; entries = [] }))
 
--- what is kept as it is written
-abbrev pub written_of : Document → WrittenKeys
-written_of d = record {
-  bus_speeds = map (λ b. b.speed) d.buses;
-  output_speeds = map (λ o. o.speed) d.outputs;
-  stream_equipment = map (λ s. s.equipment) d.streams;
-  stream_jitters = map (λ s. s.jitter_us) d.streams;
-  label_equipment = map (λ x. x.equipment) d.labels;
-  label_offsets = map (λ x. x.offsets.items) d.labels;
-}
-
-abbrev pub keys_of : Document → TableKeys
-keys_of d = record {
+-- the names of a document's tables
+abbrev pub names_of : Document → TableNames
+names_of d = record {
   buses = bus_names d;
   streams = stream_names d;
   routers = router_names d;
   outputs = output_names d;
   labels = label_names d;
-  parameters = d.parameters;
-  written = written_of d;
 }
 
 -- the rows of a document
@@ -133,4 +122,4 @@ pub record AreRows (d : Document) (t : TableRows) : Type 0 where
   pub outputs_there : length t.outputs ≡ length d.outputs
   pub outputs : (o : ℕ) (e : OutputPart) → o < length d.outputs → IsOutputRow d.tick_us (entries_from 0 d.labels) o (slice_index_or d.outputs o e) (output_row t o)
   pub labels : t.labels ≡ map (label_row_of d.tick_us d.parameters (stream_names d)) d.labels
-  pub keys : t.keys ≡ keys_of d
+  pub names : t.names ≡ names_of d

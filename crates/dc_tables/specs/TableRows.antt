@@ -13,9 +13,8 @@ use Rattle.dc_tables.specs.declared.rows.Output.{Output}
 use Rattle.dc_tables.specs.declared.rows.Entry.{Entry}
 use Rattle.dc_tables.specs.declared.rows.OutputLabel.{OutputLabel}
 use Rattle.dc_word.specs.declared.format.Format.TheVariants.{Bnr}
-use Rattle.dc_dict.specs.declared.parameter.Parameter.{Parameter as ParameterPart}
 use Rattle.dc_rules.specs.Rules.{sdis_meet}
-use Rattle.dc_tables.specs.TableKeys.{TableKeys}
+use Rattle.dc_tables.specs.TableNames.{TableNames}
 use Rattle.dc_parts.specs.declared.limits.TheConstants.{GREATEST_AGE, GREATEST_JITTER, GREATEST_QUEUE, LONGEST_FRAME, LONGEST_INTERVAL, LONGEST_STALE, LONGEST_TICK, LONGEST_WITHIN, MOST_BUSES, MOST_ENTRIES, MOST_LABELS, MOST_MEMBERS, MOST_OUTPUTS, MOST_ROUTERS, MOST_SOURCES, MOST_STEPS, MOST_STREAMS, MOST_VISITS, SHORTEST_TICK}
 
 pub record TableRows : Type 0 where
@@ -25,7 +24,7 @@ pub record TableRows : Type 0 where
   pub routers : List Router
   pub outputs : List Output
   pub labels : List OutputLabel
-  pub keys : TableKeys
+  pub names : TableNames
 
 -- ---- the row of a number
 
@@ -33,7 +32,7 @@ abbrev pub bus_row : TableRows → ℕ → Bus
 bus_row t b = slice_index_or t.buses b (record { queue = 0; police = false; spacing = 0; first = 0; streams = 0; router = 0 })
 
 abbrev pub stream_row : TableRows → ℕ → Stream
-stream_row t s = slice_index_or t.streams s (record { bus = 0; label = 0; sdi = None; minimum = 0; maximum = 0; jitter = 0 })
+stream_row t s = slice_index_or t.streams s (record { bus = 0; label = 0; sdi = None; format = Bnr; minimum = 0; maximum = 0; jitter = 0 })
 
 abbrev pub router_row : TableRows → ℕ → Router
 router_row t r = slice_index_or t.routers r (record { steps = 0; within = 0; most = 0; visits = [] })
@@ -43,10 +42,6 @@ output_row t o = slice_index_or t.outputs o (record { steps = 0; within = 0; gap
 
 abbrev pub label_row : TableRows → ℕ → OutputLabel
 label_row t x = slice_index_or t.labels x (record { output = 0; label = 0; sdi = 0; format = Bnr; sources = []; stale = 0; age_limit = 0; minimum = 0; maximum = 0 })
-
--- the parameter of this number
-abbrev pub parameter_row : TableRows → ℕ → ParameterPart
-parameter_row t p = slice_index_or t.keys.parameters p (record { label = 0; equipment = 0; format = Bnr; min_us = 0; max_us = 0 })
 
 -- the entry of the output's frame
 abbrev pub entry_row : TableRows → ℕ → ℕ → Entry
@@ -116,7 +111,7 @@ pub record AreValid (t : TableRows) : Type 0 where
   pub entries_ascend : (o i j : ℕ) → o < length t.outputs → i < j → j < length (output_row t o).entries → (entry_row t o i).offset < (entry_row t o j).offset
   pub entries_in_frame : (o i : ℕ) → o < length t.outputs → i < length (output_row t o).entries → (entry_row t o i).offset < (output_row t o).frame
   pub entries_labelled : (o i : ℕ) → o < length t.outputs → i < length (output_row t o).entries → ((entry_row t o i).label < length t.labels) × ((label_row t (entry_row t o i).label).output ≡ o)
-  -- labels: those of an output differ in label or SDI, and the sources of one differ
+  -- labels: those of an output differ in label or SDI, and the sources of one differ and have its format
   pub labels_apart : (x y : ℕ) → x < length t.labels → y < length t.labels → (label_row t x).output ≡ (label_row t y).output → (label_row t x).label ≡ (label_row t y).label → (label_row t x).sdi ≡ (label_row t y).sdi → x ≡ y
   pub few_output_labels : (o : ℕ) → o < length t.outputs → count_by (λ x. x.output == o) t.labels ≤ MOST_MEMBERS
   pub labels_on_outputs : (x : ℕ) → x < length t.labels → (label_row t x).output < length t.outputs
@@ -126,6 +121,7 @@ pub record AreValid (t : TableRows) : Type 0 where
   pub few_sources : (x : ℕ) → x < length t.labels → length (label_row t x).sources ≤ MOST_SOURCES
   pub sources_once : (x i j : ℕ) → x < length t.labels → i < length (label_row t x).sources → j < length (label_row t x).sources → slice_index (label_row t x).sources i ≡ slice_index (label_row t x).sources j → i ≡ j
   pub sources_there : (x k : ℕ) → x < length t.labels → k < length (label_row t x).sources → slice_index (label_row t x).sources k < length t.streams
+  pub sources_alike : (x k : ℕ) → x < length t.labels → k < length (label_row t x).sources → (stream_row t (slice_index (label_row t x).sources k)).format ≡ (label_row t x).format
   pub stales : (x : ℕ) → x < length t.labels → (1 ≤ (label_row t x).stale) × ((label_row t x).stale ≤ LONGEST_STALE)
   pub limits : (x : ℕ) → x < length t.labels → (1 ≤ (label_row t x).age_limit) × ((label_row t x).age_limit ≤ GREATEST_AGE)
   pub intervals : (x : ℕ) → x < length t.labels → (label_row t x).minimum ≤ (label_row t x).maximum

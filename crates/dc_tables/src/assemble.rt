@@ -67,14 +67,19 @@ fn stream_row(tick_us: u32, parameters: &Parameters, part: &StreamPart) -> Strea
     requires { 1 ≤ tick_us }
     ensures { result ≡ stream_row_of tick_us parameters.now part.now }
 {
-    let (minimum, maximum) = match parameters.find(part.key()) {
-        None => (0, 0),
-        Some(p) => (in_minimum(p.min_us, tick_us), in_maximum(p.max_us, tick_us)),
+    let (format, minimum, maximum) = match parameters.find(part.key()) {
+        None => (Format::Bnr, 0, 0),
+        Some(p) => (
+            p.format,
+            in_minimum(p.min_us, tick_us),
+            in_maximum(p.max_us, tick_us),
+        ),
     };
     Stream {
         bus: part.bus,
         label: part.label,
         sdi: part.sdi,
+        format,
         minimum,
         maximum,
         jitter: jitter_ticks(part.jitter_us, tick_us),

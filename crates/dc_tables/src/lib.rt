@@ -11,3 +11,4 @@ mod written;
 
 pub use rows::{Bus, Entries, Entry, Numbers, Output, OutputLabel, Router, Stream};
 pub use tables::Tables;
+pub use written::WrittenTables;

@@ -1,6 +1,6 @@
 //! The rows of a document's lists.
 ghost use Rattle.std.specs.Prelude.{All, ◌≡◌, ◌+◌, ◌≤◌, ◌<◌, map, length, IfOk};
-ghost use Rattle.dc_tables.specs.RowsOf.{bus_rows_from, stream_row_of, router_row_of, label_row_of, AreOutputs, AreRows, keys_of, written_of};
+ghost use Rattle.dc_tables.specs.RowsOf.{bus_rows_from, stream_row_of, router_row_of, label_row_of, AreOutputs, AreRows, names_of};
 ghost use Rattle.dc_tables.specs.Bounds.{AreBounds, frame_offsets, table_rows};
 ghost use Rattle.dc_rules.specs.Rules.{entries_from, bus_names, stream_names};
 ghost use Rattle.dc_parts.specs.Document.{stream_owners};
@@ -12,7 +12,6 @@ use crate::alike::{BusBounds, bus_bounds};
 use crate::assemble::{bus_rows, label_rows, output_rows, router_rows, stream_rows};
 use crate::bounds::{FrameOffsets, output_offsets};
 use crate::rows::{Bus, Output, OutputLabel, Router, Stream};
-use crate::written::Written;
 use dc_parts::Parts;
 use dc_rules::{NameIndex, Parameters, Passed, PlacedEntry, stream_owners};
 use std::alloc::{AllocError, Global};
@@ -32,7 +31,6 @@ pub(crate) struct Rows {
 pub(crate) struct Kept {
     pub bounds: Vec<BusBounds>,
     pub offsets: Vec<FrameOffsets>,
-    pub written: Written,
 }
 
 pub(crate) fn make_buses(alloc: Global, parts: &Parts) -> Result<Vec<Bus>, AllocError>
@@ -98,7 +96,7 @@ pub(crate) fn make_labels(
 pub(crate) fn make_rows(alloc: Global, parts: &Parts, passed: &Passed) -> Result<Rows, AllocError>
     requires tick { 1 ≤ parts.now.tick_us }
     requires passed { ArePassed parts.now passed.now }
-    ensures rows { IfOk result (λ r. AreRows parts.now (table_rows parts.now.tick_us (keys_of parts.now) r)) }
+    ensures rows { IfOk result (λ r. AreRows parts.now (table_rows parts.now.tick_us (names_of parts.now) r)) }
     ensures fit { IfOk result (λ r. All (λ x. (x.label < 256) × (x.sdi < 4)) r.labels.items) }
 {
     let buses = make_buses(alloc, parts)?;
@@ -116,20 +114,14 @@ pub(crate) fn make_rows(alloc: Global, parts: &Parts, passed: &Passed) -> Result
 }
 
 /// What is kept beside these rows.
-pub(crate) fn make_kept(alloc: Global, parts: &Parts, rows: &Rows) -> Result<Kept, AllocError>
+pub(crate) fn make_kept(alloc: Global, rows: &Rows) -> Result<Kept, AllocError>
     requires few { length rows.now.streams.items ≤ MOST_STREAMS }
     requires bounded { All (λ s. (1 ≤ s.minimum) × (s.jitter ≤ GREATEST_JITTER)) rows.now.streams.items }
     requires there { All (λ b. b.first + b.streams ≤ length rows.now.streams.items) rows.now.buses.items }
     ensures bounds { IfOk result (λ k. AreBounds k.bounds.items rows.now.buses.items rows.now.streams.items) }
     ensures offsets { IfOk result (λ k. k.offsets.items ≡ frame_offsets rows.now.outputs.items) }
-    ensures written { IfOk result (λ k. k.written ≡ written_of parts.now) }
 {
     let bounds = bus_bounds(alloc, &rows.buses, &rows.streams)?;
     let offsets = output_offsets(alloc, &rows.outputs)?;
-    let written = Written::of(alloc, parts)?;
-    Ok(Kept {
-        bounds,
-        offsets,
-        written,
-    })
+    Ok(Kept { bounds, offsets })
 }

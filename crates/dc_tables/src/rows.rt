@@ -30,6 +30,8 @@ pub struct Stream {
     pub label: Label,
     /// The SDI of its words; `None` for any.
     pub sdi: Option<Sdi>,
+    /// The format of its data.
+    pub format: Format,
     /// The least interval between two of its words without jitter, in ticks: 1 to `maximum`.
     pub minimum: u32,
     /// The greatest interval between two of its words, in ticks, up to

@@ -6,11 +6,9 @@ use crate::alike::BusBounds;
 use crate::bounds::{FrameOffsets, part, wire_of};
 use crate::made::{make_kept, make_rows};
 use crate::rows::{Bus, Output, OutputLabel, Router, Stream};
-use crate::written::Written;
 use dc_bound::{Alike, ArrivalBound, Capped, Cyclic, Paced, ServiceBound, SumOf, Visits};
-use dc_dict::{Equipment, Parameter};
-use dc_parts::{BuildError, Name, Parts, Speed};
-use dc_rules::{NameIndex, Parameters, Passed};
+use dc_parts::{BuildError, Name, Parts};
+use dc_rules::{NameIndex, Passed};
 use dc_word::{Sdi, Word};
 use std::alloc::{AllocError, Global};
 use std::marker::Model;
@@ -31,27 +29,25 @@ pub struct Tables {
     router_names: NameIndex,
     output_names: NameIndex,
     label_names: NameIndex,
-    parameters: Parameters,
-    written: Written,
 }
 
 impl Model for Tables {
     ghost use Rattle.std.specs.Prelude.{◌≡◌};
     ghost use Rattle.dc_tables.specs.TableRows.{TableRows};
     ghost use Rattle.dc_tables.specs.Bounds.{AreBounds, frame_offsets};
-    ghost use Rattle.dc_tables.specs.Keyed.{AreSound};
+    ghost use Rattle.dc_tables.specs.Named.{AreSound};
 
     ghost Value = { TableRows };
 
-    ghost view = { λ t. record { tick_us = t.tick_us; buses = t.buses.items; streams = t.streams.items; routers = t.routers.items; outputs = t.outputs.items; labels = t.labels.items; keys = record { buses = t.bus_names; streams = t.stream_names; routers = t.router_names; outputs = t.output_names; labels = t.label_names; parameters = t.parameters; written = t.written } } };
+    ghost view = { λ t. record { tick_us = t.tick_us; buses = t.buses.items; streams = t.streams.items; routers = t.routers.items; outputs = t.outputs.items; labels = t.labels.items; names = record { buses = t.bus_names; streams = t.stream_names; routers = t.router_names; outputs = t.output_names; labels = t.label_names } } };
 
-    ghost invariant = { λ t. AreBounds t.bounds.items t.buses.items t.streams.items × (t.offsets.items ≡ frame_offsets t.outputs.items) × AreSound (record { tick_us = t.tick_us; buses = t.buses.items; streams = t.streams.items; routers = t.routers.items; outputs = t.outputs.items; labels = t.labels.items; keys = record { buses = t.bus_names; streams = t.stream_names; routers = t.router_names; outputs = t.output_names; labels = t.label_names; parameters = t.parameters; written = t.written } }) };
+    ghost invariant = { λ t. AreBounds t.bounds.items t.buses.items t.streams.items × (t.offsets.items ≡ frame_offsets t.outputs.items) × AreSound (record { tick_us = t.tick_us; buses = t.buses.items; streams = t.streams.items; routers = t.routers.items; outputs = t.outputs.items; labels = t.labels.items; names = record { buses = t.bus_names; streams = t.stream_names; routers = t.router_names; outputs = t.output_names; labels = t.label_names } }) };
 }
 
 impl Tables {
-    ghost use Rattle.dc_tables.specs.TableRows.{AreValid, parameter_row, stream_row, output_row, label_row, bus_cap, bus_floor, output_cap, output_floor};
+    ghost use Rattle.dc_tables.specs.TableRows.{AreValid, stream_row, output_row, label_row, bus_cap, bus_floor, output_cap, output_floor};
     ghost use Rattle.std.specs.Prelude.{ℕ, ◌≤◌, Ok, IfOk, vec_len, [], slice_index_or};
-    ghost use Rattle.dc_tables.specs.Keyed.{AreKeyed};
+    ghost use Rattle.dc_tables.specs.Named.{HaveNames};
     ghost use Rattle.dc_tables.specs.RowsOf.{AreRows};
     ghost use Rattle.dc_rules.specs.Rules.{Tells, verdict_of};
     ghost use Rattle.dc_parts.specs.Names.{number_of};
@@ -66,8 +62,17 @@ impl Tables {
         ensures verdict { Tells (verdict_of parts) result }
         ensures rows { IfOk result (λ t. AreRows parts t) }
     {
-        let passed = Passed::of(alloc, &parts)?;
-        Tables::assembled(alloc, &parts, passed)
+        Tables::of(alloc, &parts)
+    }
+
+    /// The tables of these parts, which stay with the caller.
+    pub(crate) fn of(alloc: Global, parts: &Parts) -> Result<Tables, BuildError>
+        ensures verdict { Tells (verdict_of parts.now) result }
+        ensures obeys { IfOk result (λ t. Obeys parts.now) }
+        ensures rows { IfOk result (λ t. AreRows parts.now t) }
+    {
+        let passed = Passed::of(alloc, parts)?;
+        Tables::assembled(alloc, parts, passed)
     }
 
     /// The tables of parts that break no rule.
@@ -78,13 +83,9 @@ impl Tables {
     {
         parts.in_order();
         let rows = make_rows(alloc, parts, &passed)?;
-        let kept = make_kept(alloc, parts, &rows)?;
+        let kept = make_kept(alloc, &rows)?;
         let tick_us = parts.tick_us();
-        let Passed {
-            parameters,
-            names,
-            ..
-        } = passed;
+        let Passed { names, .. } = passed;
         Ok(Tables {
             tick_us,
             buses: rows.buses,
@@ -99,8 +100,6 @@ impl Tables {
             router_names: names.routers,
             output_names: names.outputs,
             label_names: names.labels,
-            parameters,
-            written: kept.written,
         })
     }
 
@@ -120,35 +119,35 @@ impl Tables {
 
     /// The number of the bus of this name, from 0, where it is there.
     pub fn bus_named(&self, name: &Name) -> Option<usize>
-        ensures { result ≡ number_of self.now.keys.buses name.now }
+        ensures { result ≡ number_of self.now.names.buses name.now }
     {
         self.bus_names.number_of(name)
     }
 
     /// The number of the router of this name, from 0, where it is there.
     pub fn router_named(&self, name: &Name) -> Option<usize>
-        ensures { result ≡ number_of self.now.keys.routers name.now }
+        ensures { result ≡ number_of self.now.names.routers name.now }
     {
         self.router_names.number_of(name)
     }
 
     /// The number of the output of this name, from 0, where it is there.
     pub fn output_named(&self, name: &Name) -> Option<usize>
-        ensures { result ≡ number_of self.now.keys.outputs name.now }
+        ensures { result ≡ number_of self.now.names.outputs name.now }
     {
         self.output_names.number_of(name)
     }
 
     /// The number of the stream of this name among the streams of all buses, from 0, where it is there.
     pub fn stream_named(&self, name: &Name) -> Option<usize>
-        ensures { result ≡ number_of self.now.keys.streams name.now }
+        ensures { result ≡ number_of self.now.names.streams name.now }
     {
         self.stream_names.number_of(name)
     }
 
     /// The number of the label of this name among the labels of all outputs, from 0, where it is there.
     pub fn label_named(&self, name: &Name) -> Option<usize>
-        ensures { result ≡ number_of self.now.keys.labels name.now }
+        ensures { result ≡ number_of self.now.names.labels name.now }
     {
         self.label_names.number_of(name)
     }
@@ -156,7 +155,7 @@ impl Tables {
     /// The name of a bus.
     pub fn bus_name(&self, bus: usize) -> &Name
         requires { bus < length self.now.buses }
-        ensures { result.now ≡ slice_index_or self.now.keys.buses bus [] }
+        ensures { result.now ≡ slice_index_or self.now.names.buses bus [] }
     {
         self.bus_names.name(bus)
     }
@@ -164,7 +163,7 @@ impl Tables {
     /// The name of a stream.
     pub fn stream_name(&self, stream: usize) -> &Name
         requires { stream < length self.now.streams }
-        ensures { result.now ≡ slice_index_or self.now.keys.streams stream [] }
+        ensures { result.now ≡ slice_index_or self.now.names.streams stream [] }
     {
         self.stream_names.name(stream)
     }
@@ -172,7 +171,7 @@ impl Tables {
     /// The name of a router.
     pub fn router_name(&self, router: usize) -> &Name
         requires { router < length self.now.routers }
-        ensures { result.now ≡ slice_index_or self.now.keys.routers router [] }
+        ensures { result.now ≡ slice_index_or self.now.names.routers router [] }
     {
         self.router_names.name(router)
     }
@@ -180,7 +179,7 @@ impl Tables {
     /// The name of an output.
     pub fn output_name(&self, output: usize) -> &Name
         requires { output < length self.now.outputs }
-        ensures { result.now ≡ slice_index_or self.now.keys.outputs output [] }
+        ensures { result.now ≡ slice_index_or self.now.names.outputs output [] }
     {
         self.output_names.name(output)
     }
@@ -188,81 +187,14 @@ impl Tables {
     /// The name of a label, of its number among the labels of all outputs.
     pub fn label_name(&self, label: usize) -> &Name
         requires { label < length self.now.labels }
-        ensures { result.now ≡ slice_index_or self.now.keys.labels label [] }
+        ensures { result.now ≡ slice_index_or self.now.names.labels label [] }
     {
         self.label_names.name(label)
     }
 
-    /// How many parameters there are, at most [`MOST_PARAMETERS`](dc_parts::MOST_PARAMETERS).
-    pub fn parameter_count(&self) -> usize
-        ensures { result ≡ length self.now.keys.parameters }
-    {
-        self.parameters.len()
-    }
-
-    /// A parameter, as it is written: its interval is 1 to [`LONGEST_INTERVAL_US`](dc_parts::LONGEST_INTERVAL_US)
-    /// microseconds, the least at most the greatest.
-    pub fn parameter(&self, parameter: usize) -> &Parameter
-        requires { parameter < length self.now.keys.parameters }
-        ensures { result.now ≡ parameter_row self.now parameter }
-    {
-        self.parameters.at(parameter)
-    }
-
-    /// The speed of a bus.
-    pub fn bus_speed(&self, bus: usize) -> Speed
-        requires { bus < length self.now.buses }
-        ensures { result ≡ slice_index_or self.now.keys.written.bus_speeds bus Speed.High }
-    {
-        self.written.bus_speed(bus)
-    }
-
-    /// The speed of an output.
-    pub fn output_speed(&self, output: usize) -> Speed
-        requires { output < length self.now.outputs }
-        ensures { result ≡ slice_index_or self.now.keys.written.output_speeds output Speed.High }
-    {
-        self.written.output_speed(output)
-    }
-
-    /// The equipment code of a stream's parameter.
-    pub fn stream_equipment(&self, stream: usize) -> Equipment
-        requires { stream < length self.now.streams }
-        ensures { result ≡ slice_index_or self.now.keys.written.stream_equipment stream 0 }
-    {
-        self.written.stream_equipment(stream)
-    }
-
-    /// The jitter of a stream in microseconds, as it is written, at most
-    /// [`GREATEST_JITTER_US`](dc_parts::GREATEST_JITTER_US).
-    pub fn stream_jitter(&self, stream: usize) -> u32
-        requires { stream < length self.now.streams }
-        ensures { result ≡ slice_index_or self.now.keys.written.stream_jitters stream 0 }
-    {
-        self.written.stream_jitter(stream)
-    }
-
-    /// The equipment code of a label's parameter.
-    pub fn label_equipment(&self, label: usize) -> Equipment
-        requires { label < length self.now.labels }
-        ensures { result ≡ slice_index_or self.now.keys.written.label_equipment label 0 }
-    {
-        self.written.label_equipment(label)
-    }
-
-    /// The ticks of the frame in which a label is due, in the order of the text: 1 to
-    /// [`MOST_OFFSETS`](dc_parts::MOST_OFFSETS) of them.
-    pub fn label_offsets(&self, label: usize) -> &[u32]
-        requires { label < length self.now.labels }
-        ensures { result.now ≡ slice_index_or self.now.keys.written.label_offsets label [] }
-    {
-        self.written.label_offsets(label)
-    }
-
-    /// Each row has its name and its written keys, the names of a kind differ, the parameters are in their ranges and
-    /// differ, and the format of a label is that of its parameter and of its sources. The call does nothing.
-    pub fn keyed(&self)
-        ensures { AreKeyed self.now }
+    /// Each row has its name, and the names of a kind differ. The call does nothing.
+    pub fn named(&self)
+        ensures { HaveNames self.now }
     {
         let _ = &self.tick_us;
     }

@@ -1,6 +1,7 @@
 -- What stands at a key: its kind (T05), its range (T06), its spelling (T07), its length (T08), in that order.
 use Rattle.std.specs.Prelude.{ℕ, ◌+◌, ◌-◌, ◌*◌, ℤ, pos, negsuc, List, [], ◌∷◌, length, slice_index, codes, Bool, true, ◌&&◌, ◌==◌, nat_le, nat_lt, if◌then◌else◌, Option, Some, None, is_some, option_and_then, option_map, Ok}
 use Rattle.std.specs.List.{list_any}
+use Rattle.dc_word.specs.Digits.{digit_in}
 use Rattle.toml.specs.Data.{Data, Items, no_items, item, Members, no_members, member, same_key, get_member, as_str, as_integer, as_bool, as_array, as_table}
 use Rattle.dc_word.specs.declared.format.Format.{Format}
 use Rattle.dc_word.specs.declared.format.Format.TheVariants.{Bnr, Bcd, Disc}
@@ -82,19 +83,10 @@ format_of s = if same_key s (codes "bnr") then Some Bnr else if same_key s (code
 abbrev pub format_at : TablePlace → List ℕ → Members → Reading Format
 format_at p key ms = text_at p key ms >>= (λ s. found p WrongSpelling (format_of s))
 
--- the value of a digit in a base of at most 16, in either case
-abbrev pub digit_value : ℕ → Option ℕ
-digit_value c =
-    if nat_le 48 c && nat_le c 57 then Some (c - 48) else if nat_le 65 c && nat_le c 70 then Some (c - 55) else if nat_le 97 c && nat_le c 102 then Some (c - 87) else None
-
--- the value of a digit in this base
-abbrev pub digit : (base c : ℕ) → Option ℕ
-digit base c = option_and_then (λ n. if nat_lt n base then Some n else None) (digit_value c)
-
 -- three digits, the first of highest value
 abbrev pub three_digits : (base : ℕ) → List ℕ → Option (ℕ × ℕ × ℕ)
 three_digits base s =
-    if length s == 3 then option_and_then (λ h. option_and_then (λ m. option_map (λ l. (h, m, l)) (digit base (slice_index s 2))) (digit base (slice_index s 1))) (digit base (slice_index s 0)) else None
+    if length s == 3 then option_and_then (λ h. option_and_then (λ m. option_map (λ l. (h, m, l)) (digit_in base (slice_index s 2))) (digit_in base (slice_index s 1))) (digit_in base (slice_index s 0)) else None
 
 -- a label, 001 to 377 in octal digits
 abbrev pub label_in : ℕ → Option ℕ

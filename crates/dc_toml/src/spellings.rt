@@ -1,11 +1,11 @@
 //! Texts that stand for a word, a label or a code.
 ghost use Rattle.std.specs.Prelude.{◌≡◌, ℕ, ◌<◌, IfSome};
 ghost use Rattle.toml.specs.Data.{same_key};
-ghost use Rattle.dc_toml.specs.Keys.{digit_value as value_of_digit, digit as digit_in, three_digits as three_digits_of, label_in, label_of, equipment_of, speed_of, format_of};
+ghost use Rattle.dc_toml.specs.Keys.{three_digits as three_digits_of, label_in, label_of, equipment_of, speed_of, format_of};
 
 use dc_dict::Equipment;
 use dc_parts::Speed;
-use dc_word::{Format, Label};
+use dc_word::{Format, Label, digit_in};
 
 /// Whether two texts are the same.
 pub fn is_same(one: &str, other: &str) -> bool
@@ -42,47 +42,22 @@ pub fn format(text: &str) -> Option<Format>
     }
 }
 
-// The value of a digit in a base of at most 16, in either case.
-fn digit_value(byte: u8) -> Option<u32>
-    ensures value { result ≡ value_of_digit byte }
-{
-    if b'0' <= byte && byte <= b'9' {
-        Some((byte - 48) as u32)
-    } else if b'A' <= byte && byte <= b'F' {
-        Some((byte - 55) as u32)
-    } else if b'a' <= byte && byte <= b'f' {
-        Some((byte - 87) as u32)
-    } else {
-        None
-    }
-}
-
-// The value of a digit in this base.
-fn digit(base: u32, byte: u8) -> Option<u32>
-    ensures value { result ≡ digit_in base byte }
-    ensures below { IfSome result (λ n. n < base) }
-{
-    let Some(value) = digit_value(byte) else {
-        return None;
-    };
-    if value < base { Some(value) } else { None }
-}
-
 // The values of three digits.
 fn three_digits(base: u32, text: &[u8]) -> Option<(u32, u32, u32)>
+    requires { (2 ≤ base) × (base ≤ 16) }
     ensures value { result ≡ three_digits_of base text.now }
     ensures below { IfSome result (λ d. (d.0 < base) × (d.1 < base) × (d.2 < base)) }
 {
     if text.len() != 3 {
         return None;
     }
-    let Some(high) = digit(base, text[0]) else {
+    let Some(high) = digit_in(base, text[0]) else {
         return None;
     };
-    let Some(middle) = digit(base, text[1]) else {
+    let Some(middle) = digit_in(base, text[1]) else {
         return None;
     };
-    let Some(low) = digit(base, text[2]) else {
+    let Some(low) = digit_in(base, text[2]) else {
         return None;
     };
     Some((high, middle, low))

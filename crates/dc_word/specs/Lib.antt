@@ -1,3 +1,4 @@
 pub mod Format
 pub mod Word
 pub mod Bcd
+pub mod Digits

@@ -331,18 +331,18 @@ names-none : (t : TableRows) (claims : NamedRows) → misnaming t claims ≡ Non
 names-none t claims h =
     let r = first_of-none (name_rules t claims) h in
     record {
-      inputs = named-is (length t.buses) (map (λ i. i.bus) claims.inputs) t.keys.buses (unless-none _ _ r.0);
-      outputs = named-is (length t.outputs) (map (λ o. o.output) claims.outputs) t.keys.outputs (unless-none _ _ r.1.0);
-      labels = named-is (length t.labels) (map (λ l. l.label) claims.labels) t.keys.labels (unless-none _ _ r.1.1.0);
+      inputs = named-is (length t.buses) (map (λ i. i.bus) claims.inputs) t.names.buses (unless-none _ _ r.0);
+      outputs = named-is (length t.outputs) (map (λ o. o.output) claims.outputs) t.names.outputs (unless-none _ _ r.1.0);
+      labels = named-is (length t.labels) (map (λ l. l.label) claims.labels) t.names.labels (unless-none _ _ r.1.1.0);
     }
 
 none-names : (t : TableRows) (claims : NamedRows) → AreNamed t claims → misnaming t claims ≡ None
 none-names t claims ok =
     none-first_of (name_rules t claims) (
-      none-unless _ _ (is-named (length t.buses) (map (λ i. i.bus) claims.inputs) t.keys.buses ok.inputs),
+      none-unless _ _ (is-named (length t.buses) (map (λ i. i.bus) claims.inputs) t.names.buses ok.inputs),
       (
-        none-unless _ _ (is-named (length t.outputs) (map (λ o. o.output) claims.outputs) t.keys.outputs ok.outputs),
-        (none-unless _ _ (is-named (length t.labels) (map (λ l. l.label) claims.labels) t.keys.labels ok.labels), tt),
+        none-unless _ _ (is-named (length t.outputs) (map (λ o. o.output) claims.outputs) t.names.outputs ok.outputs),
+        (none-unless _ _ (is-named (length t.labels) (map (λ l. l.label) claims.labels) t.names.labels ok.labels), tt),
       ),
     )
 

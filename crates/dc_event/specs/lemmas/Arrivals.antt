@@ -4,6 +4,7 @@ use Rattle.std.proofs.lemmas.List.{append-nil}
 use Rattle.std.proofs.lemmas.List.Elements.{filter-append}
 use Rattle.std.proofs.lemmas.List.Quantifiers.{position-Some}
 use Rattle.std.proofs.lemmas.Bool.{cases_eq, ne_eqb, eqb-true}
+use Rattle.dc_word.specs.declared.format.Format.TheVariants.{Bnr}
 use Rattle.dc_bound.specs.Window.{HoldAtMost, ticks_of}
 use Rattle.dc_bound.specs.Run.{ticks, stamp, stamped}
 use Rattle.dc_bound.specs.Moves.{move_ends, tag_of, entries}
@@ -274,7 +275,7 @@ declares-bus b w row h =
 pub stream_of-there : (t : TableRows) (b w s : ℕ) → stream_of t b w ≡ Some s → (s < length t.streams) × ((stream_row t s).bus ≡ b)
 unfolding stream_of
 stream_of-there t b w s h =
-    let r = position-Some (declares b w) t.streams s (record { bus = 0; label = 0; sdi = None; minimum = 0; maximum = 0; jitter = 0 }) h in
+    let r = position-Some (declares b w) t.streams s (record { bus = 0; label = 0; sdi = None; format = Bnr; minimum = 0; maximum = 0; jitter = 0 }) h in
     (r.0, declares-bus b w (stream_row t s) r.1)
 
 false_and : (a b : Bool) → b ≡ false → (a && b) ≡ false

@@ -12,10 +12,10 @@ pub returns-clause-sized : goal.returns-clause-sized
 returns-clause-sized c =
     let t = c.args.tables.now in
     let buses = rule-same _ _ _ _ _ c.fault_unless.ensures
-    (c.are_buses.ensures ∙ ap (λ (xs : List InputRow). is_named (length t.buses) (map (λ (i : NamedInput). i.bus) (map named_input xs)) t.keys.buses) c.deref.ensures.value) c.fault.ensures in
+    (c.are_buses.ensures ∙ ap (λ (xs : List InputRow). is_named (length t.buses) (map (λ (i : NamedInput). i.bus) (map named_input xs)) t.names.buses) c.deref.ensures.value) c.fault.ensures in
     let outputs = rule-same _ _ _ _ _ c.fault_unless-2.ensures
-    (c.are_outputs.ensures ∙ ap (λ (xs : List OutputRow). is_named (length t.outputs) (map (λ (o : NamedOutput). o.output) (map named_output xs)) t.keys.outputs) c.deref-2.ensures.value) c.fault-2.ensures in
+    (c.are_outputs.ensures ∙ ap (λ (xs : List OutputRow). is_named (length t.outputs) (map (λ (o : NamedOutput). o.output) (map named_output xs)) t.names.outputs) c.deref-2.ensures.value) c.fault-2.ensures in
     let labels = rule-same _ _ _ _ _ c.fault_unless-3.ensures
-    (c.are_labels.ensures ∙ ap (λ (xs : List LabelRow). is_named (length t.labels) (map (λ (l : NamedLabel). l.label) (map named_label xs)) t.keys.labels) c.deref-3.ensures.value) c.fault-3.ensures in
+    (c.are_labels.ensures ∙ ap (λ (xs : List LabelRow). is_named (length t.labels) (map (λ (l : NamedLabel). l.label) (map named_label xs)) t.names.labels) c.deref-3.ensures.value) c.fault-3.ensures in
     sized-answer t (named_rows c.args.certificate.now) c.first_fault.result
     (c.first_fault.ensures ∙ ap first_of (rules-same _ _ _ _ buses (rules-same _ _ _ _ outputs (rules-same _ _ [] [] labels refl))))

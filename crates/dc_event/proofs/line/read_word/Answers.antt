@@ -2,7 +2,8 @@ use Rattle.std.proofs.Common.{◌≡◌, ℕ, ◌+◌, ◌*◌, ◌^◌, ◌<◌
 use Rattle.std.proofs.Math.Pow.{pow_mono}
 use Rattle.std.proofs.lemmas.List.{drop_more}
 use Rattle.std.proofs.lemmas.Nat.{pow-add}
-use Rattle.dc_event.specs.WordText.{number_behind, hex_value}
+use Rattle.dc_word.specs.Digits.{digit_in}
+use Rattle.dc_event.specs.WordText.{number_behind}
 use Rattle.dc_event.proofs.line.read_word.Goals as goal
 
 -- one more digit of a number of i digits
@@ -18,7 +19,7 @@ fits_32 n i p q =
     let h : 2 ^ (4 * i) ≤ 2 ^ 28 = pow_mono {i = 4 * i} {j = 28} (omega arith) in
     omega arith
 
-one_more_digit : (n i d m : ℕ) (line : List ℕ) (all : Option ℕ) → i < length line → hex_value (get_or line i 0) ≡ Some d → m ≡ d
+one_more_digit : (n i d m : ℕ) (line : List ℕ) (all : Option ℕ) → i < length line → digit_in 16 (get_or line i 0) ≡ Some d → m ≡ d
     → number_behind n (drop i line) ≡ all → number_behind (n * 16 + m) (drop (i + 1) line) ≡ all
 one_more_digit n i d m line all p is same e =
     let f : number_behind n (get_or line i 0 ∷ drop (i + 1) line) ≡ all = ap (number_behind n) (sym (drop_more line i 0 p)) ∙ e in
@@ -31,10 +32,10 @@ overflow_mul-n c = let h = fits_32 _ _ c.loop-c.invariant.small (omega arith) in
 pub overflow_add-n : goal.overflow_add-n
 overflow_add-n c =
     let h = fits_32 _ _ c.loop-c.invariant.small (omega arith) in
-    omega (arith, h, c.from.ensures, c.in_ok-digit_value.ensures.digit)
+    omega (arith, h, c.in_ok-digit_in.ensures.below)
 
 pub loop-c-preserved : goal.loop-c-preserved
 loop-c-preserved c = record {
-  small = one_more_small _ _ _ c.loop-c.invariant.small (omega (arith, c.from.ensures, c.in_ok-digit_value.ensures.digit));
-  same = one_more_digit _ _ _ _ _ _ c.loop-c-test.true (sym c.in_ok-digit_value.ensures.value) c.from.ensures c.loop-c.invariant.same;
+  small = one_more_small _ _ _ c.loop-c.invariant.small (omega (arith, c.in_ok-digit_in.ensures.below));
+  same = one_more_digit _ _ _ _ _ _ c.loop-c-test.true (sym c.in_ok-digit_in.ensures.value) refl c.loop-c.invariant.same;
 }

@@ -34,7 +34,7 @@ returns-in-None-clause-least c =
     let outputs = c.in_ok-outputs.ensures.rows in
     let labels : AreLabelRows c.args.tables.now (map named_input c.in_ok-inputs.inputs.items) (map named_label c.in_ok-labels.labels.items) =
     subst (λ (l : List InputRow). AreLabelRows c.args.tables.now (map named_input l) (map named_label c.in_ok-labels.labels.items)) c.as_slice.ensures.value c.in_ok-labels.ensures in
-    least-accepted c.args.tables.now (named_rows (record { inputs = c.in_ok-inputs.inputs; outputs = c.in_ok-outputs.outputs; labels = c.in_ok-labels.labels })) c.keyed.ensures inputs outputs labels
+    least-accepted c.args.tables.now (named_rows (record { inputs = c.in_ok-inputs.inputs; outputs = c.in_ok-outputs.outputs; labels = c.in_ok-labels.labels })) c.named.ensures inputs outputs labels
     c.in-None.ensures
     (λ other ok x there.
     age-older c.args.tables.now c.valid.ensures (named_rows (record { inputs = c.in_ok-inputs.inputs; outputs = c.in_ok-outputs.outputs; labels = c.in_ok-labels.labels })) inputs outputs

@@ -17,4 +17,4 @@ returns-clause-reached c =
     let labels : AreLabelRows c.args.tables.now (map named_input c.in_ok-inputs.inputs.items) (map named_label c.in_ok-labels.labels.items) =
     subst (λ (l : List InputRow). AreLabelRows c.args.tables.now (map named_input l) (map named_label c.in_ok-labels.labels.items)) c.as_slice.ensures.value c.in_ok-labels.ensures in
     reached c.args.tables.now c.parts_before-parts.result (named_rows (record { inputs = c.in_ok-inputs.inputs; outputs = c.in_ok-outputs.outputs; labels = c.in_ok-labels.labels }))
-    c.keyed.ensures c.in_ok-inputs.ensures c.in_ok-outputs.ensures labels
+    c.named.ensures c.in_ok-inputs.ensures c.in_ok-outputs.ensures labels

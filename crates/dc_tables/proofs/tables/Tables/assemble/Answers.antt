@@ -1,7 +1,7 @@
 use Rattle.dc_tables.specs.RowsOf.{AreRows}
-use Rattle.dc_tables.proofs.Valid.{valid_rows, keyed_rows, keys_same}
+use Rattle.dc_tables.proofs.Valid.{valid_rows, named_rows, names_same}
 use Rattle.std.proofs.Common.{arith}
-use Rattle.dc_tables.specs.RowsOf.{keys_of}
+use Rattle.dc_tables.specs.RowsOf.{names_of}
 use Rattle.dc_rules.specs.lemmas.Picks.{not_outside}
 use Rattle.dc_tables.specs.Bounds.{table_rows}
 use Rattle.dc_tables.proofs.BoundsMade.{bounds_some, streams_inside}
@@ -18,26 +18,26 @@ returns c =
       outputs_there = made.outputs_there;
       outputs = made.outputs;
       labels = made.labels;
-      keys = keys_same c.requires.passed.buses c.requires.passed.streams c.requires.passed.routers c.requires.passed.outputs c.requires.passed.labels c.requires.passed.parameters c.in_ok-kept.ensures.written;
+      names = names_same c.requires.passed.buses c.requires.passed.streams c.requires.passed.routers c.requires.passed.outputs c.requires.passed.labels;
     }
 
 -- the rows without their bounds are valid
 pub make_kept-requires-clause-few : goal.make_kept-requires-clause-few
 make_kept-requires-clause-few c =
     let d = c.args.parts.now in
-    (valid_rows d (table_rows d.tick_us (keys_of d) c.in_ok-rows.rows) c.in_order.ensures c.in_ok-rows.ensures.rows c.in_ok-rows.ensures.fit c.requires.obeys).few_streams
+    (valid_rows d (table_rows d.tick_us (names_of d) c.in_ok-rows.rows) c.in_order.ensures c.in_ok-rows.ensures.rows c.in_ok-rows.ensures.fit c.requires.obeys).few_streams
 
 -- so the streams have their intervals and jitters
 pub make_kept-requires-clause-bounded : goal.make_kept-requires-clause-bounded
 make_kept-requires-clause-bounded c =
     let d = c.args.parts.now in
-    bounds_some (table_rows d.tick_us (keys_of d) c.in_ok-rows.rows) (valid_rows d (table_rows d.tick_us (keys_of d) c.in_ok-rows.rows) c.in_order.ensures c.in_ok-rows.ensures.rows c.in_ok-rows.ensures.fit c.requires.obeys)
+    bounds_some (table_rows d.tick_us (names_of d) c.in_ok-rows.rows) (valid_rows d (table_rows d.tick_us (names_of d) c.in_ok-rows.rows) c.in_order.ensures c.in_ok-rows.ensures.rows c.in_ok-rows.ensures.fit c.requires.obeys)
 
 -- and each bus has its own among them
 pub make_kept-requires-clause-there : goal.make_kept-requires-clause-there
 make_kept-requires-clause-there c =
     let d = c.args.parts.now in
-    streams_inside (table_rows d.tick_us (keys_of d) c.in_ok-rows.rows) (valid_rows d (table_rows d.tick_us (keys_of d) c.in_ok-rows.rows) c.in_order.ensures c.in_ok-rows.ensures.rows c.in_ok-rows.ensures.fit c.requires.obeys)
+    streams_inside (table_rows d.tick_us (names_of d) c.in_ok-rows.rows) (valid_rows d (table_rows d.tick_us (names_of d) c.in_ok-rows.rows) c.in_order.ensures c.in_ok-rows.ensures.rows c.in_ok-rows.ensures.fit c.requires.obeys)
 
 pub invariant_of-result : goal.invariant_of-result
 invariant_of-result c =
@@ -51,13 +51,13 @@ invariant_of-result c =
       outputs_there = made.outputs_there;
       outputs = made.outputs;
       labels = made.labels;
-      keys = keys_same c.requires.passed.buses c.requires.passed.streams c.requires.passed.routers c.requires.passed.outputs c.requires.passed.labels c.requires.passed.parameters c.in_ok-kept.ensures.written;
+      names = names_same c.requires.passed.buses c.requires.passed.streams c.requires.passed.routers c.requires.passed.outputs c.requires.passed.labels;
     } in (
       c.in_ok-kept.ensures.bounds,
       c.in_ok-kept.ensures.offsets,
       record {
         valid = valid_rows d _ c.in_order.ensures rows c.in_ok-rows.ensures.fit c.requires.obeys;
-        keyed = keyed_rows d _ rows c.requires.obeys;
+        named = named_rows d _ rows c.requires.obeys.names;
       },
     )
 
