@@ -1,5 +1,5 @@
 //! What no clause says: the devices over memory, each public call once, and calls that fail in mid-stream.
-ghost use Rattle.std.specs.Prelude.{Some, length, nat_lt, take};
+ghost use Rattle.std.specs.Prelude.{Some, length, nat_lt, take, true};
 
 use dc_device::{
     Broken, Line, LineEnd, LineReader, LineWriter, MemSink, MemSource, Nowhere, ReadSource, Sink,
@@ -161,6 +161,8 @@ impl Sink for DripSink {
     ghost failed = { λ s. s.0.failures };
 
     ghost last_failed = { λ s. s.0.has_failed };
+
+    ghost has_readers = { true };
 
     ghost hidden = { λ s. nat_lt s.0.shown (length s.0.bytes.items) };
 

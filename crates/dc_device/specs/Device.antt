@@ -1,5 +1,5 @@
 -- What a device's calls say.
-use Rattle.std.specs.Prelude.{◌≡◌, ℕ, ◌+◌, ◌-◌, ◌^◌, ◌<◌, ◌≤◌, ◌==◌, if◌then◌else◌, min, Bool, true, false, List, length, take, MatchResult, Option, None, Some, Result, Ok, Err}
+use Rattle.std.specs.Prelude.{◌≡◌, ℕ, ◌+◌, ◌-◌, ◌^◌, ◌<◌, ◌≤◌, ◌==◌, if◌then◌else◌, min, Bool, true, false, List, length, take, IfOk, MatchResult, Option, None, Some, Result, Ok, Err}
 use Rattle.std.specs.Io.KnownBytes.{Appends, Keeps}
 
 -- how many failures a result counts
@@ -25,6 +25,12 @@ dry_after dry (Err e) = count_on dry
 abbrev pub PushAppends : {E : Type 0} → Option (List ℕ) → Option (List ℕ) → Result ℕ E → List ℕ → Type 0
 PushAppends old new r bytes =
     MatchResult r (λ n. Appends old new (take n bytes) × (n ≤ length bytes) × (0 < length bytes → 0 < n)) (λ _. Keeps old new)
+
+-- A push of a sink that anyone reads: where it took a byte, something is hidden, and what was hidden before is so still.
+-- Of one that nobody reads no byte is known.
+abbrev pub PushHides : {E : Type 0} → Bool → Option (List ℕ) → Bool → Bool → Result ℕ E → Type 0
+PushHides true contents' hidden hidden' r = IfOk r (λ n. 0 < n → hidden' ≡ true) × (hidden ≡ true → hidden' ≡ true)
+PushHides false contents' hidden hidden' r = contents' ≡ None
 
 -- After calls of a sink that end in a flush: where they went well, nothing is hidden; where one failed, it was the last.
 abbrev pub Settles : {T E : Type 0} → Result T E → Bool → Bool → Type 0

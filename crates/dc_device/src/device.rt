@@ -1,7 +1,7 @@
 //! The two kinds of device.
-ghost use Rattle.std.specs.Prelude.{◌≡◌, ℕ, List, Option, Bool, false, ◌+◌, ◌^◌, ◌<◌, ◌≤◌, length, IfOk};
+ghost use Rattle.std.specs.Prelude.{◌≡◌, ℕ, List, Option, Bool, false, ◌+◌, ◌^◌, ◌<◌, ◌≤◌, length, IfErr, IfOk};
 ghost use Rattle.std.specs.Io.KnownBytes.{Keeps, ReadConsumes};
-ghost use Rattle.dc_device.specs.Device.{IsSnapshot, PushAppends, count_on, dry_after, failures_of, is_failure};
+ghost use Rattle.dc_device.specs.Device.{IsSnapshot, PushAppends, PushHides, count_on, dry_after, failures_of, is_failure};
 
 /// A device's call failed.
 #[derive(Clone, Copy, Debug, PartialEq, Eq)]
@@ -58,13 +58,17 @@ pub trait Sink {
     // Whether the last call failed.
     ghost last_failed: { Self → Bool };
 
+    // Whether anyone reads what it takes.
+    ghost has_readers: { Bool };
+
     // Whether it took bytes that not everyone sees.
     ghost hidden: { Self → Bool };
 
     // What everyone saw of it when a source was last asked for more, where that is known.
     ghost answered: { Self → Option (List ℕ) };
 
-    /// Takes the front of the bytes, and says how many: one or more where there is one.
+    /// Takes the front of the bytes, and says how many: one or more where there is one. Where it took one and anyone
+    /// reads it, it hides something until a flush goes well.
     ///
     /// # Errors
     /// `Broken` where the call failed; it takes no byte then.
@@ -73,18 +77,20 @@ pub trait Sink {
         ensures bytes { PushAppends (contents self.old) (contents self.new) result bytes.now }
         ensures count { failed self.new ≡ failed self.old + failures_of result }
         ensures last { last_failed self.new ≡ is_failure result }
+        ensures hides { PushHides has_readers (contents self.new) (hidden self.old) (hidden self.new) result }
         ensures answered { answered self.new ≡ answered self.old };
 
     /// Lets everyone see what it has taken.
     ///
     /// # Errors
-    /// `Broken` where the call failed; it keeps what it holds, of which some may be hidden still.
+    /// `Broken` where the call failed; it keeps what it holds, and what was hidden is hidden still.
     fn flush(&mut self) -> Result<(), Broken>
         requires { failed self.old + 1 < 2 ^ 64 }
         ensures bytes { Keeps (contents self.old) (contents self.new) }
         ensures count { failed self.new ≡ failed self.old + failures_of result }
         ensures last { last_failed self.new ≡ is_failure result }
         ensures seen { IfOk result (λ _. hidden self.new ≡ false) }
+        ensures unseen { IfErr result (λ _. hidden self.new ≡ hidden self.old) }
         ensures answered { answered self.new ≡ answered self.old };
 
     /// Notes that a source is asked for more, when nothing that was taken is hidden.

@@ -1,7 +1,7 @@
 //! Devices over memory, for tests.
-ghost use Rattle.std.specs.Prelude.{◌≡◌, ◌≢◌, ◌+◌, ◌-◌, ◌^◌, ◌<◌, ◌≤◌, ◌⊎◌, Some, [], length, min, take, nat_lt, false, IfOk, MatchResult};
+ghost use Rattle.std.specs.Prelude.{◌≡◌, ◌≢◌, ◌+◌, ◌-◌, ◌^◌, ◌<◌, ◌≤◌, ◌⊎◌, Some, [], length, min, take, nat_lt, false, true, IfErr, IfOk, MatchResult};
 ghost use Rattle.std.specs.Io.KnownBytes.{Keeps, ReadConsumes};
-ghost use Rattle.dc_device.specs.Device.{PushAppends, count_on, dry_after, failures_of, is_failure};
+ghost use Rattle.dc_device.specs.Device.{PushAppends, PushHides, count_on, dry_after, failures_of, is_failure};
 
 use crate::device::{Broken, Sink, Source};
 use std::alloc::{AllocError, Global};
@@ -172,6 +172,8 @@ impl Sink for MemSink {
 
     ghost last_failed = { λ s. s.has_failed };
 
+    ghost has_readers = { true };
+
     ghost hidden = { λ s. nat_lt s.shown (length s.bytes.items) };
 
     ghost answered = { λ s. Some (take s.answered s.bytes.items) };
@@ -184,6 +186,8 @@ impl Sink for MemSink {
         ensures fails { IfOk result (λ n. self.old.fails_in ≢ 1) }
         ensures next { self.new.fails_in ≡ self.old.fails_in - 1 }
         ensures shown { self.new.shown ≡ self.old.shown }
+        ensures hides { PushHides true (Some self.new.bytes.items) (nat_lt self.old.shown (length self.old.bytes.items))
+            (nat_lt self.new.shown (length self.new.bytes.items)) result }
         ensures answered { take self.new.answered self.new.bytes.items ≡ take self.old.answered self.old.bytes.items }
         ensures room { self.new.room ≡ self.old.room }
         ensures flush { self.new.flush_fails_in ≡ self.old.flush_fails_in }
@@ -218,6 +222,8 @@ impl Sink for MemSink {
         ensures count { self.new.failures ≡ self.old.failures + failures_of result }
         ensures last { self.new.has_failed ≡ is_failure result }
         ensures seen { IfOk result (λ _. nat_lt self.new.shown (length self.new.bytes.items) ≡ false) }
+        ensures unseen { IfErr result (λ _. nat_lt self.new.shown (length self.new.bytes.items)
+            ≡ nat_lt self.old.shown (length self.old.bytes.items)) }
         ensures fails { MatchResult result (λ _. self.old.flush_fails_in ≢ 1) (λ _. self.old.flush_fails_in ≡ 1) }
         ensures next { self.new.flush_fails_in ≡ self.old.flush_fails_in - 1 }
         ensures shown { MatchResult result (λ _. self.new.shown ≡ length self.old.bytes.items) (λ _. self.new.shown ≡ self.old.shown) }

@@ -1,5 +1,5 @@
 //! Std's readers and writers as devices, and a sink that nobody reads.
-ghost use Rattle.std.specs.Prelude.{◌≡◌, None, false};
+ghost use Rattle.std.specs.Prelude.{◌≡◌, None, false, true};
 
 use crate::device::{Broken, Sink, Source};
 use std::io::{Read, Write};
@@ -101,6 +101,8 @@ impl<W: Write + Drop> Sink for WriteSink<W> {
 
     ghost last_failed = { λ s. s.has_failed };
 
+    ghost has_readers = { true };
+
     ghost hidden = { λ s. s.hides };
 
     ghost answered = { λ s. None };
@@ -160,6 +162,8 @@ impl Sink for Nowhere {
     ghost failed = { λ s. 0 };
 
     ghost last_failed = { λ s. false };
+
+    ghost has_readers = { false };
 
     ghost hidden = { λ s. false };
 
