@@ -8,7 +8,7 @@ ghost use Rattle.dc_find.specs.Ways.{IsFirstInTheWay};
 ghost use Rattle.dc_answer.specs.Answer.{Any, LeavesSink, Raises, Reported};
 ghost use Rattle.dc_answer.specs.Judging.{Judged};
 ghost use Rattle.dc_device.specs.Device.{AsksUpTo};
-ghost use Rattle.dc_toml.specs.declared.read.TheConstants.{TEXT_LIMIT};
+ghost use Rattle.dc_parts.specs.declared.limits.TheConstants.{TEXT_LIMIT};
 ghost use Rattle.dc_advice.specs.Margins.{AnswersReached, AnswersRows, AnswersTablesAlone, ReportsLeast, fed, lines_of_first};
 
 use crate::margins::{append_lines, judge};

@@ -13,7 +13,7 @@ ghost use Rattle.dc_check.specs.Verdict.{IsSized, misnaming, verdict_of};
 ghost use Rattle.dc_device.specs.Device.{AsksUpTo};
 ghost use Rattle.dc_margin.specs.Lines.{IsLinePlaced};
 ghost use Rattle.dc_toml.specs.Reading.{tables_of};
-ghost use Rattle.dc_toml.specs.declared.read.TheConstants.{TEXT_LIMIT};
+ghost use Rattle.dc_parts.specs.declared.limits.TheConstants.{TEXT_LIMIT};
 ghost use Rattle.dc_advice.specs.Lines.{margin_text};
 ghost use Rattle.dc_advice.specs.Margins.{Answers, AnswersMargins, ReportsMargins, answer_claims, answer_margins, fed, verdict_line, verdict_outcome};
 

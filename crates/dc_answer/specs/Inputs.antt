@@ -12,7 +12,7 @@ use Rattle.dc_tables.specs.TableRows.{TableRows}
 use Rattle.dc_toml.specs.Faults.{Reading}
 use Rattle.dc_toml.specs.Reported.{AreTablesOf, TellsTables}
 use Rattle.dc_toml.specs.Written.{Written}
-use Rattle.dc_toml.specs.declared.read.TheConstants.{TEXT_LIMIT}
+use Rattle.dc_parts.specs.declared.limits.TheConstants.{TEXT_LIMIT}
 use Rattle.dc_answer.specs.Answer.{Answer, unreadable}
 use Rattle.dc_answer.specs.declared.answer.Failure.TheVariants.{Source, Sink, Memory}
 use Rattle.dc_answer.specs.declared.inputs.Unloaded.{Unloaded}

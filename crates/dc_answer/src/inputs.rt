@@ -3,15 +3,15 @@ ghost use Rattle.std.specs.Prelude.{◌≡◌, ◌≢◌, ◌+◌, ◌^◌, ◌<
 ghost use Rattle.dc_cert.specs.Reading.{certificate_of};
 ghost use Rattle.dc_device.specs.Device.{AsksUpTo};
 ghost use Rattle.dc_toml.specs.Reading.{tables_of};
-ghost use Rattle.dc_toml.specs.declared.read.TheConstants.{TEXT_LIMIT};
+ghost use Rattle.dc_parts.specs.declared.limits.TheConstants.{TEXT_LIMIT};
 ghost use Rattle.dc_answer.specs.Inputs.{Loads, LoadsCertificate, ReadsText, failed_in};
 
 use crate::answer::Failure;
 use dc_cert::{CertFault, CertRule, Certificate, Fault, TextPlace, read_cert};
 use dc_device::{Source, Unread, read_at_most};
-use dc_parts::{BuildError, Section, TableFault, TableRule};
+use dc_parts::{BuildError, Section, TEXT_LIMIT, TableFault, TableRule};
 use dc_tables::Tables;
-use dc_toml::{TEXT_LIMIT, read_tables};
+use dc_toml::read_tables;
 use std::alloc::Global;
 
 /// Why a text gives nothing.

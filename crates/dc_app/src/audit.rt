@@ -9,7 +9,7 @@ ghost use Rattle.dc_device.specs.Lines.{spelled};
 ghost use Rattle.dc_event.specs.Admissible.{IsRun};
 ghost use Rattle.dc_toml.specs.Reading.{tables_of};
 ghost use Rattle.dc_event.specs.declared.trace_reader.TheConstants.{TRACE_LIMIT};
-ghost use Rattle.dc_toml.specs.declared.read.TheConstants.{TEXT_LIMIT};
+ghost use Rattle.dc_parts.specs.declared.limits.TheConstants.{TEXT_LIMIT};
 ghost use Rattle.dc_answer.specs.Answer.{Any, LeavesSink, Raises, Reported};
 ghost use Rattle.dc_app.specs.Audit.{AnswersAudit, AnswersClaims, AnswersRun, AreFound, OnlyCertified, ReportsAudit, answer_findings, claims_text, findings_lines, holds_text, run_of};
 ghost use Rattle.dc_app.specs.Check.{Certifies, Judges};

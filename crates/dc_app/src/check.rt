@@ -8,7 +8,7 @@ ghost use Rattle.dc_cert.specs.Reading.{certificate_of};
 ghost use Rattle.dc_check.specs.Certified.{KeepsItsClaims};
 ghost use Rattle.dc_check.specs.Placed.{IsPlaced};
 ghost use Rattle.dc_check.specs.Verdict.{verdict_of};
-ghost use Rattle.dc_toml.specs.declared.read.TheConstants.{TEXT_LIMIT};
+ghost use Rattle.dc_parts.specs.declared.limits.TheConstants.{TEXT_LIMIT};
 ghost use Rattle.dc_answer.specs.Answer.{Any, LeavesSink, Raises, Reported};
 ghost use Rattle.dc_app.specs.Check.{Judges, JudgesTexts, ReportsCheck};
 ghost use Rattle.dc_answer.specs.Inputs.{OnlyBehind};

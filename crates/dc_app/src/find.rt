@@ -5,7 +5,7 @@ ghost use Rattle.dc_cert.specs.NamedRows.{named_rows};
 ghost use Rattle.dc_device.specs.Device.{AsksUpTo};
 ghost use Rattle.dc_find.specs.Ways.{IsFirstInTheWay};
 ghost use Rattle.dc_parts.specs.FaultText.{table_fault_text};
-ghost use Rattle.dc_toml.specs.declared.read.TheConstants.{TEXT_LIMIT};
+ghost use Rattle.dc_parts.specs.declared.limits.TheConstants.{TEXT_LIMIT};
 ghost use Rattle.dc_answer.specs.Answer.{Any, LeavesSink, Raises, Reported};
 ghost use Rattle.dc_app.specs.Find.{JudgesRows, JudgesTables, ReportsFind, Tells, obstacle_text};
 

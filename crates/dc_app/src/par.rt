@@ -9,7 +9,7 @@ ghost use Rattle.dc_check.specs.Certified.{KeepsItsClaims};
 ghost use Rattle.dc_check.specs.Verdict.{verdict_of};
 ghost use Rattle.dc_checkpar.specs.Faults.{IsOfVerdict};
 ghost use Rattle.dc_checkpar.specs.declared.limits.TheConstants.{MOST_WORKERS};
-ghost use Rattle.dc_toml.specs.declared.read.TheConstants.{TEXT_LIMIT};
+ghost use Rattle.dc_parts.specs.declared.limits.TheConstants.{TEXT_LIMIT};
 ghost use Rattle.dc_answer.specs.Answer.{Any, LeavesSink, Raises, Reported};
 ghost use Rattle.dc_app.specs.Check.{AnswersVerdict, Judges, ReportsCheck};
 ghost use Rattle.dc_answer.specs.Inputs.{OnlyBehind};

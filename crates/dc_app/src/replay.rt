@@ -9,7 +9,7 @@ ghost use Rattle.dc_core.specs.CoreSteps.{rows_of};
 ghost use Rattle.dc_event.specs.ReplyText.{is_reported, reply_line};
 ghost use Rattle.dc_event.specs.TraceFaults.{line_rule_code};
 ghost use Rattle.dc_event.specs.declared.trace_reader.TheConstants.{TRACE_LIMIT};
-ghost use Rattle.dc_toml.specs.declared.read.TheConstants.{TEXT_LIMIT};
+ghost use Rattle.dc_parts.specs.declared.limits.TheConstants.{TEXT_LIMIT};
 ghost use Rattle.dc_answer.specs.Answer.{Any, Ends, EndsSome, LeavesSink, Raises, SettlesBy, Reported, sink_failures_of};
 ghost use Rattle.dc_answer.specs.Inputs.{OnlyBehind, tables_end};
 ghost use Rattle.dc_app.specs.Refusals.{StopsBy, refused, stop_end};

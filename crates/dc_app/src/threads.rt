@@ -13,7 +13,7 @@ ghost use Rattle.dc_cert.specs.Reading.{certificate_of};
 ghost use Rattle.dc_device.specs.Device.{AsksUpTo};
 ghost use Rattle.dc_tables.specs.TableRows.{TableRows};
 ghost use Rattle.dc_toml.specs.Reading.{tables_of};
-ghost use Rattle.dc_toml.specs.declared.read.TheConstants.{TEXT_LIMIT};
+ghost use Rattle.dc_parts.specs.declared.limits.TheConstants.{TEXT_LIMIT};
 
 use dc_answer::{Exit, Failure, Outcome, Unloaded, end_with, load, load_certificate, report, say};
 use dc_cert::Certificate;

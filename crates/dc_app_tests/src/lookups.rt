@@ -56,6 +56,15 @@ fn names_have_1_to_16_characters(rt: HostRuntime) {
     }
 }
 
+#[test]
+fn a_name_is_told_by_its_text(rt: HostRuntime) -> Result<(), Fail> {
+    let short = name("7")?;
+    assert!(rt; short.as_str() == "7");
+    let long = name("Aa-0_9zZAa-0_9zZ")?;
+    assert!(rt; long.as_str() == "Aa-0_9zZAa-0_9zZ");
+    Ok(())
+}
+
 /// The fault of parts without a row, of this tick; want of memory is none.
 fn fault_of(alloc: Global, tick_us: u32) -> Result<Option<TableFault>, AllocError> {
     let parts = Parts::new(alloc, Version::One, tick_us);

@@ -10,7 +10,7 @@ ghost use Rattle.dc_cert.specs.NamedRows.{named_rows};
 ghost use Rattle.dc_device.specs.Device.{AsksUpTo};
 ghost use Rattle.dc_toml.specs.Reading.{tables_of};
 ghost use Rattle.dc_script.specs.declared.limits.TheConstants.{LONGEST_SCRIPT};
-ghost use Rattle.dc_toml.specs.declared.read.TheConstants.{TEXT_LIMIT};
+ghost use Rattle.dc_parts.specs.declared.limits.TheConstants.{TEXT_LIMIT};
 
 use crate::driven::run_certified;
 use dc_answer::{Exit, Failure, Outcome};

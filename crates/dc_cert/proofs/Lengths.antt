@@ -1,20 +1,17 @@
 -- How long the text of a certificate is at most.
-use Rattle.std.proofs.Common.{◌≡◌, ℕ, ◌+◌, ◌*◌, ◌/◌, ◌%◌, ◌<◌, ◌≤◌, ◌^◌, List, [], ◌∷◌, ◌++◌, length, map, Bool, true, false, cond, ◌&&◌, nat_lt, decimal, codes, refl, arith, length-append}
+use Rattle.std.proofs.Common.{ℕ, ◌+◌, ◌*◌, ◌/◌, ◌%◌, ◌<◌, ◌≤◌, ◌^◌, List, [], ◌∷◌, ◌++◌, length, map, Bool, true, false, cond, nat_lt, codes, arith, length-append}
 use Rattle.std.proofs.lemmas.Fmt.{length-decimal-le}
 use Rattle.std.proofs.lemmas.List.Elements.{All-tail}
 use Rattle.std.specs.Char.{digit_char}
-use Rattle.std.proofs.lemmas.Bool.{and_parts}
-use Rattle.std.proofs.lemmas.Bool.Decides.{nat_tests}
-use Rattle.std.specs.Prelude.{All, IsTrue, nat_le}
-use Rattle.std.specs.List.{list_all}
+use Rattle.std.specs.Prelude.{All}
 use Rattle.json.specs.Print.{escape_letter, escape_byte, escape, quoted}
-use Rattle.serde_json.specs.Data.{Data, number, unsigned, string, array, Items, no_items, item, Members, no_members, member}
+use Rattle.serde_json.specs.Data.{Data, number, unsigned, string, array, Members, no_members, member}
 use Rattle.serde_json.specs.View.{items_of}
 use Rattle.serde_json.specs.Written.{comma_if, compact_text, items_text, members_text}
 use Rattle.dc_cert.specs.NamedRows.{NamedInput, NamedOutput, NamedLabel, NamedRows}
 use Rattle.dc_cert.specs.Limits.{IsWithinLimits, InputFits, OutputFits, LabelFits, ClaimsFit}
-use Rattle.dc_cert.specs.Names.{is_name_byte, is_name}
 use Rattle.dc_cert.specs.Printing.{input_data, output_data, label_data, claims_data, claims_text}
+use Rattle.dc_parts.specs.Names.{IsSpelled}
 
 either_short : (b : Bool) (xs ys : List ℕ) → length xs ≤ 6 → length ys ≤ 6 → length (cond b xs ys) ≤ 6
 either_short true xs ys h k = h
@@ -59,30 +56,15 @@ length-items printed k P each later (x ∷ xs) all =
 
 -- ---- a certificate within the limits
 
-pub name_short : (s : List ℕ) → IsTrue (is_name s) → length s ≤ 16
-name_short s named =
-    let both = and_parts (nat_le 1 (length s) && nat_le (length s) 16) (list_all is_name_byte s) named in
-    let short : nat_le (length s) 16 ≡ true = (and_parts (nat_le 1 (length s)) (nat_le (length s) 16) both.0).1 in
-    grind (arith, nat_tests)
+length-name : (s : List ℕ) → IsSpelled s → length (compact_text (string s)) ≤ 98
+length-name s named = let short = named.most in let text = length-quoted s in omega arith
 
-abbrev pub InputIsSayable : NamedInput → Type 0
-InputIsSayable x = IsTrue (is_name x.bus) × InputFits x
-
-abbrev pub OutputIsSayable : NamedOutput → Type 0
-OutputIsSayable x = IsTrue (is_name x.output) × OutputFits x
-
-abbrev pub LabelIsSayable : NamedLabel → Type 0
-LabelIsSayable x = IsTrue (is_name x.label) × LabelFits x
-
-length-name : (s : List ℕ) → IsTrue (is_name s) → length (compact_text (string s)) ≤ 98
-length-name s named = let short = name_short s named in let text = length-quoted s in omega arith
-
-length-input_data : (x : NamedInput) → InputIsSayable x → length (compact_text (input_data x)) ≤ 300
+length-input_data : (x : NamedInput) → InputFits x → length (compact_text (input_data x)) ≤ 300
 length-input_data x h =
-    let backlog = length-number x.backlog h.1.1 in
-    let bus = length-name x.bus h.0 in
-    let delay = length-number x.delay h.1.2 in
-    let window = length-number x.window h.1.0 in
+    let backlog = length-number x.backlog h.backlog in
+    let bus = length-name x.bus h.named in
+    let delay = length-number x.delay h.delay in
+    let window = length-number x.window h.window in
     let fourth = member (codes "window") (number (unsigned x.window)) no_members in
     let third = member (codes "delay") (number (unsigned x.delay)) fourth in
     let second = member (codes "bus") (string x.bus) third in
@@ -94,11 +76,11 @@ length-input_data x h =
       length-member true (codes "window") (number (unsigned x.window)) no_members,
     )
 
-length-output_data : (x : NamedOutput) → OutputIsSayable x → length (compact_text (output_data x)) ≤ 250
+length-output_data : (x : NamedOutput) → OutputFits x → length (compact_text (output_data x)) ≤ 250
 length-output_data x h =
-    let delay = length-number x.delay h.1.1 in
-    let output = length-name x.output h.0 in
-    let window = length-number x.window h.1.0 in
+    let delay = length-number x.delay h.delay in
+    let output = length-name x.output h.named in
+    let window = length-number x.window h.window in
     let third = member (codes "window") (number (unsigned x.window)) no_members in
     let second = member (codes "output") (string x.output) third in
     omega (
@@ -108,28 +90,19 @@ length-output_data x h =
       length-member true (codes "window") (number (unsigned x.window)) no_members,
     )
 
-length-label_data : (x : NamedLabel) → LabelIsSayable x → length (compact_text (label_data x)) ≤ 200
+length-label_data : (x : NamedLabel) → LabelFits x → length (compact_text (label_data x)) ≤ 200
 length-label_data x h =
-    let age = length-number x.age h.1 in
-    let label = length-name x.label h.0 in
+    let age = length-number x.age h.age in
+    let label = length-name x.label h.named in
     let second = member (codes "label") (string x.label) no_members in
     omega (arith, length-member false (codes "age") (number (unsigned x.age)) second, length-member true (codes "label") (string x.label) no_members)
-
-pub inputs_sayable : (xs : List NamedInput) → All (λ x. IsTrue (is_name x.bus)) xs → All InputFits xs → All InputIsSayable xs
-inputs_sayable xs named fits k d h = (named k d h, fits k d h)
-
-pub outputs_sayable : (xs : List NamedOutput) → All (λ x. IsTrue (is_name x.output)) xs → All OutputFits xs → All OutputIsSayable xs
-outputs_sayable xs named fits k d h = (named k d h, fits k d h)
-
-pub labels_sayable : (xs : List NamedLabel) → All (λ x. IsTrue (is_name x.label)) xs → All LabelFits xs → All LabelIsSayable xs
-labels_sayable xs named fits k d h = (named k d h, fits k d h)
 
 pub length-claims_text : (claims : NamedRows) → IsWithinLimits claims → ClaimsFit claims → length (claims_text claims) ≤ 1048576
 unfolding claims_text
 length-claims_text claims limits fit =
-    let inputs = length-items input_data 300 InputIsSayable length-input_data false claims.inputs (inputs_sayable claims.inputs limits.input_names fit.inputs_fit) in
-    let outputs = length-items output_data 250 OutputIsSayable length-output_data false claims.outputs (outputs_sayable claims.outputs limits.output_names fit.outputs_fit) in
-    let labels = length-items label_data 200 LabelIsSayable length-label_data false claims.labels (labels_sayable claims.labels limits.label_names fit.labels_fit) in
+    let inputs = length-items input_data 300 InputFits length-input_data false claims.inputs fit.inputs_fit in
+    let outputs = length-items output_data 250 OutputFits length-output_data false claims.outputs fit.outputs_fit in
+    let labels = length-items label_data 200 LabelFits length-label_data false claims.labels fit.labels_fit in
     let few_inputs = limits.few_inputs in
     let few_outputs = limits.few_outputs in
     let few_labels = limits.few_labels in

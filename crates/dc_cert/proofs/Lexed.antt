@@ -1,5 +1,5 @@
 -- A line feed after a printed value changes nothing that is read.
-use Rattle.std.proofs.Common.{◌≡◌, ℕ, ◌<◌, ◌^◌, List, [], ◌∷◌, ◌++◌, Bool, true, false, Option, Some, decimal, refl, sym, ap, ap₂, ◌∙◌, append_assoc, append-nil, option_and_then}
+use Rattle.std.proofs.Common.{◌≡◌, ℕ, ◌<◌, ◌^◌, List, [], ◌∷◌, ◌++◌, Bool, true, false, decimal, refl, sym, ap, ap₂, ◌∙◌, append_assoc, append-nil, option_and_then}
 use Rattle.json.specs.Token.{begin_object, end_object, begin_array, end_array, string, number}
 use Rattle.json.specs.Word.{ends_word}
 use Rattle.json.specs.Lex.{token, comma, colon, string_token, lex, between, fresh, punctuate}

@@ -1,17 +1,19 @@
 -- How a reading goes on, step by step.
-use Rattle.std.proofs.Common.{◌≡◌, ℕ, ◌+◌, ◌≤◌, ◌<◌, List, [], ◌∷◌, ◌++◌, length, Bool, true, false, ◌&&◌, nat_le, Option, Some, None, Result, Ok, Err, refl, sym, ap, ◌∙◌, arith, cond}
+use Rattle.std.proofs.Common.{◌≡◌, ℕ, ◌≤◌, ◌<◌, List, ◌++◌, length, Bool, true, false, ◌&&◌, nat_le, Option, Some, None, Ok, Err, refl, sym, arith, cond}
 use Rattle.std.proofs.lemmas.Bool.Decides.{nat_tests}
 use Rattle.std.proofs.lemmas.Str.{is_utf8-from_IsUtf8, IsUtf8-from_is_utf8}
 use Rattle.std.specs.Str.{IsUtf8, is_utf8}
-use Rattle.serde_json.specs.Data.{Data, Items, no_items, item}
+use Rattle.serde_json.specs.Data.{Data, Items}
 use Rattle.serde_json.specs.Read.{read}
 use Rattle.serde_json.specs.View.{items_view}
 use Rattle.serde_json.specs.declared.value.Value.{Value}
 use Rattle.serde_json.proofs.Views.{items_len-items_view}
-use Rattle.dc_cert.specs.declared.fault.Fault.{Fault}
 use Rattle.dc_cert.specs.declared.fault.CertRule.TheVariants.{NotJson, ListOrNameOutOfBounds}
+use Rattle.dc_cert.specs.declared.fault.TextPlace.{TextPlace}
 use Rattle.dc_cert.specs.declared.fault.TextPlace.TheVariants.{Top}
-use Rattle.dc_cert.specs.Reading.{Reading, refused, found, list_in, document_of}
+use Rattle.dc_cert.specs.Reading.{Reading, refused, found, name_in, list_in, document_of}
+use Rattle.dc_parts.specs.Names.{text_of, name_of}
+use Rattle.dc_parts.specs.lemmas.Spelled.{text_of-name_of}
 
 -- ---- the rows of a list
 
@@ -19,6 +21,13 @@ use Rattle.dc_cert.specs.Reading.{Reading, refused, found, list_in, document_of}
 abbrev pub with_front : {A : Type 0} → List A → Reading (List A) → Reading (List A)
 with_front front (Ok rest) = Ok (front ++ rest)
 with_front front (Err fault) = Err fault
+
+-- ---- the names
+
+pub name_found : (place : TextPlace) (text bytes name : List ℕ) → bytes ≡ text → Some name ≡ name_of bytes → Ok (text_of name) ≡ name_in place (Some text)
+name_found place text bytes name same h =
+    let named = text_of-name_of bytes name (sym h) in
+    rw (← same, named.0, named.1) refl
 
 -- ---- the lists
 

@@ -1,22 +1,23 @@
 -- What was printed of a certificate within the limits reads as that certificate.
-use Rattle.std.proofs.Common.{◌≡◌, ℕ, suc, ◌+◌, ◌<◌, ◌≤◌, ◌^◌, List, [], ◌∷◌, ◌++◌, length, map, Bool, true, false, Option, Some, None, Result, Ok, Err, refl, sym, ap, ◌∙◌, arith, nat_le}
+use Rattle.std.proofs.Common.{◌≡◌, ℕ, suc, ◌+◌, ◌<◌, ◌≤◌, ◌^◌, List, [], ◌∷◌, length, map, true, false, Some, Ok, refl, sym, ap, ◌∙◌, arith, nat_le}
 use Rattle.std.proofs.lemmas.Bool.Decides.{nat_tests}
 use Rattle.std.proofs.lemmas.List.Elements.{All-tail}
-use Rattle.std.specs.Prelude.{All, IsTrue}
+use Rattle.std.specs.Prelude.{All}
 use Rattle.std.specs.Str.{IsUtf8}
-use Rattle.serde_json.specs.Data.{Data, Items, no_items, item, depth}
+use Rattle.serde_json.specs.Data.{Data, depth}
 use Rattle.serde_json.specs.Events.{items_len}
 use Rattle.serde_json.specs.Read.{read, max_depth}
 use Rattle.serde_json.specs.View.{items_of}
 use Rattle.serde_json.specs.Written.{has_float, compact_text}
 use Rattle.dc_cert.specs.NamedRows.{NamedInput, NamedOutput, NamedLabel, NamedRows}
-use Rattle.dc_cert.specs.Limits.{IsWithinLimits, ClaimsFit}
+use Rattle.dc_cert.specs.Limits.{IsWithinLimits, InputFits, OutputFits, LabelFits, ClaimsFit}
 use Rattle.dc_cert.specs.Printing.{input_data, output_data, label_data, claims_data, claims_text}
 use Rattle.dc_cert.specs.Reading.{Reading, input_of, output_of, label_of, rows_of, claims_in, certificate_of, ◌>>=◌}
-use Rattle.dc_cert.proofs.Lengths.{InputIsSayable, OutputIsSayable, LabelIsSayable, inputs_sayable, outputs_sayable, labels_sayable, length-claims_text}
+use Rattle.dc_cert.proofs.Lengths.{length-claims_text}
 use Rattle.dc_cert.proofs.Lexed.{IsPlain, ItemsArePlain, read-line_feed}
 use Rattle.dc_cert.proofs.PrintingLemmas.{has_float-claims_data, depth-claims_data}
 use Rattle.dc_cert.proofs.ReadingLemmas.{document_good}
+use Rattle.dc_parts.specs.lemmas.Spelled.{is_spelled-from_IsSpelled}
 
 fits : (n : ℕ) → n < 2 ^ 32 → nat_le n 4294967295 ≡ true
 fits n h = grind (arith, nat_tests)
@@ -26,17 +27,17 @@ few n h = grind (arith, nat_tests)
 
 -- ---- rows
 
-input_back : (n : ℕ) (x : NamedInput) → InputIsSayable x → input_of n (input_data x) ≡ Ok x
+input_back : (n : ℕ) (x : NamedInput) → InputFits x → input_of n (input_data x) ≡ Ok x
 unfolding input_of
-input_back n x h = rw (h.0, fits x.window h.1.0, fits x.backlog h.1.1, fits x.delay h.1.2) refl
+input_back n x h = rw (is_spelled-from_IsSpelled x.bus h.named, fits x.window h.window, fits x.backlog h.backlog, fits x.delay h.delay) refl
 
-output_back : (n : ℕ) (x : NamedOutput) → OutputIsSayable x → output_of n (output_data x) ≡ Ok x
+output_back : (n : ℕ) (x : NamedOutput) → OutputFits x → output_of n (output_data x) ≡ Ok x
 unfolding output_of
-output_back n x h = rw (h.0, fits x.window h.1.0, fits x.delay h.1.1) refl
+output_back n x h = rw (is_spelled-from_IsSpelled x.output h.named, fits x.window h.window, fits x.delay h.delay) refl
 
-label_back : (n : ℕ) (x : NamedLabel) → LabelIsSayable x → label_of n (label_data x) ≡ Ok x
+label_back : (n : ℕ) (x : NamedLabel) → LabelFits x → label_of n (label_data x) ≡ Ok x
 unfolding label_of
-label_back n x h = rw (h.0, fits x.age h.1) refl
+label_back n x h = rw (is_spelled-from_IsSpelled x.label h.named, fits x.age h.age) refl
 
 rows_back : {C : Type 0} (row : ℕ → Data → Reading C) (printed : C → Data) (P : C → Type 0) → ((n : ℕ) (x : C) → P x → row n (printed x) ≡ Ok x)
     → (n : ℕ) (xs : List C) → All P xs → rows_of row n (items_of (map printed xs)) ≡ Ok xs
@@ -52,9 +53,9 @@ items_len-rows printed (x ∷ xs) = ap suc (items_len-rows printed xs)
 claims_back : (claims : NamedRows) → IsWithinLimits claims → ClaimsFit claims → claims_in (claims_data claims) ≡ Ok claims
 unfolding claims_in
 claims_back claims limits fit =
-    let inputs = rows_back input_of input_data InputIsSayable input_back 0 claims.inputs (inputs_sayable claims.inputs limits.input_names fit.inputs_fit) in
-    let outputs = rows_back output_of output_data OutputIsSayable output_back 0 claims.outputs (outputs_sayable claims.outputs limits.output_names fit.outputs_fit) in
-    let labels = rows_back label_of label_data LabelIsSayable label_back 0 claims.labels (labels_sayable claims.labels limits.label_names fit.labels_fit) in
+    let inputs = rows_back input_of input_data InputFits input_back 0 claims.inputs fit.inputs_fit in
+    let outputs = rows_back output_of output_data OutputFits output_back 0 claims.outputs fit.outputs_fit in
+    let labels = rows_back label_of label_data LabelFits label_back 0 claims.labels fit.labels_fit in
     rw (
       items_len-rows input_data claims.inputs,
       few (length claims.inputs) limits.few_inputs,
@@ -73,22 +74,22 @@ plain_rows : {C : Type 0} (printed : C → Data) (P : C → Type 0) → ((x : C)
 plain_rows printed P each [] all = tt
 plain_rows printed P each (x ∷ xs) all = (each x (all 0 x (omega arith)), plain_rows printed P each xs (All-tail P x xs all))
 
-plain_input : (x : NamedInput) → InputIsSayable x → IsPlain (input_data x)
-plain_input x h = (omega (arith, h.1.1), (tt, (omega (arith, h.1.2), (omega (arith, h.1.0), tt))))
+plain_input : (x : NamedInput) → InputFits x → IsPlain (input_data x)
+plain_input x h = (omega (arith, h.backlog), (tt, (omega (arith, h.delay), (omega (arith, h.window), tt))))
 
-plain_output : (x : NamedOutput) → OutputIsSayable x → IsPlain (output_data x)
-plain_output x h = (omega (arith, h.1.1), (tt, (omega (arith, h.1.0), tt)))
+plain_output : (x : NamedOutput) → OutputFits x → IsPlain (output_data x)
+plain_output x h = (omega (arith, h.delay), (tt, (omega (arith, h.window), tt)))
 
-plain_label : (x : NamedLabel) → LabelIsSayable x → IsPlain (label_data x)
-plain_label x h = (omega (arith, h.1), (tt, tt))
+plain_label : (x : NamedLabel) → LabelFits x → IsPlain (label_data x)
+plain_label x h = (omega (arith, h.age), (tt, tt))
 
-plain_claims : (claims : NamedRows) → IsWithinLimits claims → ClaimsFit claims → IsPlain (claims_data claims)
-plain_claims claims limits fit = (
-  plain_rows input_data InputIsSayable plain_input claims.inputs (inputs_sayable claims.inputs limits.input_names fit.inputs_fit),
+plain_claims : (claims : NamedRows) → ClaimsFit claims → IsPlain (claims_data claims)
+plain_claims claims fit = (
+  plain_rows input_data InputFits plain_input claims.inputs fit.inputs_fit,
   (
-    plain_rows label_data LabelIsSayable plain_label claims.labels (labels_sayable claims.labels limits.label_names fit.labels_fit),
+    plain_rows label_data LabelFits plain_label claims.labels fit.labels_fit,
     (
-      plain_rows output_data OutputIsSayable plain_output claims.outputs (outputs_sayable claims.outputs limits.output_names fit.outputs_fit),
+      plain_rows output_data OutputFits plain_output claims.outputs fit.outputs_fit,
       (omega arith, tt),
     ),
   ),
@@ -102,6 +103,6 @@ reads_back claims d old new is text back printed utf8 fit limits =
     let shown : old ≡ compact_text (claims_data claims) = text (ap has_float is ∙ has_float-claims_data claims) ∙ ap compact_text is in
     let shallow : depth d ≤ max_depth = rw is (depth-claims_data claims) in
     let good : read new ≡ Some (claims_data claims) =
-    ap read printed ∙ read-line_feed (claims_data claims) (plain_claims claims limits fit) ∙ sym (ap read shown) ∙ back shallow ∙ ap Some is in
+    ap read printed ∙ read-line_feed (claims_data claims) (plain_claims claims fit) ∙ sym (ap read shown) ∙ back shallow ∙ ap Some is in
     let short : length new ≤ 1048576 = rw printed (length-claims_text claims limits fit) in
     ap (λ r. r >>= claims_in) (document_good new (claims_data claims) short utf8 good) ∙ claims_back claims limits fit

@@ -1,7 +1,7 @@
 -- The numbers of a certificate, without its names.
 use Rattle.std.specs.Prelude.{ℕ, List, map, slice_index_or}
 use Rattle.dc_cert.specs.declared.certificate.Certificate.{Certificate}
-use Rattle.dc_cert.specs.NamedRows.{NamedInput, NamedOutput, NamedLabel, NamedRows, named_rows}
+use Rattle.dc_cert.specs.NamedRows.{NamedInput, NamedOutput, NamedRows, named_rows}
 
 -- what is claimed of an input bus: a closing window, a backlog, a delay
 pub record InputBound : Type 0 where

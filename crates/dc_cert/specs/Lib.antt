@@ -2,7 +2,6 @@
 pub mod NamedRows
 pub mod Bounds
 pub mod Faults
-pub mod Names
 pub mod Reading
 pub mod Printing
 pub mod Limits

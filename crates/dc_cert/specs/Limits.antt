@@ -1,31 +1,34 @@
 -- Which certificates a text can say.
-use Rattle.std.specs.Prelude.{ℕ, ◌^◌, ◌<◌, ◌≤◌, length, All, IsTrue}
+use Rattle.std.specs.Prelude.{◌^◌, ◌<◌, ◌≤◌, length, All}
 use Rattle.dc_cert.specs.NamedRows.{NamedInput, NamedOutput, NamedLabel, NamedRows}
-use Rattle.dc_cert.specs.Names.{is_name}
 use Rattle.dc_cert.specs.declared.read.TheConstants.{LIST_LIMIT}
+use Rattle.dc_parts.specs.Names.{IsSpelled}
 
--- lists within their limit, and names in their spelling
+-- lists within their limit
 pub record IsWithinLimits (claims : NamedRows) : Type 0 where
   pub few_inputs : length claims.inputs ≤ LIST_LIMIT
   pub few_outputs : length claims.outputs ≤ LIST_LIMIT
   pub few_labels : length claims.labels ≤ LIST_LIMIT
-  pub input_names : All (λ claim. IsTrue (is_name claim.bus)) claims.inputs
-  pub output_names : All (λ claim. IsTrue (is_name claim.output)) claims.outputs
-  pub label_names : All (λ claim. IsTrue (is_name claim.label)) claims.labels
 
--- ---- numbers of 32 bits, as those of the program's rows are
+-- ---- what the program's rows can hold: names in their spelling, and numbers of 32 bits
 
--- the window, backlog and delay of an input are such numbers
-abbrev pub InputFits : NamedInput → Type 0
-InputFits claim = (claim.window < 2 ^ 32) × (claim.backlog < 2 ^ 32) × (claim.delay < 2 ^ 32)
+-- the name, window, backlog and delay of an input are such
+pub record InputFits (claim : NamedInput) : Type 0 where
+  pub named : IsSpelled claim.bus
+  pub window : claim.window < 2 ^ 32
+  pub backlog : claim.backlog < 2 ^ 32
+  pub delay : claim.delay < 2 ^ 32
 
--- the window and delay of an output are
-abbrev pub OutputFits : NamedOutput → Type 0
-OutputFits claim = (claim.window < 2 ^ 32) × (claim.delay < 2 ^ 32)
+-- the name, window and delay of an output are
+pub record OutputFits (claim : NamedOutput) : Type 0 where
+  pub named : IsSpelled claim.output
+  pub window : claim.window < 2 ^ 32
+  pub delay : claim.delay < 2 ^ 32
 
--- the age of a label is
-abbrev pub LabelFits : NamedLabel → Type 0
-LabelFits claim = claim.age < 2 ^ 32
+-- the name and age of a label are
+pub record LabelFits (claim : NamedLabel) : Type 0 where
+  pub named : IsSpelled claim.label
+  pub age : claim.age < 2 ^ 32
 
 -- those of all claims are
 pub record ClaimsFit (claims : NamedRows) : Type 0 where

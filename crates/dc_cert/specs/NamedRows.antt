@@ -1,9 +1,10 @@
 -- What a certificate says, as data.
-use Rattle.std.specs.Prelude.{ℕ, List, map, string_bytes}
+use Rattle.std.specs.Prelude.{ℕ, List, map}
 use Rattle.dc_cert.specs.declared.certificate.InputRow.{InputRow}
 use Rattle.dc_cert.specs.declared.certificate.OutputRow.{OutputRow}
 use Rattle.dc_cert.specs.declared.certificate.LabelRow.{LabelRow}
 use Rattle.dc_cert.specs.declared.certificate.Certificate.{Certificate}
+use Rattle.dc_parts.specs.Names.{text_of}
 
 -- the claim for an input bus: its window, backlog and delay
 pub record NamedInput : Type 0 where
@@ -31,17 +32,17 @@ pub record NamedRows : Type 0 where
 
 -- ---- what the program's values say
 
--- the claim for an input bus, with the bytes of its name
+-- the claim for an input bus, with the text of its name
 abbrev pub named_input : InputRow → NamedInput
-named_input row = record { bus = string_bytes row.bus; window = row.window; backlog = row.backlog; delay = row.delay }
+named_input row = record { bus = text_of row.bus; window = row.window; backlog = row.backlog; delay = row.delay }
 
 -- the claim for an output
 abbrev pub named_output : OutputRow → NamedOutput
-named_output row = record { output = string_bytes row.output; window = row.window; delay = row.delay }
+named_output row = record { output = text_of row.output; window = row.window; delay = row.delay }
 
 -- the claim for a label
 abbrev pub named_label : LabelRow → NamedLabel
-named_label row = record { label = string_bytes row.label; age = row.age }
+named_label row = record { label = text_of row.label; age = row.age }
 
 -- the claims of the program's certificate, in order
 abbrev pub named_rows : Certificate → NamedRows

@@ -14,9 +14,10 @@ use Rattle.dc_cert.specs.declared.fault.TextPlace.{TextPlace}
 use Rattle.dc_cert.specs.declared.fault.TextPlace.TheVariants.{Top, Inputs, Outputs, Labels}
 use Rattle.dc_cert.specs.declared.fault.Fault.{Fault}
 use Rattle.dc_cert.specs.NamedRows.{NamedInput, NamedOutput, NamedLabel, NamedRows}
-use Rattle.dc_cert.specs.Names.{is_name}
-use Rattle.dc_cert.specs.declared.read.TheConstants.{LIST_LIMIT, TEXT_LIMIT}
+use Rattle.dc_cert.specs.declared.read.TheConstants.{LIST_LIMIT}
 use Rattle.dc_cert.specs.declared.keys.TheConstants.{GREATEST_NUMBER}
+use Rattle.dc_parts.specs.Names.{is_spelled}
+use Rattle.dc_parts.specs.declared.limits.TheConstants.{TEXT_LIMIT}
 
 -- ---- a value or a fault, and the steps that were good so far
 
@@ -82,7 +83,7 @@ number_at place key ms = number_in place (option_and_then as_u64 (option_and_the
 -- a text, else K5, in the spelling of names, else K6
 abbrev pub name_in : TextPlace → Option (List ℕ) → Reading (List ℕ)
 name_in place None = refused WrongKind place
-name_in place (Some s) = if is_name s then Ok s else refused ListOrNameOutOfBounds place
+name_in place (Some s) = if is_spelled s then Ok s else refused ListOrNameOutOfBounds place
 
 -- the name at a key
 abbrev pub name_at : TextPlace → List ℕ → Members → Reading (List ℕ)

@@ -1,10 +1,12 @@
 //! What a certificate says. A row bounds none of its numbers: which are accepted for tables `dc_check` says.
 
+use dc_parts::Name;
+
 /// What is claimed of an input bus.
-#[derive(Debug, PartialEq, Eq, Drop)]
+#[derive(Clone, Copy, Debug, PartialEq, Eq)]
 pub struct InputRow {
-    /// The bus's name, as text.
-    pub bus: String,
+    /// The bus's name.
+    pub bus: Name,
     /// The window that is claimed to close, in ticks; accepted from 1 to `dc_busy::LONGEST_WINDOW` (C02).
     pub window: u32,
     /// The most words that are claimed to wait in the receive queue; accepted up to its capacity (C05).
@@ -15,10 +17,10 @@ pub struct InputRow {
 }
 
 /// What is claimed of an output.
-#[derive(Debug, PartialEq, Eq, Drop)]
+#[derive(Clone, Copy, Debug, PartialEq, Eq)]
 pub struct OutputRow {
-    /// The output's name, as text.
-    pub output: String,
+    /// The output's name.
+    pub output: Name,
     /// The window that is claimed to close, in ticks; accepted from 1 to `dc_busy::LONGEST_WINDOW` (C02).
     pub window: u32,
     /// The longest wait that is claimed of a due entry, in ticks; accepted up to `dc_busy::LONGEST_WINDOW` (C07).
@@ -26,10 +28,10 @@ pub struct OutputRow {
 }
 
 /// What is claimed of a label that is sent.
-#[derive(Debug, PartialEq, Eq, Drop)]
+#[derive(Clone, Copy, Debug, PartialEq, Eq)]
 pub struct LabelRow {
-    /// The label's name, as text.
-    pub label: String,
+    /// The label's name.
+    pub label: Name,
     /// The greatest age that is claimed of the data that are sent, in ticks; accepted up to the label's limit (C11).
     pub age: u32,
 }

@@ -1,21 +1,19 @@
 //! The objects of a certificate's text: which keys they have, and what stands at each.
-ghost use Rattle.std.specs.Prelude.{◌≡◌, map, option_map, option_and_then};
-ghost use Rattle.std.specs.List.{list_any, list_all};
+ghost use Rattle.std.specs.Prelude.{◌≡◌, map, option_map, option_and_then, Some};
+ghost use Rattle.std.specs.List.{list_any};
 ghost use Rattle.serde_json.specs.Find.{get_member, as_array, as_number, as_u64};
 ghost use Rattle.serde_json.specs.View.{view, items_view, members_view};
 ghost use Rattle.dc_cert.specs.Faults.{seen};
-ghost use Rattle.dc_cert.specs.Names.{is_name_byte as is_spelling_byte, is_name};
-ghost use Rattle.dc_cert.specs.Reading.{same_key, only_keys, all_keys, object_of, shape_of, number_at, name_at, list_at, version_of};
+ghost use Rattle.dc_cert.specs.Reading.{same_key, only_keys, all_keys, object_of, shape_of, number_at, name_in, name_at, list_at, version_of};
+ghost use Rattle.dc_parts.specs.Names.{text_of};
 
 use crate::fault::{CertRule, Fault, TextPlace};
 use crate::read::LIST_LIMIT;
+use dc_parts::Name;
 use serde_json::{Map, Value};
 
 /// The members of an object.
 pub type Members = Map<String, Value>;
-
-// The longest name, in bytes.
-const NAME_LIMIT: usize = 16;
 
 // The greatest number: those of the program's rows have 32 bits.
 const GREATEST_NUMBER: u64 = 4_294_967_295;
@@ -122,39 +120,24 @@ pub fn number(members: &Members, key: &str, place: TextPlace) -> Result<u32, Fau
     Ok(n as u32)
 }
 
-// Whether a byte is a letter, a digit, `_` or `-`.
-fn is_name_byte(byte: u8) -> bool
-    ensures { result ≡ is_spelling_byte byte }
+// The name that a text is.
+fn spelled(text: &str, place: TextPlace) -> Result<Name, Fault>
+    ensures { seen text_of result ≡ name_in place (Some text.now) }
 {
-    matches!(byte, b'A'..=b'Z' | b'a'..=b'z' | b'0'..=b'9' | b'_' | b'-')
-}
-
-// Whether each byte may stand in a name.
-fn name_bytes(bytes: &[u8]) -> bool
-    ensures { result ≡ list_all is_spelling_byte bytes.now }
-{
-    bytes.iter().all(|byte| is_name_byte(*byte))
-}
-
-// Whether a text is spelled as a name.
-fn is_spelled(text: &str) -> bool
-    ensures { result ≡ is_name text.now }
-{
-    !text.is_empty() && text.len() <= NAME_LIMIT && name_bytes(text.as_bytes())
+    match Name::new(text.as_bytes()) {
+        Some(name) => Ok(name),
+        None => Err(CertRule::ListOrNameOutOfBounds.at(place)),
+    }
 }
 
 /// The name at a key.
-pub fn name<'a>(members: &'a Members, key: &str, place: TextPlace) -> Result<&'a str, Fault>
-    ensures { seen (λ s. s.now) result
-        ≡ name_at place key.now (members_view members.now.entries) }
+pub fn name(members: &Members, key: &str, place: TextPlace) -> Result<Name, Fault>
+    ensures { seen text_of result ≡ name_at place key.now (members_view members.now.entries) }
 {
     let Some(text) = find(members, key).and_then(Value::as_str) else {
         return Err(CertRule::WrongKind.at(place));
     };
-    if !is_spelled(text) {
-        return Err(CertRule::ListOrNameOutOfBounds.at(place));
-    }
-    Ok(text)
+    spelled(text, place)
 }
 
 // The members of the list at a key.

@@ -15,4 +15,4 @@ mod row;
 pub use certificate::{Certificate, InputRow, LabelRow, OutputRow};
 pub use fault::{CertFault, CertRule, Fault, ShortText, TextPlace};
 pub use print::cert_text;
-pub use read::{LIST_LIMIT, TEXT_LIMIT, read_cert};
+pub use read::{LIST_LIMIT, read_cert};

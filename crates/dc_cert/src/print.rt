@@ -16,7 +16,7 @@ use std::alloc::{AllocError, Global};
 fn array<R: Row>(alloc: Global, rows: &[R]) -> Result<Value, AllocError>
     ensures value { IfOk result
         (λ v. view v ≡ json_array (items_of (map R.printed (map R.claim rows.now)))) }
-    ensures numbers { IfOk result (λ _. All R.fits (map R.claim rows.now)) }
+    ensures fits { IfOk result (λ _. All R.fits (map R.claim rows.now)) }
 {
     let mut values = Vec::new(alloc);
     for row in rows {
@@ -28,7 +28,7 @@ fn array<R: Row>(alloc: Global, rows: &[R]) -> Result<Value, AllocError>
 // The JSON value that a certificate is.
 fn certificate_value(alloc: Global, certificate: &Certificate) -> Result<Value, AllocError>
     ensures value { IfOk result (λ v. view v ≡ claims_data (named_rows certificate.now)) }
-    ensures numbers { IfOk result (λ _. ClaimsFit (named_rows certificate.now)) }
+    ensures fits { IfOk result (λ _. ClaimsFit (named_rows certificate.now)) }
 {
     let inputs = array(alloc, certificate.inputs.as_slice())?;
     let labels = array(alloc, certificate.labels.as_slice())?;

@@ -9,11 +9,9 @@ use crate::certificate::Certificate;
 use crate::fault::{CertFault, CertRule, TextPlace};
 use crate::keys::{list, object, shape, version};
 use crate::row::Row;
+use dc_parts::TEXT_LIMIT;
 use serde_json::Value;
 use std::alloc::Global;
-
-/// The longest text that is read, in bytes: this project's own number.
-pub const TEXT_LIMIT: usize = 1_048_576;
 
 /// The longest list of a certificate's text, in members: this project's own number.
 pub const LIST_LIMIT: usize = 1024;
@@ -24,8 +22,8 @@ fn rows<R: Row>(alloc: Global, values: &[Value]) -> Result<Vec<R>, CertFault>
 {
     let mut rows = Vec::new(alloc);
     for (index, value) in values.iter().enumerate() {
-        match R::read(alloc, value, index) {
-            Err(fault) => return Err(fault),
+        match R::read(value, index) {
+            Err(fault) => return Err(CertFault::Unreadable(fault)),
             Ok(row) => match rows.push(row) {
                 Ok(()) => {}
                 Err(_) => return Err(CertFault::Memory),

@@ -4,19 +4,19 @@ ghost use Rattle.serde_json.specs.Data.{Data};
 ghost use Rattle.serde_json.specs.View.{view};
 ghost use Rattle.dc_cert.specs.declared.fault.Fault.{Fault as SpecFault};
 ghost use Rattle.dc_cert.specs.NamedRows.{NamedInput, NamedOutput, NamedLabel, named_input, named_output, named_label};
-ghost use Rattle.dc_cert.specs.Faults.{Gives};
+ghost use Rattle.dc_cert.specs.Faults.{seen};
 ghost use Rattle.dc_cert.specs.Reading.{input_of, output_of, label_of};
 ghost use Rattle.dc_cert.specs.Limits.{InputFits, OutputFits, LabelFits};
 ghost use Rattle.dc_cert.specs.Printing.{input_data, output_data, label_data};
 
 use crate::certificate::{InputRow, LabelRow, OutputRow};
-use crate::fault::{CertFault, TextPlace};
+use crate::fault::{Fault, TextPlace};
 use crate::keys::{name, number, object, shape};
 use serde_json::{Value, json};
 use std::alloc::{AllocError, Global};
 
 /// A member of one of a certificate's lists.
-pub trait Row: Drop {
+pub trait Row: Copy {
     // What a row says.
     ghost Claim: { Type 0 };
 
@@ -29,17 +29,17 @@ pub trait Row: Drop {
     // The JSON value that a claim is.
     ghost printed: { Claim → Data };
 
-    // The claim's numbers have 32 bits.
+    // The claim's name is spelled as one, and its numbers have 32 bits.
     ghost fits: { Claim → Type 0 };
 
     /// The row that a JSON value is, with its index in the list.
-    fn read(alloc: Global, value: &Value, index: usize) -> Result<Self, CertFault>
-        ensures { Gives claim result (claim_of index (view value.now)) };
+    fn read(value: &Value, index: usize) -> Result<Self, Fault>
+        ensures { seen claim result ≡ claim_of index (view value.now) };
 
     /// The JSON value that a row is.
     fn value(&self, alloc: Global) -> Result<Value, AllocError>
         ensures value { IfOk result (λ v. view v ≡ printed (claim self.now)) }
-        ensures numbers { IfOk result (λ _. fits (claim self.now)) };
+        ensures fits { IfOk result (λ _. fits (claim self.now)) };
 }
 
 impl Row for InputRow {
@@ -54,7 +54,7 @@ impl Row for InputRow {
     ghost fits = { InputFits };
 
     #[tactic(auto, unfolding(crate::specs::Reading::input_of))]
-    fn read(alloc: Global, value: &Value, index: usize) -> Result<Self, CertFault> {
+    fn read(value: &Value, index: usize) -> Result<Self, Fault> {
         let place = TextPlace::Inputs(index);
         let members = object(value, place)?;
         shape(members, &["bus", "window", "backlog", "delay"], place)?;
@@ -63,7 +63,7 @@ impl Row for InputRow {
         let backlog = number(members, "backlog", place)?;
         let delay = number(members, "delay", place)?;
         Ok(InputRow {
-            bus: String::from_str(alloc, bus)?,
+            bus,
             window,
             backlog,
             delay,
@@ -71,7 +71,7 @@ impl Row for InputRow {
     }
 
     fn value(&self, alloc: Global) -> Result<Value, AllocError> {
-        json!(in alloc; {"backlog": self.backlog, "bus": &self.bus, "delay": self.delay, "window": self.window})
+        json!(in alloc; {"backlog": self.backlog, "bus": self.bus.as_str(), "delay": self.delay, "window": self.window})
     }
 }
 
@@ -87,7 +87,7 @@ impl Row for OutputRow {
     ghost fits = { OutputFits };
 
     #[tactic(auto, unfolding(crate::specs::Reading::output_of))]
-    fn read(alloc: Global, value: &Value, index: usize) -> Result<Self, CertFault> {
+    fn read(value: &Value, index: usize) -> Result<Self, Fault> {
         let place = TextPlace::Outputs(index);
         let members = object(value, place)?;
         shape(members, &["output", "window", "delay"], place)?;
@@ -95,14 +95,14 @@ impl Row for OutputRow {
         let window = number(members, "window", place)?;
         let delay = number(members, "delay", place)?;
         Ok(OutputRow {
-            output: String::from_str(alloc, output)?,
+            output,
             window,
             delay,
         })
     }
 
     fn value(&self, alloc: Global) -> Result<Value, AllocError> {
-        json!(in alloc; {"delay": self.delay, "output": &self.output, "window": self.window})
+        json!(in alloc; {"delay": self.delay, "output": self.output.as_str(), "window": self.window})
     }
 }
 
@@ -118,19 +118,16 @@ impl Row for LabelRow {
     ghost fits = { LabelFits };
 
     #[tactic(auto, unfolding(crate::specs::Reading::label_of))]
-    fn read(alloc: Global, value: &Value, index: usize) -> Result<Self, CertFault> {
+    fn read(value: &Value, index: usize) -> Result<Self, Fault> {
         let place = TextPlace::Labels(index);
         let members = object(value, place)?;
         shape(members, &["label", "age"], place)?;
         let label = name(members, "label", place)?;
         let age = number(members, "age", place)?;
-        Ok(LabelRow {
-            label: String::from_str(alloc, label)?,
-            age,
-        })
+        Ok(LabelRow { label, age })
     }
 
     fn value(&self, alloc: Global) -> Result<Value, AllocError> {
-        json!(in alloc; {"age": self.age, "label": &self.label})
+        json!(in alloc; {"age": self.age, "label": self.label.as_str()})
     }
 }

@@ -10,7 +10,7 @@ ghost use Rattle.dc_answer.specs.Answer.{Any, LeavesSink, Raises, Reported};
 ghost use Rattle.dc_answer.specs.Inputs.{OnlyBehind};
 ghost use Rattle.dc_answer.specs.Judging.{Judged};
 ghost use Rattle.dc_paper.specs.Paper.{AnswersClaims, AnswersReport, ReportsPage, outcome_of};
-ghost use Rattle.dc_toml.specs.declared.read.TheConstants.{TEXT_LIMIT};
+ghost use Rattle.dc_parts.specs.declared.limits.TheConstants.{TEXT_LIMIT};
 
 use crate::pages::keep_page;
 use dc_answer::{Exit, Failure, Outcome, Unloaded, load, load_certificate, report, say};

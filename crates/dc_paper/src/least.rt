@@ -4,7 +4,7 @@ ghost use Rattle.dc_device.specs.Device.{AsksUpTo};
 ghost use Rattle.dc_answer.specs.Answer.{Any, LeavesSink, Raises, Reported};
 ghost use Rattle.dc_answer.specs.Judging.{Judged};
 ghost use Rattle.dc_paper.specs.Paper.{AnswersLeast, AnswersRows, ReportsLeast};
-ghost use Rattle.dc_toml.specs.declared.read.TheConstants.{TEXT_LIMIT};
+ghost use Rattle.dc_parts.specs.declared.limits.TheConstants.{TEXT_LIMIT};
 
 use crate::pages::keep_page;
 use dc_answer::{Exit, Failure, Outcome, Unloaded, load, report, say};

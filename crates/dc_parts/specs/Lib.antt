@@ -3,3 +3,5 @@ pub mod Document
 pub mod Keys
 pub mod Ticks
 pub mod FaultText
+-- lemmas that crates above cite
+pub mod lemmas

@@ -1,4 +1,7 @@
-//! The limits of a document of tables. All are this project's own numbers.
+//! The limits of a document of tables, and of a text that is read. All are this project's own numbers.
+
+/// The longest text of tables or of a certificate that is read, in bytes.
+pub const TEXT_LIMIT: usize = 1_048_576;
 
 /// The longest name, in bytes.
 pub const NAME_LIMIT: usize = 16;

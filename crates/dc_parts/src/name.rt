@@ -7,6 +7,7 @@ ghost use Rattle.dc_parts.specs.Names.{is_name_byte as is_spelling_byte, is_spel
 use crate::limits::NAME_LIMIT;
 use std::hash::{Hash, Hasher};
 use std::marker::Model;
+use std::str::from_utf8;
 
 /// The name of a bus, stream, router, output or label: 1 to [`NAME_LIMIT`] of the characters A-Z, a-z, 0-9, `_` and
 /// `-`.
@@ -97,5 +98,13 @@ impl Name {
     {
         let len = text_len(&self.0);
         &self.0[..len]
+    }
+
+    /// The name's text, as a text.
+    pub fn as_str(&self) -> &str
+        ensures text { result.now ≡ text_of self.now }
+        ensures spelled { IsSpelled result.now }
+    {
+        from_utf8(self.text()).unwrap()
     }
 }

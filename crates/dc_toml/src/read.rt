@@ -13,14 +13,11 @@ use crate::sections::read_tables_of;
 use dc_dict::Parameter;
 use dc_parts::{
     BuildError, BusPart, LONGEST_TICK, MOST_BUSES, MOST_OUTPUTS, MOST_PARAMETERS, MOST_ROUTERS,
-    OutputPart, Parts, RouterPart, SHORTEST_TICK, Section, TableFault, TableRule,
+    OutputPart, Parts, RouterPart, SHORTEST_TICK, Section, TEXT_LIMIT, TableFault, TableRule,
 };
 use dc_tables::Tables;
 use std::alloc::{AllocError, Global};
 use toml::{Table, Value};
-
-/// The longest text that is read, in bytes: this project's own number.
-pub const TEXT_LIMIT: usize = 1_048_576;
 
 // The length of a tick, where the top's keys are right.
 #[tactic(auto, unfolding(crate::specs::Reading::tick_of))]

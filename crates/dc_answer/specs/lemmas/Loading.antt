@@ -10,7 +10,7 @@ use Rattle.dc_parts.specs.declared.fault.Section.TheVariants.{Top}
 use Rattle.dc_parts.specs.declared.fault.TableFault.{TableFault}
 use Rattle.dc_parts.specs.declared.fault.TableRule.TheVariants.{NotToml}
 use Rattle.dc_toml.specs.Reading.{document_of, tables_of}
-use Rattle.dc_toml.specs.declared.read.TheConstants.{TEXT_LIMIT}
+use Rattle.dc_parts.specs.declared.limits.TheConstants.{TEXT_LIMIT}
 use Rattle.dc_answer.specs.Inputs.{Loads, LoadsCertificate, OnlyBehind, ReadsText}
 use Rattle.dc_answer.specs.declared.inputs.Unloaded.{Unloaded}
 use Rattle.dc_answer.specs.declared.inputs.Unloaded.TheVariants.{Refused, Failed}

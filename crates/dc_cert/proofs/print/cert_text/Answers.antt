@@ -13,4 +13,4 @@ pub returns-clause-reads_back : goal.returns-clause-reads_back
 returns-clause-reads_back c =
     reads_back (named_rows c.args.certificate.now) _ _ _ c.in_ok-value.ensures.value c.in_ok-text.ensures.text c.in_ok-text.ensures.reads_back
     (text_is (named_rows c.args.certificate.now) _ _ _ _ c.in_ok-value.ensures.value c.in_ok-text.ensures.text c.in_ok-push.ensures.bytes (c.in_ok-push.ensures.ascii (omega arith)))
-    (IsUtf8-string_bytes c.push.new.self) c.in_ok-value.ensures.numbers
+    (IsUtf8-string_bytes c.push.new.self) c.in_ok-value.ensures.fits
