@@ -1,9 +1,10 @@
 //! Look-ups in valid tables that no command makes, and parts that no text of tables can have.
 
-use dc_parts::{BuildError, Name, Parts, Section, TableFault, TableRule, Version};
-use dc_tables::Tables;
-use dc_trials::small_tables;
-use dc_word::Word;
+use dc_parts::{BuildError, Name, Parts, Section, Speed, TableFault, TableRule, Version};
+use dc_tables::{Tables, WrittenTables};
+use dc_toml::read_parts;
+use dc_trials::{push_small_tables, small_tables};
+use dc_word::{Word, digit_in};
 use std::alloc::{AllocError, Global};
 use std::process::Abort;
 use std::rt::HostRuntime;
@@ -44,6 +45,43 @@ fn streams_and_labels_are_found(rt: HostRuntime) -> Result<(), Fail> {
     assert_named(&rt, &tables, &stream, &label);
     assert!(rt; declaring(&tables, OF_204) == 1);
     Ok(())
+}
+
+/// Keys that no row holds, and the rows beside them.
+fn assert_beside(rt: &impl Abort, written: &WrittenTables) {
+    let parts = written.parts();
+    assert!(rt;
+        parts
+            .parameters()
+            .iter()
+            .all(|parameter| parameter.min_us == 10_000)
+    );
+    assert!(rt; parts.buses().iter().all(|bus| bus.speed == Speed::High));
+    assert!(rt; parts.streams().iter().all(|stream| stream.jitter_us == 0));
+    assert!(rt; parts.labels().iter().all(|label| label.offsets.len() == 1));
+    assert!(rt; written.tables().stream_count() == parts.stream_count());
+}
+
+#[test]
+fn tables_stand_beside_their_document(rt: HostRuntime) -> Result<(), Fail> {
+    let mut text = String::new(rt.alloc());
+    push_small_tables(&mut text, "")?;
+    let parts = read_parts(rt.alloc(), text.as_bytes())?;
+    let written = WrittenTables::build(rt.alloc(), parts)?;
+    assert_beside(&rt, &written);
+    assert!(rt; written.into_tables().stream_count() == 2);
+    Ok(())
+}
+
+#[test]
+fn digits_are_of_their_base(rt: HostRuntime) {
+    for (text, value) in [("7", 7), ("f", 15), ("F", 15)] {
+        for byte in text.as_bytes() {
+            assert!(rt; digit_in(16, *byte) == Some(value), "{text}");
+        }
+    }
+    assert!(rt; digit_in(16, b'g').is_none());
+    assert!(rt; digit_in(8, b'8').is_none());
 }
 
 #[test]
