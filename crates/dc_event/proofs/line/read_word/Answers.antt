@@ -1,4 +1,4 @@
-use Rattle.std.proofs.Common.{◌≡◌, ℕ, ◌+◌, ◌*◌, ◌^◌, ◌<◌, ◌≤◌, List, ◌∷◌, Option, Some, arith, drop, get_or, length, sym, ◌∙◌, ap}
+use Rattle.std.proofs.Common.{◌≡◌, ℕ, ◌+◌, ◌*◌, ◌^◌, ◌<◌, ◌≤◌, List, ◌∷◌, Option, Some, arith, drop, get_or, length, refl, sym, ◌∙◌, ap}
 use Rattle.std.proofs.Math.Pow.{pow_mono}
 use Rattle.std.proofs.lemmas.List.{drop_more}
 use Rattle.std.proofs.lemmas.Nat.{pow-add}
@@ -32,10 +32,10 @@ overflow_mul-n c = let h = fits_32 _ _ c.loop-c.invariant.small (omega arith) in
 pub overflow_add-n : goal.overflow_add-n
 overflow_add-n c =
     let h = fits_32 _ _ c.loop-c.invariant.small (omega arith) in
-    omega (arith, h, c.in_ok-digit_in.ensures.below)
+    omega (arith, h, c.in_ok-n.ensures.below)
 
 pub loop-c-preserved : goal.loop-c-preserved
 loop-c-preserved c = record {
-  small = one_more_small _ _ _ c.loop-c.invariant.small (omega (arith, c.in_ok-digit_in.ensures.below));
-  same = one_more_digit _ _ _ _ _ _ c.loop-c-test.true (sym c.in_ok-digit_in.ensures.value) refl c.loop-c.invariant.same;
+  small = one_more_small _ _ _ c.loop-c.invariant.small (omega (arith, c.in_ok-n.ensures.below));
+  same = one_more_digit _ _ _ _ _ _ c.loop-c-test.true (sym c.in_ok-n.ensures.value) refl c.loop-c.invariant.same;
 }
