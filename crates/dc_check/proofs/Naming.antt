@@ -1,7 +1,7 @@
 -- The names of a certificate against those of the tables, one by one.
 use Rattle.std.proofs.Common.{◌≡◌, ◌≢◌, ℕ, ◌+◌, ◌<◌, Bool, true, false, List, [], length, map, get_or, refl, sym, ap, ◌∙◌, arith, below_more}
 use Rattle.std.proofs.lemmas.List.{length-map, get_or-map, same_lists}
-use Rattle.std.specs.Prelude.{string_bytes, not, nat_eq}
+use Rattle.std.specs.Prelude.{not, nat_eq}
 use Rattle.std.specs.Cmp.Lexicographic.{pointwise, same_text, other_text}
 use Rattle.dc_cert.specs.NamedRows.{NamedInput, NamedOutput, NamedLabel, named_input, named_output, named_label}
 use Rattle.dc_cert.specs.declared.certificate.InputRow.{InputRow}
@@ -65,22 +65,22 @@ other_name count names keys n name key there read at h =
 -- ---- the names of a certificate's rows
 
 pub bus_read : (rows : List InputRow) (n : ℕ) (row : InputRow) → n < length rows → row ≡ get_or rows n row
-    → (d : List ℕ) → get_or (map (λ (i : NamedInput). i.bus) (map named_input rows)) n d ≡ string_bytes row.bus
+    → (d : List ℕ) → get_or (map (λ (i : NamedInput). i.bus) (map named_input rows)) n d ≡ text_of row.bus
 bus_read rows n row there is d =
     get_or-map (λ (i : NamedInput). i.bus) (map named_input rows) n (named_input row) d (omega (arith, length-map rows named_input))
     ∙ ap (λ (i : NamedInput). i.bus) (get_or-map named_input rows n row (named_input row) there)
-    ∙ ap (λ (r : InputRow). string_bytes r.bus) (sym is)
+    ∙ ap (λ (r : InputRow). text_of r.bus) (sym is)
 
 pub output_read : (rows : List OutputRow) (n : ℕ) (row : OutputRow) → n < length rows → row ≡ get_or rows n row
-    → (d : List ℕ) → get_or (map (λ (o : NamedOutput). o.output) (map named_output rows)) n d ≡ string_bytes row.output
+    → (d : List ℕ) → get_or (map (λ (o : NamedOutput). o.output) (map named_output rows)) n d ≡ text_of row.output
 output_read rows n row there is d =
     get_or-map (λ (o : NamedOutput). o.output) (map named_output rows) n (named_output row) d (omega (arith, length-map rows named_output))
     ∙ ap (λ (o : NamedOutput). o.output) (get_or-map named_output rows n row (named_output row) there)
-    ∙ ap (λ (r : OutputRow). string_bytes r.output) (sym is)
+    ∙ ap (λ (r : OutputRow). text_of r.output) (sym is)
 
 pub label_read : (rows : List LabelRow) (n : ℕ) (row : LabelRow) → n < length rows → row ≡ get_or rows n row
-    → (d : List ℕ) → get_or (map (λ (l : NamedLabel). l.label) (map named_label rows)) n d ≡ string_bytes row.label
+    → (d : List ℕ) → get_or (map (λ (l : NamedLabel). l.label) (map named_label rows)) n d ≡ text_of row.label
 label_read rows n row there is d =
     get_or-map (λ (l : NamedLabel). l.label) (map named_label rows) n (named_label row) d (omega (arith, length-map rows named_label))
     ∙ ap (λ (l : NamedLabel). l.label) (get_or-map named_label rows n row (named_label row) there)
-    ∙ ap (λ (r : LabelRow). string_bytes r.label) (sym is)
+    ∙ ap (λ (r : LabelRow). text_of r.label) (sym is)

@@ -42,7 +42,7 @@ fn are_buses(tables: &Tables, inputs: &[InputRow]) -> bool
     }
     for (bus, input) in inputs.iter().enumerate() {
         let name = tables.bus_name(bus);
-        if input.bus.as_bytes() != name.text() {
+        if input.bus.text() != name.text() {
             return false;
         }
     }
@@ -59,7 +59,7 @@ fn are_outputs(tables: &Tables, outputs: &[OutputRow]) -> bool
     }
     for (number, output) in outputs.iter().enumerate() {
         let name = tables.output_name(number);
-        if output.output.as_bytes() != name.text() {
+        if output.output.text() != name.text() {
             return false;
         }
     }
@@ -76,7 +76,7 @@ fn are_labels(tables: &Tables, labels: &[LabelRow]) -> bool
     }
     for (number, label) in labels.iter().enumerate() {
         let name = tables.label_name(number);
-        if label.label.as_bytes() != name.text() {
+        if label.label.text() != name.text() {
             return false;
         }
     }

@@ -3,6 +3,5 @@ pub mod Numbers
 pub mod Lists
 pub mod Claimed
 pub mod Broken
-pub mod Ascii
 pub mod Few
 pub mod Reaching

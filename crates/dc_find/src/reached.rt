@@ -54,15 +54,10 @@ fn parts_before(tables: &Tables, fault: FindFault) -> usize
 }
 
 /// The row of an input, with its least numbers where it is one of the first parts.
-fn reached_input(
-    alloc: Global,
-    tables: &Tables,
-    parts: usize,
-    bus: usize,
-) -> Result<InputRow, AllocError>
+fn reached_input(tables: &Tables, parts: usize, bus: usize) -> InputRow
     requires there { bus < length tables.now.buses }
     requires closes { CloseBelow tables.now parts }
-    ensures { IfOk result (λ row. IsInputReached tables.now parts bus (named_input row)) }
+    ensures { IsInputReached tables.now parts bus (named_input result) }
 {
     let mut numbers = NO_NUMBERS;
     if bus < parts {
@@ -74,19 +69,14 @@ fn reached_input(
         );
         numbers = found.unwrap();
     }
-    named_input_row(alloc, tables, bus, numbers)
+    named_input_row(tables, bus, numbers)
 }
 
 /// The row of an output, with its least numbers where it is one of the first parts.
-fn reached_output(
-    alloc: Global,
-    tables: &Tables,
-    parts: usize,
-    output: usize,
-) -> Result<OutputRow, AllocError>
+fn reached_output(tables: &Tables, parts: usize, output: usize) -> OutputRow
     requires there { output < length tables.now.outputs }
     requires closes { CloseBelow tables.now parts }
-    ensures { IfOk result (λ row. IsOutputReached tables.now parts output (named_output row)) }
+    ensures { IsOutputReached tables.now parts output (named_output result) }
 {
     tables.valid();
     let mut times = NO_TIMES;
@@ -99,7 +89,7 @@ fn reached_output(
         );
         times = found.unwrap();
     }
-    named_output_row(alloc, tables, output, times)
+    named_output_row(tables, output, times)
 }
 
 /// The rows of the inputs, those of the first parts with their least numbers.
@@ -109,7 +99,7 @@ fn reached_inputs(alloc: Global, tables: &Tables, parts: usize) -> Result<Vec<In
 {
     let mut rows = Vec::new(alloc);
     for bus in 0..tables.bus_count() {
-        rows.push(reached_input(alloc, tables, parts, bus)?)?;
+        rows.push(reached_input(tables, parts, bus))?;
     }
     Ok(rows)
 }
@@ -125,7 +115,7 @@ fn reached_outputs(
 {
     let mut rows = Vec::new(alloc);
     for output in 0..tables.output_count() {
-        rows.push(reached_output(alloc, tables, parts, output)?)?;
+        rows.push(reached_output(tables, parts, output))?;
     }
     Ok(rows)
 }

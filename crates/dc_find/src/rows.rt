@@ -1,6 +1,6 @@
 //! The rows of the least certificate, with their names.
 
-ghost use Rattle.std.specs.Prelude.{◌≡◌, ◌≢◌, ℕ, ◌+◌, ◌<◌, [], length, map, slice_index_or, string_bytes, IfOk, IfErr};
+ghost use Rattle.std.specs.Prelude.{◌≡◌, ◌≢◌, ℕ, ◌+◌, ◌<◌, [], length, map, slice_index_or, IfOk, IfErr};
 ghost use Rattle.dc_busy.specs.Least.{IsLeast};
 ghost use Rattle.dc_cert.specs.Bounds.{input_numbers, output_numbers};
 ghost use Rattle.dc_cert.specs.NamedRows.{named_input, named_output, named_label};
@@ -12,60 +12,40 @@ ghost use Rattle.dc_parts.specs.Names.{text_of};
 use crate::fault::FindFault;
 use crate::queues::{InputNumbers, Times, input_numbers, output_numbers};
 use dc_cert::{InputRow, LabelRow, OutputRow};
-use dc_parts::Name;
 use dc_tables::Tables;
 use std::alloc::{AllocError, Global};
-use std::str::from_utf8;
-
-/// The text of a name.
-fn name_text(alloc: Global, name: &Name) -> Result<String, AllocError>
-    ensures { IfOk result (λ s. string_bytes s ≡ text_of name.now) }
-{
-    let text = from_utf8(name.text()).unwrap();
-    String::from_str(alloc, text)
-}
 
 /// The row of an input with these numbers.
-pub(crate) fn named_input_row(
-    alloc: Global,
-    tables: &Tables,
-    bus: usize,
-    numbers: InputNumbers,
-) -> Result<InputRow, AllocError>
+pub(crate) fn named_input_row(tables: &Tables, bus: usize, numbers: InputNumbers) -> InputRow
     requires { bus < length tables.now.buses }
-    ensures named { IfOk result (λ row. (named_input row).bus ≡ text_of (slice_index_or tables.now.names.buses bus [])) }
-    ensures numbers { IfOk result (λ row. input_numbers (named_input row) ≡ record { window = numbers.times.window; backlog = numbers.backlog; delay = numbers.times.delay }) }
+    ensures named { (named_input result).bus ≡ text_of (slice_index_or tables.now.names.buses bus []) }
+    ensures numbers { input_numbers (named_input result) ≡ record { window = numbers.times.window; backlog = numbers.backlog; delay = numbers.times.delay } }
 {
-    Ok(InputRow {
-        bus: name_text(alloc, tables.bus_name(bus))?,
+    InputRow {
+        bus: *tables.bus_name(bus),
         window: numbers.times.window,
         backlog: numbers.backlog,
         delay: numbers.times.delay,
-    })
+    }
 }
 
 /// The row of an output with these numbers.
-pub(crate) fn named_output_row(
-    alloc: Global,
-    tables: &Tables,
-    output: usize,
-    times: Times,
-) -> Result<OutputRow, AllocError>
+pub(crate) fn named_output_row(tables: &Tables, output: usize, times: Times) -> OutputRow
     requires { output < length tables.now.outputs }
-    ensures named { IfOk result (λ row. (named_output row).output ≡ text_of (slice_index_or tables.now.names.outputs output [])) }
-    ensures numbers { IfOk result (λ row. output_numbers (named_output row) ≡ record { window = times.window; delay = times.delay }) }
+    ensures named { (named_output result).output ≡ text_of (slice_index_or tables.now.names.outputs output []) }
+    ensures numbers { output_numbers (named_output result) ≡ record { window = times.window; delay = times.delay } }
 {
-    Ok(OutputRow {
-        output: name_text(alloc, tables.output_name(output))?,
+    OutputRow {
+        output: *tables.output_name(output),
         window: times.window,
         delay: times.delay,
-    })
+    }
 }
 
-fn input_row(alloc: Global, tables: &Tables, bus: usize) -> Result<InputRow, FindFault>
+fn input_row(tables: &Tables, bus: usize) -> Result<InputRow, FindFault>
     requires { bus < length tables.now.buses }
     ensures row { IfOk result (λ row. IsInputRow tables.now bus (named_input row)) }
-    ensures fault { IfErr result (λ fault. fault ≢ Memory → IsFirstOfPart tables.now bus fault) }
+    ensures fault { IfErr result (λ fault. IsFirstOfPart tables.now bus fault) }
 {
     let numbers = input_numbers(
         tables,
@@ -73,13 +53,13 @@ fn input_row(alloc: Global, tables: &Tables, bus: usize) -> Result<InputRow, Fin
         &tables.bus_bound(bus),
         &tables.bus_service(bus),
     )?;
-    Ok(named_input_row(alloc, tables, bus, numbers)?)
+    Ok(named_input_row(tables, bus, numbers))
 }
 
-fn output_row(alloc: Global, tables: &Tables, output: usize) -> Result<OutputRow, FindFault>
+fn output_row(tables: &Tables, output: usize) -> Result<OutputRow, FindFault>
     requires { output < length tables.now.outputs }
     ensures row { IfOk result (λ row. IsOutputRow tables.now output (named_output row)) }
-    ensures fault { IfErr result (λ fault. fault ≢ Memory → IsFirstOfPart tables.now (length tables.now.buses + output) fault) }
+    ensures fault { IfErr result (λ fault. IsFirstOfPart tables.now (length tables.now.buses + output) fault) }
 {
     let times = output_numbers(
         tables,
@@ -87,7 +67,7 @@ fn output_row(alloc: Global, tables: &Tables, output: usize) -> Result<OutputRow
         &tables.output_bound(output),
         &tables.output_service(output),
     )?;
-    Ok(named_output_row(alloc, tables, output, times)?)
+    Ok(named_output_row(tables, output, times))
 }
 
 /// The age of the oldest word that a label still copies: its stale limit, and the greatest delay of its sources' buses.
@@ -107,21 +87,15 @@ fn least_age(tables: &Tables, inputs: &[InputRow], label: usize) -> u32
     row.stale + delay
 }
 
-fn label_row(
-    alloc: Global,
-    tables: &Tables,
-    inputs: &[InputRow],
-    label: usize,
-) -> Result<LabelRow, AllocError>
+fn label_row(tables: &Tables, inputs: &[InputRow], label: usize) -> LabelRow
     requires there { label < length tables.now.labels }
     requires inputs { HaveShortDelays tables.now (map named_input inputs.now) }
-    ensures { IfOk result (λ row. IsLabelRow tables.now (map named_input inputs.now) label (named_label row)) }
+    ensures { IsLabelRow tables.now (map named_input inputs.now) label (named_label result) }
 {
-    let age = least_age(tables, inputs, label);
-    Ok(LabelRow {
-        label: name_text(alloc, tables.label_name(label))?,
-        age,
-    })
+    LabelRow {
+        label: *tables.label_name(label),
+        age: least_age(tables, inputs, label),
+    }
 }
 
 /// The rows of the inputs, or the first thing that stands in their way.
@@ -131,7 +105,7 @@ pub(crate) fn input_rows(alloc: Global, tables: &Tables) -> Result<Vec<InputRow>
 {
     let mut rows = Vec::new(alloc);
     for bus in 0..tables.bus_count() {
-        let row = input_row(alloc, tables, bus)?;
+        let row = input_row(tables, bus)?;
         if rows.push(row).is_err() {
             return Err(FindFault::Memory);
         }
@@ -147,7 +121,7 @@ pub(crate) fn output_rows(alloc: Global, tables: &Tables) -> Result<Vec<OutputRo
 {
     let mut rows = Vec::new(alloc);
     for output in 0..tables.output_count() {
-        let row = output_row(alloc, tables, output)?;
+        let row = output_row(tables, output)?;
         if rows.push(row).is_err() {
             return Err(FindFault::Memory);
         }
@@ -166,7 +140,7 @@ pub(crate) fn label_rows(
 {
     let mut rows = Vec::new(alloc);
     for label in 0..tables.label_count() {
-        rows.push(label_row(alloc, tables, inputs, label)?)?;
+        rows.push(label_row(tables, inputs, label))?;
     }
     Ok(rows)
 }

@@ -8,7 +8,7 @@ pub returns-then-ne : goal.returns-then-ne
 returns-then-ne c =
     let key = c.bus_name-name.result.now in
     let there : c.loop-bus.bus < length c.args.tables.now.names.buses = omega (arith, c.named.ensures.buses) in
-    let differ = names_differ c.ne.result _ _ _ _ c.if-ne.true c.ne.ensures c.as_bytes.ensures.value c.text.ensures.text in
+    let differ = names_differ c.ne.result _ _ _ _ c.if-ne.true c.ne.ensures c.text.ensures.text c.text-in-loop-bus.ensures.text in
     sym (other_name (length c.args.tables.now.buses) (map (λ (x : NamedInput). x.bus) (map named_input c.args.inputs.now)) c.args.tables.now.names.buses c.loop-bus.bus _ key there
     (bus_read c.args.inputs.now c.loop-bus.bus c.index-inputs-bus.result (omega arith) c.index-inputs-bus.is) c.bus_name-name.ensures differ)
 
@@ -16,7 +16,7 @@ pub loop-bus-preserved : goal.loop-bus-preserved
 loop-bus-preserved c =
     let key = c.bus_name-name.result.now in
     let there : c.loop-bus.bus < length c.args.tables.now.names.buses = omega (arith, c.named.ensures.buses) in
-    let agree = names_agree c.ne.result _ _ _ _ c.if-ne.false c.ne.ensures c.as_bytes.ensures.value c.text.ensures.text in
+    let agree = names_agree c.ne.result _ _ _ _ c.if-ne.false c.ne.ensures c.text.ensures.text c.text-in-loop-bus.ensures.text in
     same_more (map (λ (x : NamedInput). x.bus) (map named_input c.args.inputs.now)) c.args.tables.now.names.buses c.loop-bus.bus _ key there
     (bus_read c.args.inputs.now c.loop-bus.bus c.index-inputs-bus.result (omega arith) c.index-inputs-bus.is) c.bus_name-name.ensures agree c.loop-bus.invariant
 

@@ -8,7 +8,7 @@ pub returns-then-ne : goal.returns-then-ne
 returns-then-ne c =
     let key = c.output_name-name.result.now in
     let there : c.loop-number.number < length c.args.tables.now.names.outputs = omega (arith, c.named.ensures.outputs) in
-    let differ = names_differ c.ne.result _ _ _ _ c.if-ne.true c.ne.ensures c.as_bytes.ensures.value c.text.ensures.text in
+    let differ = names_differ c.ne.result _ _ _ _ c.if-ne.true c.ne.ensures c.text.ensures.text c.text-in-loop-number.ensures.text in
     sym (other_name (length c.args.tables.now.outputs) (map (λ (x : NamedOutput). x.output) (map named_output c.args.outputs.now)) c.args.tables.now.names.outputs c.loop-number.number _ key there
     (output_read c.args.outputs.now c.loop-number.number c.index-outputs-number.result (omega arith) c.index-outputs-number.is) c.output_name-name.ensures differ)
 
@@ -16,7 +16,7 @@ pub loop-number-preserved : goal.loop-number-preserved
 loop-number-preserved c =
     let key = c.output_name-name.result.now in
     let there : c.loop-number.number < length c.args.tables.now.names.outputs = omega (arith, c.named.ensures.outputs) in
-    let agree = names_agree c.ne.result _ _ _ _ c.if-ne.false c.ne.ensures c.as_bytes.ensures.value c.text.ensures.text in
+    let agree = names_agree c.ne.result _ _ _ _ c.if-ne.false c.ne.ensures c.text.ensures.text c.text-in-loop-number.ensures.text in
     same_more (map (λ (x : NamedOutput). x.output) (map named_output c.args.outputs.now)) c.args.tables.now.names.outputs c.loop-number.number _ key there
     (output_read c.args.outputs.now c.loop-number.number c.index-outputs-number.result (omega arith) c.index-outputs-number.is) c.output_name-name.ensures agree c.loop-number.invariant
 

@@ -13,9 +13,9 @@ use Rattle.dc_find.proofs.rows.input_rows.Goals as goal
 
 pub returns-in_err-row-clause-fault : goal.returns-in_err-row-clause-fault
 returns-in_err-row-clause-fault c =
-    let found : IfErr c.from_residual.result (λ fault. fault ≢ Memory → IsFirstOfPart c.args.tables.now c.loop-bus.bus fault) = search rules in
-    if_err-map c.from_residual.result (λ fault. fault ≢ Memory → IsFirstOfPart c.args.tables.now c.loop-bus.bus fault) (λ fault. fault ≢ Memory → IsFirstInTheWay c.args.tables.now fault) (λ fault first other. first-of_all c.args.tables.now c.loop-bus.bus fault
-    (inputs-clear c.args.tables.now c.loop-bus.bus (map named_input c.loop-bus.rows.items) (omega (arith, c.loop-bus.auto.bus-end, c.bus_count-bus-end.ensures)) c.loop-bus.invariant) (first other)) found
+    let found : IfErr c.from_residual.result (λ fault. IsFirstOfPart c.args.tables.now c.loop-bus.bus fault) = search rules in
+    if_err-map c.from_residual.result (λ fault. IsFirstOfPart c.args.tables.now c.loop-bus.bus fault) (λ fault. fault ≢ Memory → IsFirstInTheWay c.args.tables.now fault) (λ fault first other. first-of_all c.args.tables.now c.loop-bus.bus fault
+    (inputs-clear c.args.tables.now c.loop-bus.bus (map named_input c.loop-bus.rows.items) (omega (arith, c.loop-bus.auto.bus-end, c.bus_count-bus-end.ensures)) c.loop-bus.invariant) first) found
 
 pub loop-bus-preserved : goal.loop-bus-preserved
 loop-bus-preserved c =

@@ -8,4 +8,4 @@ use Rattle.dc_find.proofs.rows.label_rows.Goals as goal
 pub loop-label-preserved : goal.loop-label-preserved
 loop-label-preserved c =
     subst (λ (l : List LabelRow). AreRows (IsLabelRow c.args.tables.now (map named_input c.args.inputs.now)) (c.loop-label.label + 1) (map named_label l)) (sym c.in_ok-push.ensures.items)
-    (row_pushed named_label (IsLabelRow c.args.tables.now (map named_input c.args.inputs.now)) c.loop-label.label c.loop-label.rows.items c.in_ok-label_row.field-0 c.loop-label.invariant c.in_ok-label_row.ensures)
+    (row_pushed named_label (IsLabelRow c.args.tables.now (map named_input c.args.inputs.now)) c.loop-label.label c.loop-label.rows.items c.label_row.result c.loop-label.invariant c.label_row.ensures)
