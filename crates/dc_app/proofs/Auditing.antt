@@ -41,12 +41,12 @@ module _ (t : TableRows) (ages : List ℕ) (events : Option (List ℕ)) where
   -- it was read, and judged
   pub run_judged : (run items : List Event) (text : List ℕ) (result : Result Outcome Failure) → HaveNames t → items ≡ run → IfSome events (λ trace. run_of t trace ≡ Ok run)
       → (IsRun t items → Judged (λ answer. AnswersRun t ages answer (Ok items)) text result) → IfSome events (λ trace. Judged (λ answer. AnswersRun t ages answer (run_of t trace)) text result)
-  run_judged run items text result keyed same reported judged = by events reported where
+  run_judged run items text result has_names same reported judged = by events reported where
     by : (from : Option (List ℕ)) → IfSome from (λ trace. run_of t trace ≡ Ok run) → IfSome from (λ trace. Judged (λ answer. AnswersRun t ages answer (run_of t trace)) text result)
     by None reported = tt
     by (Some trace) reported =
         let at : run_of t trace ≡ Ok items = reported ∙ ap (λ es. let r : Result (List Event) TraceFault = Ok es in r) (sym same) in
-        rw at (judged (run_numbered t keyed trace items at))
+        rw at (judged (run_numbered t has_names trace items at))
 
   -- its first fault was printed
   pub fault_judged : (f printed : TraceFault) (text : List ℕ) → IfSome events (λ trace. run_of t trace ≡ Err f) → printed ≡ f → text ≡ fault_text (line_rule_code printed.rule) printed.line

@@ -23,7 +23,7 @@ named_below : (names : List (List ℕ)) (name : Option (List ℕ)) (n : ℕ) →
 named_below names None n is = cc
 named_below names (Some name) n is = (position-Some (bytes_eq name) names n [] is).0
 
-module _ (t : TableRows) (keyed : HaveNames t) where
+module _ (t : TableRows) (has_names : HaveNames t) where
   -- ---- a line
 
   arrival_numbered : (bus word : Option ℕ) (e : Event) → ((n : ℕ) → bus ≡ Some n → n < length t.buses) → arrival bus word ≡ Ok e → IsNumbered t e
@@ -35,7 +35,7 @@ module _ (t : TableRows) (keyed : HaveNames t) where
   arrive_numbered [] e is = absurd (cc)
   arrive_numbered (bus ∷ []) e is = absurd (cc)
   arrive_numbered (bus ∷ word ∷ []) e is =
-      arrival_numbered (number_named t.names.buses bus) (word_of word) e (λ n at. subst (λ m. n < m) keyed.buses (named_below t.names.buses (name_of bus) n at)) is
+      arrival_numbered (number_named t.names.buses bus) (word_of word) e (λ n at. subst (λ m. n < m) has_names.buses (named_below t.names.buses (name_of bus) n at)) is
   arrive_numbered (bus ∷ word ∷ more ∷ rest) e is = absurd (cc)
 
   route_numbered : (router : Option ℕ) (e : Event) → ((n : ℕ) → router ≡ Some n → n < length t.routers) → or_fault NameUnknown (option_map (λ r. Route r) router) ≡ Ok e → IsNumbered t e
@@ -45,7 +45,7 @@ module _ (t : TableRows) (keyed : HaveNames t) where
   routes_numbered : (fields : List (List ℕ)) (e : Event) → route_fields t fields ≡ Ok e → IsNumbered t e
   routes_numbered [] e is = absurd (cc)
   routes_numbered (router ∷ []) e is =
-      route_numbered (number_named t.names.routers router) e (λ n at. subst (λ m. n < m) keyed.routers (named_below t.names.routers (name_of router) n at)) is
+      route_numbered (number_named t.names.routers router) e (λ n at. subst (λ m. n < m) has_names.routers (named_below t.names.routers (name_of router) n at)) is
   routes_numbered (router ∷ more ∷ rest) e is = absurd (cc)
 
   send_numbered : (output : Option ℕ) (e : Event) → ((n : ℕ) → output ≡ Some n → n < length t.outputs) → or_fault NameUnknown (option_map (λ o. Send o) output) ≡ Ok e → IsNumbered t e
@@ -55,7 +55,7 @@ module _ (t : TableRows) (keyed : HaveNames t) where
   sends_numbered : (fields : List (List ℕ)) (e : Event) → send_fields t fields ≡ Ok e → IsNumbered t e
   sends_numbered [] e is = absurd (cc)
   sends_numbered (output ∷ []) e is =
-      send_numbered (number_named t.names.outputs output) e (λ n at. subst (λ m. n < m) keyed.outputs (named_below t.names.outputs (name_of output) n at)) is
+      send_numbered (number_named t.names.outputs output) e (λ n at. subst (λ m. n < m) has_names.outputs (named_below t.names.outputs (name_of output) n at)) is
   sends_numbered (output ∷ more ∷ rest) e is = absurd (cc)
 
   ticks_numbered : (fields : List (List ℕ)) (e : Event) → tick_fields fields ≡ Ok e → IsNumbered t e

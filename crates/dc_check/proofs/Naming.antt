@@ -48,10 +48,10 @@ same_more names keys n name key there read at h before =
 
 -- all names are those of the keys
 pub same_all : (count : ℕ) (names keys : List (List ℕ)) → length names ≡ count → length keys ≡ count → AreSame names keys count → is_named count names keys ≡ true
-same_all count names keys sized keyed h =
+same_all count names keys sized counted h =
     is-named count names keys (record {
       sized = sized;
-      same = same_lists names (map text_of keys) (sized ∙ sym keyed ∙ sym (length-map keys text_of)) (λ k d l. h k (omega (arith, sized)) d);
+      same = same_lists names (map text_of keys) (sized ∙ sym counted ∙ sym (length-map keys text_of)) (λ k d l. h k (omega (arith, sized)) d);
     })
 
 -- one is not

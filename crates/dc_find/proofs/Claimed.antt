@@ -99,10 +99,10 @@ age-least t x c sources same some i delay stale low high covers least is = (
 
 -- rows that are named by their keys
 named : (t : TableRows) (names keys : List (List ℕ)) (count : ℕ) → length names ≡ count → length keys ≡ count → ((k : ℕ) → k < count → (d : List ℕ) → get_or names k d ≡ text_of (get_or keys k [])) → IsNamed count names keys
-named t names keys count sized keyed each = record {
+named t names keys count sized has_names each = record {
   sized = sized;
-  same = same_lists names (map text_of keys) (sized ∙ sym keyed ∙ sym (length-map keys text_of)) (λ k d l.
-      each k (omega (arith, sized)) d ∙ sym (get_or-map text_of keys k [] d (omega (arith, sized, keyed))));
+  same = same_lists names (map text_of keys) (sized ∙ sym has_names ∙ sym (length-map keys text_of)) (λ k d l.
+      each k (omega (arith, sized)) d ∙ sym (get_or-map text_of keys k [] d (omega (arith, sized, has_names))));
 }
 
 -- the tables' names, where each row has its own
@@ -110,12 +110,12 @@ pub are-named : (t : TableRows) (claims : NamedRows) → HaveNames t →
     length claims.inputs ≡ length t.buses → EachAt (λ b claim. claim.bus ≡ text_of (get_or t.names.buses b [])) claims.inputs →
     length claims.outputs ≡ length t.outputs → EachAt (λ o claim. claim.output ≡ text_of (get_or t.names.outputs o [])) claims.outputs →
     length claims.labels ≡ length t.labels → EachAt (λ x claim. claim.label ≡ text_of (get_or t.names.labels x [])) claims.labels → AreNamed t claims
-are-named t claims keyed i inputs o outputs x labels = record {
-  inputs = named t (map (λ (i : NamedInput). i.bus) claims.inputs) t.names.buses (length t.buses) (length-map claims.inputs (λ (i : NamedInput). i.bus) ∙ i) keyed.buses
+are-named t claims has_names i inputs o outputs x labels = record {
+  inputs = named t (map (λ (i : NamedInput). i.bus) claims.inputs) t.names.buses (length t.buses) (length-map claims.inputs (λ (i : NamedInput). i.bus) ∙ i) has_names.buses
       (λ k l d. get_or-map (λ (i : NamedInput). i.bus) claims.inputs k no_input d (omega (arith, i)) ∙ inputs k no_input (omega (arith, i)));
-  outputs = named t (map (λ (o : NamedOutput). o.output) claims.outputs) t.names.outputs (length t.outputs) (length-map claims.outputs (λ (o : NamedOutput). o.output) ∙ o) keyed.outputs
+  outputs = named t (map (λ (o : NamedOutput). o.output) claims.outputs) t.names.outputs (length t.outputs) (length-map claims.outputs (λ (o : NamedOutput). o.output) ∙ o) has_names.outputs
       (λ k l d. get_or-map (λ (o : NamedOutput). o.output) claims.outputs k no_output d (omega (arith, o)) ∙ outputs k no_output (omega (arith, o)));
-  labels = named t (map (λ (x : NamedLabel). x.label) claims.labels) t.names.labels (length t.labels) (length-map claims.labels (λ (x : NamedLabel). x.label) ∙ x) keyed.labels
+  labels = named t (map (λ (x : NamedLabel). x.label) claims.labels) t.names.labels (length t.labels) (length-map claims.labels (λ (x : NamedLabel). x.label) ∙ x) has_names.labels
       (λ k l d. get_or-map (λ (x : NamedLabel). x.label) claims.labels k no_label d (omega (arith, x)) ∙ labels k no_label (omega (arith, x)));
 }
 
@@ -123,9 +123,9 @@ pub least-accepted : (t : TableRows) (claims : NamedRows) → HaveNames t → Ar
     ((x : ℕ) → x < length t.labels → AcceptsLabel t x (numbers_of claims)) →
     ((other : NamedRows) → Accepts t other → (x : ℕ) → x < length t.labels → IsOldEnough t x (numbers_of claims) (slice_index (numbers_of other).ages x)) →
     IsLeastAccepted t claims
-least-accepted t claims keyed inputs outputs labels kept older = record {
+least-accepted t claims has_names inputs outputs labels kept older = record {
   accepted = record {
-    named = are-named t claims keyed inputs.count (λ k d l. (inputs.each k d l).named) outputs.count (λ k d l. (outputs.each k d l).named) labels.count (λ k d l. (labels.each k d l).named);
+    named = are-named t claims has_names inputs.count (λ k d l. (inputs.each k d l).named) outputs.count (λ k d l. (outputs.each k d l).named) labels.count (λ k d l. (labels.each k d l).named);
     numbers = record {
       inputs = λ b l. (input-row t claims inputs b l).accepted;
       outputs = λ o l. (output-row t claims outputs o l).accepted;

@@ -39,8 +39,8 @@ module _ (t : TableRows) where
 
   -- the rows that were reached, as a certificate
   pub reached : (parts : ℕ) (claims : NamedRows) → HaveNames t → AreInputsReached t parts claims.inputs → AreOutputsReached t parts claims.outputs → AreLabelRows t claims.inputs claims.labels → IsReached t parts claims
-  reached parts claims keyed inputs outputs labels = record {
-    named = are-named t claims keyed inputs.count (λ k d l. (inputs.each k d l).named) outputs.count (λ k d l. (outputs.each k d l).named) labels.count (λ k d l. (labels.each k d l).named);
+  reached parts claims has_names inputs outputs labels = record {
+    named = are-named t claims has_names inputs.count (λ k d l. (inputs.each k d l).named) outputs.count (λ k d l. (outputs.each k d l).named) labels.count (λ k d l. (labels.each k d l).named);
     inputs = λ b there below.
         let inside : b < length claims.inputs = omega (arith, inputs.count, there) in
         subst (AreLeastNumbers t b) (sym (get_or-map input_numbers claims.inputs b no_input (record { window = 0; backlog = 0; delay = 0 }) inside)) ((inputs.each b no_input inside).least below);
