@@ -1,5 +1,5 @@
 //! Texts that stand for a word, a label or a code.
-ghost use Rattle.std.specs.Prelude.{◌≡◌, ℕ, ◌<◌, IfSome};
+ghost use Rattle.std.specs.Prelude.{◌≡◌, ℕ, ◌<◌, ◌≤◌, IfSome};
 ghost use Rattle.toml.specs.Data.{same_key};
 ghost use Rattle.dc_toml.specs.Keys.{three_digits as three_digits_of, label_in, label_of, equipment_of, speed_of, format_of};
 
