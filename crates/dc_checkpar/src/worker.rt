@@ -57,7 +57,7 @@ pub(crate) fn judge<J: Jobs, G: Gate>(
     requires ask { J.may_ask jobs.now }
     requires there { job < J.jobs jobs.now }
     ensures ok { IfOk result (λ fault. fault ≡ J.verdict jobs.now job) }
-    ensures err { IfErr result (λ _. MayStick (J.jobs jobs.now) (G.may_stick gate.now)) }
+    ensures err { IfErr result (λ _. G.may_stick gate.now job) }
 {
     gate.enter(job as u64)?;
     let fault = jobs.fault(job);

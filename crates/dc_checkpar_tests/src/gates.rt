@@ -4,7 +4,7 @@ ghost use Rattle.std.specs.Prelude.{◌≤◌};
 
 use dc_cert::Certificate;
 use dc_checkpar::{Gate, ParFault, check_par};
-use dc_gates::{Against, Counting, Meeting};
+use dc_gates::{Against, Counting, Meeting, Recording};
 use dc_tables::Tables;
 use dc_trials::{certificate_of, push_equal_certificate, push_equal_tables, tables_of};
 use std::alloc::Global;
@@ -95,6 +95,29 @@ fn keeps_one_out<R: Threads + Wait + Sync + Abort>(
         assert!(rt; reported == Err(ParFault::GateStuck), "{workers} workers");
     }
     Ok(())
+}
+
+/// Each job enters by its own number, once, and leaves.
+fn enter_once<R: Threads + Wait + Sync + Abort>(
+    rt: &R,
+    alloc: Global,
+    tables: &Arc<Tables>,
+) -> Result<(), Fail> {
+    for workers in [1, 2, 64] {
+        let gate = Recording::new(alloc, 66)?;
+        let reported = answer(rt, alloc, tables, workers, &gate)?;
+        assert!(rt; reported == Ok(64), "{workers} workers");
+        for job in 0..66 {
+            assert!(rt; gate.rounds(job) == Some(1), "{workers} workers, job {job}");
+        }
+    }
+    Ok(())
+}
+
+#[test]
+fn each_job_enters_by_its_number_and_leaves(rt: HostRuntime) -> Result<(), Fail> {
+    let tables = Arc::new(rt.alloc(), tables(rt.alloc())?)?;
+    enter_once(&rt, rt.alloc(), &tables)
 }
 
 #[test]
