@@ -1,1 +1,2 @@
-pub mod Benching
+mod Benching
+mod Roles

@@ -1,14 +1,23 @@
 //! A hub over certified tables that runs and closes, and what is seen of its book.
-ghost use Rattle.std.specs.Prelude.{◌≡◌, ℕ, List, [], ◌∷◌, ◌++◌, ◌+◌, ◌<◌, ◌≤◌, IfErr, IfOk, IsSome, codes, decimal, length};
+ghost use Rattle.std.specs.Prelude.{◌≡◌, ◌≢◌, ◌⊎◌, ℕ, List, [], ◌∷◌, ◌++◌, ◌+◌, ◌<◌, ◌≤◌, IfErr, IfOk, IfSome, IsSome, Ok, Err, codes, decimal, length};
 ghost use Rattle.arrayvec.specs.ArrayVec.{array_vec_len};
 ghost use Rattle.dc_answer.specs.Judging.{Judged};
-ghost use Rattle.dc_bench.specs.Bench.{AnswersRun, IsSeen, answer_seen, count_text, seen_lines};
+ghost use Rattle.dc_answer.specs.declared.exit.Outcome.TheVariants.{Refused as WasRefused};
+ghost use Rattle.dc_bench.specs.Bench.{AnswersRun, HasRefused, IsSeen, WentAstray, answer_seen, count_text, seen_lines};
+ghost use Rattle.dc_check.specs.Lent.{tables_of};
 ghost use Rattle.dc_device.specs.Lines.{spelled};
-ghost use Rattle.dc_drive.specs.Played.{AreOfHub};
+ghost use Rattle.dc_drive.specs.Played.{AreOfHub, HaveRoles, IsDriven};
+ghost use Rattle.dc_drive.specs.Refusals.{HaltsAs};
+ghost use Rattle.dc_hub.specs.Closing.{all_seats};
 ghost use Rattle.dc_hub.specs.Entries.{events as events_in};
-ghost use Rattle.dc_script.specs.declared.limits.TheConstants.{LONGEST_SCRIPT};
+ghost use Rattle.dc_hub.specs.Opening.{IsCharterOf};
+ghost use Rattle.dc_hub.specs.Views.{AreTablesOf, receipts_in};
+ghost use Rattle.dc_drive.specs.declared.fault.DriveFault.TheVariants.{Spawn, Memory as DriveMemory, Hub as Refused};
+ghost use Rattle.dc_hub.specs.declared.fault.HubFault.TheVariants.{Astray, Memory as HubMemory};
+ghost use Rattle.dc_hub.specs.declared.limits.TheConstants.{LONGEST_TRACE};
 ghost use Rattle.dc_print.specs.declared.text.TheConstants.{TEXT_CAPACITY};
-ghost use Rattle.dc_hub.specs.declared.limits.TheConstants.{MOST_ACTORS};
+ghost use Rattle.dc_script.specs.Script.{bench_script};
+ghost use Rattle.dc_script.specs.declared.limits.TheConstants.{LONGEST_SCRIPT};
 
 use dc_answer::{Failure, Outcome};
 use dc_app::{NoThread, append_claims};
@@ -16,7 +25,7 @@ use dc_check::Certified;
 use dc_checkpar::Open;
 use dc_drive::{DriveFault, drive};
 use dc_event::{Claim, Event};
-use dc_hub::{Closed, Entry, Hub, HubFault, LONGEST_TRACE, MOST_ACTORS, OpenFault, Seats};
+use dc_hub::{Charter, Closed, Entry, Hub, HubFault, LONGEST_TRACE, MOST_ACTORS, OpenFault, Seats};
 use dc_oracle::claims;
 use dc_print::{Text, append, append_number};
 use dc_script::Script;
@@ -24,7 +33,7 @@ use dc_tables::Tables;
 use std::alloc::{AllocError, Global};
 use std::marker::{Brand, Sync};
 use std::sync::Wait;
-use std::sync::ledger::{Blank, Ledger};
+use std::sync::ledger::Blank;
 use std::thread::Threads;
 
 /// What is seen of a hub that ran and closed.
@@ -53,7 +62,9 @@ fn events_of(alloc: Global, entries: &[Entry]) -> Result<Vec<Event>, AllocError>
 
 // What is seen of a book.
 fn seen_of(alloc: Global, ticks: u64, closed: &Closed) -> Result<Seen, AllocError>
-    ensures { IfOk result (IsSeen ticks closed.now) }
+    requires fits { length closed.now.entries ≤ LONGEST_TRACE }
+    requires driven { IsDriven (tables_of closed.now.certified) (bench_script (tables_of closed.now.certified) ticks) (events_in closed.now.entries) }
+    ensures { IfOk result (IsSeen closed.now.certified ticks closed.now) }
 {
     closed.legal();
     let certified = closed.certified();
@@ -112,7 +123,9 @@ fn judge_book(
     closed: &Closed,
     text: &mut Text,
 ) -> Result<Outcome, Failure>
-    ensures answer { Judged (AnswersRun ticks) text.new.items result }
+    requires fits { length closed.now.entries ≤ LONGEST_TRACE }
+    requires driven { IsDriven (tables_of closed.now.certified) (bench_script (tables_of closed.now.certified) ticks) (events_in closed.now.entries) }
+    ensures answer { Judged (AnswersRun closed.now.certified ticks) text.new.items result }
     ensures memory { IfErr result (λ e. e ≡ Failure.Memory) }
 {
     match seen_of(alloc, ticks, closed) {
@@ -124,55 +137,75 @@ fn judge_book(
     }
 }
 
-// Prints that the hub refused a step, or did not close.
-fn refuse_hub(ticks: u64, text: &mut Text) -> Result<Outcome, Failure>
-    ensures answer { Judged (AnswersRun ticks) text.new.items result }
-    ensures memory { IfErr result (λ e. e ≡ Failure.Memory) }
+// Prints that the hub refused: a call, or to close.
+fn refuse_hub<L: Charter>(ticks: u64, text: &mut Text) -> Outcome
+    requires { IfSome L.certified (λ c. HasRefused c ticks) }
+    ensures answer { IfSome L.certified (λ c. Judged (AnswersRun c ticks) text.new.items (Ok result)) }
 {
     let _ticks = ticks;
     text.clear();
     append(text, b"refused hub");
-    Ok(Outcome::Refused)
+    Outcome::Refused
 }
 
 // Closes a hub, and prints what is seen of its book.
-fn close_hub<L: Ledger>(
+fn close_hub<L: Charter>(
     alloc: Global,
     ticks: u64,
     hub: Hub<L>,
     seats: Seats<L>,
     text: &mut Text,
 ) -> Result<Outcome, Failure>
-    ensures answer { Judged (AnswersRun ticks) text.new.items result }
+    requires limit { L.limit ≡ LONGEST_TRACE }
+    requires roles { IfSome L.certified (λ c. HaveRoles (tables_of c) (bench_script (tables_of c) ticks) (all_seats seats.wires.items seats.routers.items seats.outputs.items seats.clock)) }
+    ensures answer { IfSome L.certified (λ c. Judged (AnswersRun c ticks) text.new.items result) }
     ensures memory { IfErr result (λ e. e ≡ Failure.Memory) }
 {
     match hub.close(seats) {
         Ok(closed) => judge_book(alloc, ticks, &closed, text),
-        Err(_) => refuse_hub(ticks, text),
+        Err(_) => Ok(refuse_hub::<L>(ticks, text)),
+    }
+}
+
+// What a call of the hub that was refused, or a seat that went astray, ends with.
+fn end_of_call<L: Charter>(fault: HubFault, ticks: u64, text: &mut Text) -> Result<Outcome, Failure>
+    requires limit { L.limit ≡ LONGEST_TRACE }
+    requires halts { Refused fault ≢ Refused Astray → HaltsAs L.certified L.limit ⊥ (Refused fault) }
+    requires astray { Refused fault ≡ Refused Astray → IfSome L.certified (λ c. WentAstray (tables_of c) (bench_script (tables_of c) ticks)) }
+    ensures answer { IfSome L.certified (λ c. Judged (AnswersRun c ticks) text.new.items result) }
+    ensures memory { IfErr result (λ e. (e ≡ Failure.Memory) × (fault ≡ HubMemory)) }
+{
+    match fault {
+        HubFault::Memory => Err(Failure::Memory),
+        HubFault::Step(_) => Ok(refuse_hub::<L>(ticks, text)),
+        HubFault::TraceFull => Ok(refuse_hub::<L>(ticks, text)),
+        HubFault::Astray => Ok(refuse_hub::<L>(ticks, text)),
     }
 }
 
 // What a drive that was not answered Ok ends with.
-fn end_of(
+fn end_of<L: Charter>(
     fault: DriveFault,
     ticks: u64,
     text: &mut Text,
 ) -> Result<Result<Outcome, Failure>, NoThread>
-    ensures answer { IfOk result (Judged (AnswersRun ticks) text.new.items) }
-    ensures memory { IfOk result (λ judged. IfErr judged (λ e. e ≡ Failure.Memory)) }
+    requires limit { L.limit ≡ LONGEST_TRACE }
+    requires halts { fault ≢ Refused Astray → HaltsAs L.certified L.limit ⊥ fault }
+    requires astray { fault ≡ Refused Astray → IfSome L.certified (λ c. WentAstray (tables_of c) (bench_script (tables_of c) ticks)) }
+    ensures answer { IfOk result (λ judged. IfSome L.certified (λ c. Judged (AnswersRun c ticks) text.new.items judged)) }
+    ensures memory { IfOk result (λ judged. IfErr judged (λ e. (e ≡ Failure.Memory) × ((fault ≡ DriveMemory) ⊎ (fault ≡ Refused HubMemory)))) }
+    ensures threads { IfErr result (λ _. fault ≡ Spawn) }
 {
     match fault {
         DriveFault::Memory => Ok(Err(Failure::Memory)),
         DriveFault::Spawn => Err(NoThread),
-        DriveFault::GateStuck => Err(NoThread),
-        DriveFault::Hub(HubFault::Memory) => Ok(Err(Failure::Memory)),
-        DriveFault::Hub(_) => Ok(refuse_hub(ticks, text)),
-        DriveFault::Astray => Ok(refuse_hub(ticks, text)),
+        DriveFault::GateStuck => unreachable!(),
+        DriveFault::Hub(refused) => Ok(end_of_call::<L>(refused, ticks, text)),
     }
 }
 
 // Drives a hub and closes it.
-fn drive_hub<L: Ledger + Send + Sync, R: Threads + Wait + Sync>(
+fn drive_hub<L: Charter + Send + Sync, R: Threads + Wait + Sync>(
     rt: &R,
     alloc: Global,
     tables: &Tables,
@@ -181,19 +214,23 @@ fn drive_hub<L: Ledger + Send + Sync, R: Threads + Wait + Sync>(
     mut seats: Seats<L>,
     text: &mut Text,
 ) -> Result<Result<Outcome, Failure>, NoThread>
+    requires tables { AreTablesOf L.certified tables.now }
+    requires limit { L.limit ≡ LONGEST_TRACE }
+    requires script { script.now ≡ bench_script tables.now script.now.ticks }
     requires of_hub { AreOfHub hub seats.wires.items }
     requires clock { IsSome seats.clock }
-    ensures answer { IfOk result (Judged (AnswersRun script.now.ticks) text.new.items) }
+    requires unused { receipts_in (all_seats seats.wires.items seats.routers.items seats.outputs.items seats.clock) ≡ 0 }
+    ensures answer { IfOk result (λ judged. IfSome L.certified (λ c. Judged (AnswersRun c script.now.ticks) text.new.items judged)) }
     ensures memory { IfOk result (λ judged. IfErr judged (λ e. e ≡ Failure.Memory)) }
 {
     match drive(rt, alloc, tables, &hub, &mut seats, script, &Open) {
         Ok(()) => Ok(close_hub(alloc, script.ticks(), hub, seats, text)),
-        Err(fault) => end_of(fault, script.ticks(), text),
+        Err(fault) => end_of::<L>(fault, script.ticks(), text),
     }
 }
 
 // Opens a hub, drives it and closes it.
-fn run_hub<L: Ledger + Send + Sync, R: Threads + Wait + Sync>(
+fn run_hub<L: Charter + Send + Sync, R: Threads + Wait + Sync>(
     rt: &R,
     alloc: Global,
     blank: Blank,
@@ -202,21 +239,21 @@ fn run_hub<L: Ledger + Send + Sync, R: Threads + Wait + Sync>(
     certified: Certified,
     text: &mut Text,
 ) -> Result<Result<Outcome, Failure>, NoThread>
-    requires name { blank.name ≡ L.name }
-    requires parts { blank.parts ≡ L.parts }
-    requires enough { MOST_ACTORS ≤ blank.parts }
-    ensures answer { IfOk result (Judged (AnswersRun script.now.ticks) text.new.items) }
+    requires blank { (blank.name ≡ L.name) × (blank.parts ≡ L.parts) }
+    requires charter { IsCharterOf L.certified L.limit L.whole L.parts certified LONGEST_TRACE }
+    requires tables { tables_of certified ≡ tables.now }
+    requires script { script.now ≡ bench_script tables.now script.now.ticks }
+    ensures answer { IfOk result (Judged (AnswersRun certified script.now.ticks) text.new.items) }
     ensures memory { IfOk result (λ judged. IfErr judged (λ e. e ≡ Failure.Memory)) }
 {
     match Hub::<L>::open(alloc, blank, certified, LONGEST_TRACE) {
         Ok((hub, seats)) => drive_hub(rt, alloc, tables, script, hub, seats, text),
         Err(OpenFault::Memory) => Ok(Err(Failure::Memory)),
-        Err(OpenFault::TraceLimit) => unreachable!(),
     }
 }
 
-/// Runs a hub over certified tables for so many ticks by the script of a bench, closes it, and prints what is seen of
-/// its book.
+/// Runs a hub over certified tables, which are these, for so many ticks by the script of a bench, closes it, and prints
+/// what is seen of its book.
 pub fn run_certified<R: Threads + Wait + Sync>(
     rt: &R,
     alloc: Global,
@@ -225,10 +262,12 @@ pub fn run_certified<R: Threads + Wait + Sync>(
     certified: Certified,
     text: &mut Text,
 ) -> Result<Result<Outcome, Failure>, NoThread>
-    requires { (1 ≤ ticks) × (ticks ≤ LONGEST_SCRIPT) }
-    ensures answer { IfOk result (Judged (AnswersRun ticks) text.new.items) }
+    requires ticks { (1 ≤ ticks) × (ticks ≤ LONGEST_SCRIPT) }
+    requires tables { tables_of certified ≡ tables.now }
+    ensures answer { IfOk result (Judged (AnswersRun certified ticks) text.new.items) }
     ensures memory { IfOk result (λ judged. IfErr judged (λ e. e ≡ Failure.Memory)) }
 {
+    certified.tables().valid();
     match Script::bench(alloc, tables, ticks) {
         Ok(script) => run_hub::<Brand, R>(
             rt,

@@ -1,2 +1,4 @@
+mod Halts
+mod Roles
 pub mod Same
 mod Walks

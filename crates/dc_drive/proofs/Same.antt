@@ -74,14 +74,14 @@ pub all-last : {X : Type 0} (P : X → Type 0) (xs : List X) (x : X) → All P (
 all-last P [] x h = All-head P x [] h
 all-last P (w ∷ xs) x h = all-last P xs x (All-tail P w (xs ++ x ∷ []) h)
 
-pub hubs-more : {H Y : Type 0} (hs hs' : List H) (h : H) (g : H → Y) (y : Y) → All (λ x. g x ≡ y) hs → g h ≡ y → hs' ≡ hs ++ h ∷ [] → All (λ x. g x ≡ y) hs'
-hubs-more hs hs' h g y all one pushed = subst (All (λ x. g x ≡ y)) (sym pushed) (All-push (λ x. g x ≡ y) hs h all one)
+pub all-more : {H : Type 0} (P : H → Type 0) (hs hs' : List H) (h : H) → All P hs → P h → hs' ≡ hs ++ h ∷ [] → All P hs'
+all-more P hs hs' h all one pushed = subst (All P) (sym pushed) (All-push P hs h all one)
 
-pub hubs-fewer : {H Y : Type 0} (hs hs' : List H) (h : H) (g : H → Y) (y : Y) → All (λ x. g x ≡ y) hs → hs ≡ hs' ++ h ∷ [] → All (λ x. g x ≡ y) hs'
-hubs-fewer hs hs' h g y all popped = all-before (λ x. g x ≡ y) hs' h (subst (All (λ x. g x ≡ y)) popped all)
+pub all-fewer : {H : Type 0} (P : H → Type 0) (hs hs' : List H) (h : H) → All P hs → hs ≡ hs' ++ h ∷ [] → All P hs'
+all-fewer P hs hs' h all popped = all-before P hs' h (subst (All P) popped all)
 
-pub hub-last : {H Y : Type 0} (hs hs' : List H) (h : H) (g : H → Y) (y : Y) → All (λ x. g x ≡ y) hs → hs ≡ hs' ++ h ∷ [] → g h ≡ y
-hub-last hs hs' h g y all popped = all-last (λ x. g x ≡ y) hs' h (subst (All (λ x. g x ≡ y)) popped all)
+pub one-last : {H : Type 0} (P : H → Type 0) (hs hs' : List H) (h : H) → All P hs → hs ≡ hs' ++ h ∷ [] → P h
+one-last P hs hs' h all popped = all-last P hs' h (subst (All P) popped all)
 
 -- as many counts as seats
 pub counted : {X : Type 0} (f : X → SeatView) (xs ys : List X) → AreSame f xs ys → length (counts f xs) ≡ length ys

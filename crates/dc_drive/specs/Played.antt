@@ -1,5 +1,5 @@
 -- What the seats of a hub have been answered while it was driven.
-use Rattle.std.specs.Prelude.{◌≡◌, ℕ, Option, Some, None, List, [], ◌∷◌, ◌++◌, map, filter, reverse, drop, length, slice_get, slice_index_or, All}
+use Rattle.std.specs.Prelude.{◌≡◌, ℕ, ◌<◌, Option, Some, None, List, [], ◌∷◌, ◌++◌, map, filter, reverse, drop, length, slice_get, slice_index_or, All}
 use Rattle.atomic_table.specs.Seated.{TableId}
 use Rattle.dc_board.specs.Marks.{IsSeatOf}
 use Rattle.dc_script.specs.Script.{ScriptView}
@@ -9,7 +9,7 @@ use Rattle.dc_event.specs.declared.event.Actor.{Actor}
 use Rattle.dc_event.specs.declared.event.Actor.TheVariants.{Wire, Router, Output, Clock}
 use Rattle.dc_event.specs.declared.event.Event.{Event}
 use Rattle.dc_event.specs.declared.event.Event.TheVariants.{Arrive}
-use Rattle.dc_hub.specs.Closing.{is_by}
+use Rattle.dc_hub.specs.Closing.{is_by, actor_at, actor_count}
 use Rattle.dc_hub.specs.Views.{SeatView, WireView}
 use Rattle.dc_hub.specs.declared.entry.Receipt.{Receipt}
 use Rattle.dc_tables.specs.TableRows.{TableRows}
@@ -88,6 +88,14 @@ pub record AllPlayed (t : TableRows) (s : ScriptView) (wires wires' : List WireV
   pub by_routers : HavePlayed itself t s (counts itself routers) routers'
   pub by_outputs : HavePlayed itself t s (counts itself outputs) outputs'
   pub by_clock : HasTicked t s (count_of clock) clock'
+
+-- each seat's receipts are its actor's role
+abbrev pub HaveRoles : TableRows → ScriptView → List SeatView → Type 0
+HaveRoles t s seats = All (λ (seat : SeatView). events seat.receipts ≡ role t s seat.actor) seats
+
+-- the run holds of each actor of the tables what it is to make, in order, and nothing else of it
+abbrev pub IsDriven : TableRows → ScriptView → List Event → Type 0
+IsDriven t s run = (p : ℕ) → p < actor_count t → own (actor_at t p) run ≡ role t s (actor_at t p)
 
 -- ---- seats that threads have
 

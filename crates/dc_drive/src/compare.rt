@@ -6,10 +6,9 @@ ghost use Rattle.dc_event.specs.Steady.{steady as steady_of};
 
 use crate::player::words_of;
 use dc_event::{Actor, Event};
-use dc_hub::{Receipt, Seat, makes};
+use dc_hub::{Charter, Receipt, Seat, makes};
 use dc_script::{Script, Timed};
 use dc_tables::Tables;
-use std::sync::ledger::Ledger;
 
 /// Whether the receipts after the first `before` are of the actor's own events of the run.
 fn are_own(receipts: &[Receipt], before: usize, actor: &Actor, run: &[Event]) -> bool
@@ -57,7 +56,7 @@ fn are_arrivals(receipts: &[Receipt], before: usize, bus: usize, words: &[Timed]
 }
 
 /// Whether the seat's receipts after the first `before` are its actor's role, where `run` is the steady run.
-pub(crate) fn has_played<L: Ledger>(
+pub(crate) fn has_played<L: Charter>(
     tables: &Tables,
     script: &Script,
     run: &[Event],

@@ -1,25 +1,28 @@
 //! A hub that is driven by a script.
 
-ghost use Rattle.std.specs.Prelude.{◌≡◌, ◌≤◌, true, false, Err, IfOk, IsSome, OnOk, vec_len, vec_capacity};
+ghost use Rattle.std.specs.Prelude.{◌≡◌, ◌≢◌, ◌≤◌, true, false, Err, IfErr, IfOk, IsSome, OnOk, vec_len, vec_capacity};
 ghost use Rattle.dc_event.specs.Steady.{steady as steady_of};
-ghost use Rattle.dc_drive.specs.Played.{AllPlayed, AreOfHub, AreSame, HasTicked, HavePlayed, IsSameClock, count_of, counts, itself, seat_of_wire};
-ghost use Rattle.dc_drive.specs.declared.fault.DriveFault.TheVariants.{Astray};
+ghost use Rattle.dc_drive.specs.Played.{AllPlayed, AreOfHub, AreSame, HasTicked, HavePlayed, HaveRoles, IsSameClock, count_of, counts, itself, seat_of_wire};
+ghost use Rattle.dc_drive.specs.Refusals.{HaltsAs, MayStickAt};
+ghost use Rattle.dc_drive.specs.declared.fault.DriveFault.TheVariants.{Hub as Refused};
+ghost use Rattle.dc_hub.specs.Closing.{all_seats};
+ghost use Rattle.dc_hub.specs.Views.{AreTablesOf, receipts_in};
+ghost use Rattle.dc_hub.specs.declared.fault.HubFault.TheVariants.{Astray};
 
 use crate::compare::has_played;
-use crate::fault::{DriveFault, Halt};
+use crate::fault::DriveFault;
 use crate::pace::Meter;
 use crate::player::{Player, Stage};
 use crate::threads::{Cast, Child, Rooms, in_threads};
 use dc_checkpar::Gate;
 use dc_event::Event;
-use dc_hub::{ClockSeat, Hub, OutputSeat, RouterSeat, Seats, WireSeat};
+use dc_hub::{Charter, ClockSeat, Hub, HubFault, OutputSeat, RouterSeat, Seats, WireSeat};
 use dc_oracle::steady;
 use dc_script::Script;
 use dc_tables::Tables;
 use std::alloc::{AllocError, Global};
 use std::mem;
 use std::sync::Wait;
-use std::sync::ledger::Ledger;
 use std::thread::Threads;
 
 /// How many receipts each seat has.
@@ -32,7 +35,7 @@ struct Counts {
 }
 
 /// How many receipts each of the seats has.
-fn counts_of<L: Ledger, S: Player<L>>(
+fn counts_of<L: Charter, S: Player<L>>(
     alloc: Global,
     seats: &Vec<S>,
 ) -> Result<Vec<usize>, AllocError>
@@ -46,7 +49,10 @@ fn counts_of<L: Ledger, S: Player<L>>(
 }
 
 /// Room for as many handles as there are seats.
-fn rooms_for<L: Ledger>(alloc: Global, seats: &Seats<L>) -> Result<Rooms<L>, AllocError>
+fn rooms_for<L: Charter, G: Gate>(
+    alloc: Global,
+    seats: &Seats<L>,
+) -> Result<Rooms<L, G>, AllocError>
     ensures wires { IfOk result (λ r. (vec_len r.wires ≡ 0) × (vec_len seats.now.wires ≤ vec_capacity r.wires)) }
     ensures routers { IfOk result (λ r. (vec_len r.routers ≡ 0) × (vec_len seats.now.routers ≤ vec_capacity r.routers)) }
     ensures outputs { IfOk result (λ r. (vec_len r.outputs ≡ 0) × (vec_len seats.now.outputs ≤ vec_capacity r.outputs)) }
@@ -59,7 +65,7 @@ fn rooms_for<L: Ledger>(alloc: Global, seats: &Seats<L>) -> Result<Rooms<L>, All
 }
 
 /// How many receipts the clock has.
-fn clock_count<L: Ledger>(clock: &Option<ClockSeat<L>>) -> usize
+fn clock_count<L: Charter>(clock: &Option<ClockSeat<L>>) -> usize
     ensures { result ≡ count_of clock.now }
 {
     match clock {
@@ -69,7 +75,7 @@ fn clock_count<L: Ledger>(clock: &Option<ClockSeat<L>>) -> usize
 }
 
 /// How many receipts all seats have.
-fn before<L: Ledger>(alloc: Global, seats: &Seats<L>) -> Result<Counts, AllocError>
+fn before<L: Charter>(alloc: Global, seats: &Seats<L>) -> Result<Counts, AllocError>
     ensures wires { IfOk result (λ b. b.wires.items ≡ counts seat_of_wire seats.now.wires.items) }
     ensures routers { IfOk result (λ b. b.routers.items ≡ counts itself seats.now.routers.items) }
     ensures outputs { IfOk result (λ b. b.outputs.items ≡ counts itself seats.now.outputs.items) }
@@ -84,7 +90,7 @@ fn before<L: Ledger>(alloc: Global, seats: &Seats<L>) -> Result<Counts, AllocErr
 }
 
 /// Whether each of the seats was answered its actor's role since it had so many receipts.
-fn have_played<L: Ledger, S: Player<L>>(
+fn have_played<L: Charter, S: Player<L>>(
     tables: &Tables,
     script: &Script,
     run: &[Event],
@@ -106,13 +112,14 @@ fn have_played<L: Ledger, S: Player<L>>(
 
 /// Runs the script with the seats, which get receipts behind those that they had. Where it answers Ok, the events of
 /// each seat's new receipts are its actor's own steps of the steady run over the script's ticks, and a wire's are its
-/// script's words.
+/// script's words. The tables are those of the hub's charter.
 ///
 /// # Errors
-/// `Astray` only where some seat's new receipts are not its own steps. When another is answered no clause says; tested
-/// are a gate that is stuck, a thread that could not be started, and memory that was refused.
+/// `HubFault::Astray` only where some seat's new receipts are not its own steps; another fault of the hub only where a
+/// call was refused with it; `GateStuck` only where the gate may be stuck. Of `Spawn` and `Memory` no clause says when:
+/// that each is told as itself is tested.
 #[tactic(auto, using(crate::proofs::Same::all_self))]
-pub fn drive<L: Ledger + Send + Sync, R: Threads + Wait + Sync, G: Gate>(
+pub fn drive<L: Charter + Send + Sync, R: Threads + Wait + Sync, G: Gate>(
     rt: &R,
     alloc: Global,
     tables: &Tables,
@@ -121,6 +128,7 @@ pub fn drive<L: Ledger + Send + Sync, R: Threads + Wait + Sync, G: Gate>(
     script: &Script,
     gate: &G,
 ) -> Result<(), DriveFault>
+    requires tables { AreTablesOf L.certified tables.now }
     requires of_hub { AreOfHub hub.now seats.old.wires.items }
     requires clock { IsSome seats.old.clock }
     ensures wires { AreSame seat_of_wire seats.old.wires.items seats.new.wires.items }
@@ -130,7 +138,9 @@ pub fn drive<L: Ledger + Send + Sync, R: Threads + Wait + Sync, G: Gate>(
     ensures of_hub { AreOfHub hub.now seats.new.wires.items }
     ensures watch { seats.new.watch ≡ seats.old.watch }
     ensures played { OnOk result (AllPlayed tables.now script.now seats.old.wires.items seats.new.wires.items seats.old.routers.items seats.new.routers.items seats.old.outputs.items seats.new.outputs.items seats.old.clock seats.new.clock) }
-    ensures astray { result ≡ Err Astray → ¬ AllPlayed tables.now script.now seats.old.wires.items seats.new.wires.items seats.old.routers.items seats.new.routers.items seats.old.outputs.items seats.new.outputs.items seats.old.clock seats.new.clock }
+    ensures astray { result ≡ Err (Refused Astray) → ¬ AllPlayed tables.now script.now seats.old.wires.items seats.new.wires.items seats.old.routers.items seats.new.routers.items seats.old.outputs.items seats.new.outputs.items seats.old.clock seats.new.clock }
+    ensures fresh { receipts_in (all_seats seats.old.wires.items seats.old.routers.items seats.old.outputs.items seats.old.clock) ≡ 0 → OnOk result (HaveRoles tables.now script.now (all_seats seats.new.wires.items seats.new.routers.items seats.new.outputs.items seats.new.clock)) }
+    ensures halts { IfErr result (λ fault. fault ≢ Refused Astray → HaltsAs L.certified L.limit (MayStickAt (G.may_stick gate.now)) fault) }
 {
     let Ok(rooms) = rooms_for(alloc, seats) else {
         return Err(DriveFault::Memory);
@@ -138,8 +148,8 @@ pub fn drive<L: Ledger + Send + Sync, R: Threads + Wait + Sync, G: Gate>(
     let Ok(before) = before(alloc, seats) else {
         return Err(DriveFault::Memory);
     };
-    if let Err(halt) = play(rt, alloc, tables, hub, seats, script, gate, rooms) {
-        return Err(halt.fault());
+    if let Err(fault) = play(rt, alloc, tables, hub, seats, script, gate, rooms) {
+        return Err(fault);
     }
     let Ok(run) = steady(alloc, tables, script.ticks()) else {
         return Err(DriveFault::Memory);
@@ -147,12 +157,12 @@ pub fn drive<L: Ledger + Send + Sync, R: Threads + Wait + Sync, G: Gate>(
     if all_have_played(tables, script, &run, &before, seats) {
         Ok(())
     } else {
-        Err(DriveFault::Astray)
+        Err(DriveFault::Hub(HubFault::Astray))
     }
 }
 
 /// Plays the script in threads. The seats are put back.
-fn play<L: Ledger + Send + Sync, R: Threads + Wait + Sync, G: Gate>(
+fn play<L: Charter + Send + Sync, R: Threads + Wait + Sync, G: Gate>(
     rt: &R,
     alloc: Global,
     tables: &Tables,
@@ -160,8 +170,8 @@ fn play<L: Ledger + Send + Sync, R: Threads + Wait + Sync, G: Gate>(
     seats: &mut Seats<L>,
     script: &Script,
     gate: &G,
-    rooms: Rooms<L>,
-) -> Result<(), Halt>
+    rooms: Rooms<L, G>,
+) -> Result<(), DriveFault>
     requires of_hub { AreOfHub hub.now seats.old.wires.items }
     requires clock { IsSome seats.old.clock }
     requires room_wires { (vec_len rooms.wires ≡ 0) × (vec_len seats.old.wires ≤ vec_capacity rooms.wires) }
@@ -173,6 +183,7 @@ fn play<L: Ledger + Send + Sync, R: Threads + Wait + Sync, G: Gate>(
     ensures clock { IsSameClock seats.old.clock seats.new.clock }
     ensures of_hub { AreOfHub hub.now seats.new.wires.items }
     ensures watch { seats.new.watch ≡ seats.old.watch }
+    ensures halts { IfErr result (HaltsAs L.certified L.limit (MayStickAt (G.may_stick gate.now))) }
 {
     let Some(clock) = seats.clock.take() else {
         unreachable!()
@@ -208,7 +219,7 @@ fn play<L: Ledger + Send + Sync, R: Threads + Wait + Sync, G: Gate>(
 }
 
 /// Whether all seats were answered their actors' roles.
-fn all_have_played<L: Ledger>(
+fn all_have_played<L: Charter>(
     tables: &Tables,
     script: &Script,
     run: &[Event],

@@ -1,10 +1,7 @@
-ghost use Rattle.std.specs.Prelude.{◌≢◌};
-ghost use Rattle.dc_drive.specs.declared.fault.DriveFault.TheVariants.{Astray};
-
 use dc_hub::HubFault;
 
-/// Why a drive was not answered Ok. Of several, which is answered is open; only of `Astray` a clause of
-/// [`drive`](crate::drive) says what it tells.
+/// Why a drive was not answered Ok. Of several, which is answered is open. What a stuck gate, a refused call and
+/// `HubFault::Astray` tell are clauses of [`drive`](crate::drive).
 #[derive(Clone, Copy, Debug, PartialEq, Eq)]
 pub enum DriveFault {
     /// A thread could not be started.
@@ -13,29 +10,7 @@ pub enum DriveFault {
     Memory,
     /// The gate was stuck.
     GateStuck,
-    /// A call of the hub was refused, with its fault.
+    /// A call of the hub was refused, with its fault; or some seat's new receipts are not its own steps, which is
+    /// `Astray`.
     Hub(HubFault),
-    /// Some seat's new receipts are not its own steps.
-    Astray,
-}
-
-/// Why a thread gives up.
-#[derive(Clone, Copy, Debug, PartialEq, Eq)]
-pub(crate) enum Halt {
-    Spawn,
-    GateStuck,
-    Hub(HubFault),
-}
-
-impl Halt {
-    /// What the drive answers then.
-    pub fn fault(self) -> DriveFault
-        ensures { result ≢ Astray }
-    {
-        match self {
-            Halt::Spawn => DriveFault::Spawn,
-            Halt::GateStuck => DriveFault::GateStuck,
-            Halt::Hub(fault) => DriveFault::Hub(fault),
-        }
-    }
 }

@@ -1,20 +1,21 @@
 //! What each actor does in a tick.
 
-ghost use Rattle.std.specs.Prelude.{◌≡◌, ℕ, List, [], slice_index_or};
+ghost use Rattle.std.specs.Prelude.{◌≡◌, ℕ, IfErr, List, Option, [], slice_index_or};
 ghost use Rattle.atomic_table.specs.Seated.{TableId};
 ghost use Rattle.dc_board.specs.Marks.{IsSeatOf};
+ghost use Rattle.dc_check.specs.declared.certified.Certified.{Certified};
 ghost use Rattle.dc_drive.specs.Played.{IsSameSeat};
+ghost use Rattle.dc_drive.specs.Refusals.{HaltsAs, IsRefused};
 ghost use Rattle.dc_hub.specs.Views.{SeatView};
 
-use crate::fault::Halt;
+use crate::fault::DriveFault;
 use crate::pace::Meter;
 use dc_checkpar::Gate;
 use dc_event::Actor;
-use dc_hub::{ClockSeat, Hub, HubFault, OutputSeat, Receipt, RouterSeat, Seat, WireSeat};
+use dc_hub::{Charter, ClockSeat, Hub, HubFault, OutputSeat, Receipt, RouterSeat, Seat, WireSeat};
 use dc_script::{Script, Timed};
 use dc_tables::Tables;
 use std::sync::Wait;
-use std::sync::ledger::Ledger;
 
 /// What all threads of a drive are lent: the tables, the script, the gate, the pace, and how many actors there are
 /// beside the clock.
@@ -28,15 +29,17 @@ pub(crate) struct Stage<'s, G> {
 }
 
 /// What a call of the hub was answered, without its receipt, which its seat keeps.
-fn answered(answer: Result<Receipt, HubFault>) -> Result<(), Halt> {
+fn answered(answer: Result<Receipt, HubFault>) -> Result<(), DriveFault>
+    ensures { (certified : Option Certified) (limit : ℕ) → IfErr answer (IsRefused certified limit) → IfErr result (HaltsAs certified limit ⊥) }
+{
     match answer {
         Ok(_) => Ok(()),
-        Err(fault) => Err(Halt::Hub(fault)),
+        Err(fault) => Err(DriveFault::Hub(fault)),
     }
 }
 
 /// A seat whose actor makes steps in each tick: a wire's, a router's or an output's.
-pub(crate) trait Player<L: Ledger>: Sized {
+pub(crate) trait Player<L: Charter>: Sized {
     // the seat
     ghost seat: { Self → SeatView };
 
@@ -57,14 +60,15 @@ pub(crate) trait Player<L: Ledger>: Sized {
         hub: &Hub<L>,
         script: &Script,
         start: usize,
-    ) -> Result<(), Halt>
+    ) -> Result<(), DriveFault>
         requires { is_of hub.now self.old }
         ensures same { IsSameSeat (seat self.old) (seat self.new) }
-        ensures of_hub { is_of hub.now self.new };
+        ensures of_hub { is_of hub.now self.new }
+        ensures halts { IfErr result (HaltsAs L.certified L.limit ⊥) };
 }
 
 /// Makes the actor's steps of a tick, and enters the gate round each by this number.
-pub(crate) fn play<L: Ledger, S: Player<L>, R: Wait, G: Gate>(
+pub(crate) fn play<L: Charter, S: Player<L>, R: Wait, G: Gate>(
     rt: &R,
     hub: &Hub<L>,
     stage: &Stage<'_, G>,
@@ -72,14 +76,15 @@ pub(crate) fn play<L: Ledger, S: Player<L>, R: Wait, G: Gate>(
     start: usize,
     tick: u64,
     seat: &mut S,
-) -> Result<(), Halt>
+) -> Result<(), DriveFault>
     requires { S.is_of hub.now seat.old }
     ensures same { IsSameSeat (S.seat seat.old) (S.seat seat.new) }
     ensures of_hub { S.is_of hub.now seat.new }
+    ensures halts { IfErr result (HaltsAs L.certified L.limit (G.may_stick stage.now.gate.now number)) }
 {
     for _ in 0..seat.steps(stage.tables, stage.script, start, tick) {
         if stage.gate.enter(number).is_err() {
-            return Err(Halt::GateStuck);
+            return Err(DriveFault::GateStuck);
         }
         let made = seat.step(rt, hub, stage.script, start);
         stage.gate.leave(number);
@@ -89,17 +94,18 @@ pub(crate) fn play<L: Ledger, S: Player<L>, R: Wait, G: Gate>(
 }
 
 /// The clock's step.
-pub(crate) fn tick<L: Ledger, R: Wait, G: Gate>(
+pub(crate) fn tick<L: Charter, R: Wait, G: Gate>(
     rt: &R,
     hub: &Hub<L>,
     gate: &G,
     number: u64,
     seat: &mut ClockSeat<L>,
-) -> Result<(), Halt>
-    ensures { IsSameSeat seat.old seat.new }
+) -> Result<(), DriveFault>
+    ensures same { IsSameSeat seat.old seat.new }
+    ensures halts { IfErr result (HaltsAs L.certified L.limit (G.may_stick gate.now number)) }
 {
     if gate.enter(number).is_err() {
-        return Err(Halt::GateStuck);
+        return Err(DriveFault::GateStuck);
     }
     let answer = hub.tick(rt, seat);
     gate.leave(number);
@@ -147,7 +153,7 @@ fn words_in(words: &[Timed], tick: u64) -> usize {
     count
 }
 
-impl<L: Ledger> Player<L> for WireSeat<L> {
+impl<L: Charter> Player<L> for WireSeat<L> {
     ghost seat = { λ w. w.seat };
 
     ghost is_of = { λ hub w. IsSeatOf hub w.marks };
@@ -174,7 +180,7 @@ impl<L: Ledger> Player<L> for WireSeat<L> {
         hub: &Hub<L>,
         script: &Script,
         start: usize,
-    ) -> Result<(), Halt> {
+    ) -> Result<(), DriveFault> {
         let Actor::Wire(bus) = self.seat().actor() else {
             return Ok(());
         };
@@ -187,7 +193,7 @@ impl<L: Ledger> Player<L> for WireSeat<L> {
     }
 }
 
-impl<L: Ledger> Player<L> for RouterSeat<L> {
+impl<L: Charter> Player<L> for RouterSeat<L> {
     ghost seat = { λ s. s };
 
     ghost is_of = { λ _ _. Unit {0} };
@@ -209,12 +215,12 @@ impl<L: Ledger> Player<L> for RouterSeat<L> {
         hub: &Hub<L>,
         _script: &Script,
         _start: usize,
-    ) -> Result<(), Halt> {
+    ) -> Result<(), DriveFault> {
         answered(hub.route(rt, self))
     }
 }
 
-impl<L: Ledger> Player<L> for OutputSeat<L> {
+impl<L: Charter> Player<L> for OutputSeat<L> {
     ghost seat = { λ s. s };
 
     ghost is_of = { λ _ _. Unit {0} };
@@ -236,7 +242,7 @@ impl<L: Ledger> Player<L> for OutputSeat<L> {
         hub: &Hub<L>,
         _script: &Script,
         _start: usize,
-    ) -> Result<(), Halt> {
+    ) -> Result<(), DriveFault> {
         answered(hub.send(rt, self))
     }
 }

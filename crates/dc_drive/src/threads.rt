@@ -1,15 +1,15 @@
 //! A thread for each seat, and the clock in the calling one.
 
-ghost use Rattle.std.specs.Prelude.{◌≡◌, ◌+◌, ◌≤◌, ◌++◌, All, IfOk, IfErr, map, vec_len, vec_capacity};
+ghost use Rattle.std.specs.Prelude.{◌≡◌, ◌⊎◌, ◌+◌, ◌≤◌, ◌++◌, All, IfOk, IfErr, map, vec_len, vec_capacity};
 ghost use Rattle.dc_drive.specs.Played.{AreOfHub, AreSame, IsSameSeat, itself, out_with, seat_of_wire};
+ghost use Rattle.dc_drive.specs.Refusals.{HaltsAs, MayStickAt};
 
-use crate::fault::Halt;
+use crate::fault::DriveFault;
 use crate::player::{Player, Stage, play, tick};
 use dc_checkpar::Gate;
-use dc_hub::{ClockSeat, Hub, OutputSeat, RouterSeat, WireSeat};
+use dc_hub::{Charter, ClockSeat, Hub, OutputSeat, RouterSeat, WireSeat};
 use std::snapshot::Snapshot;
 use std::sync::Wait;
-use std::sync::ledger::Ledger;
 use std::thread;
 use std::thread::{Promise, PromisedHandle, Scope, Threads};
 
@@ -17,25 +17,26 @@ use std::thread::{Promise, PromisedHandle, Scope, Threads};
 #[derive(Drop)]
 pub(crate) struct Done<S> {
     pub seat: S,
-    pub end: Result<(), Halt>,
+    pub end: Result<(), DriveFault>,
 }
 
 /// That the seat which comes back is the one that was handed in, with more receipts behind its own, and still of the
-/// hub.
+/// hub; and why its thread gave up, where it did.
 #[derive(Drop)]
-pub(crate) struct Returns<L: Ledger, S> {
+pub(crate) struct Returns<L: Charter, S, G> {
     pub seat: Snapshot<S>,
     pub hub: Snapshot<Hub<L>>,
+    pub gate: Snapshot<G>,
 }
 
-impl<L: Ledger, S: Player<L>> Promise<Done<S>> for Returns<L, S> {
-    ghost kept_by = { λ p r. IsSameSeat (S.seat p.seat.value) (S.seat r.seat) × S.is_of p.hub.value r.seat };
+impl<L: Charter, S: Player<L>, G: Gate> Promise<Done<S>> for Returns<L, S, G> {
+    ghost kept_by = { λ p r. IsSameSeat (S.seat p.seat.value) (S.seat r.seat) × S.is_of p.hub.value r.seat × IfErr r.end (HaltsAs L.certified L.limit (MayStickAt (G.may_stick p.gate.value))) };
 }
 
-pub(crate) type Child<L, S> = PromisedHandle<Done<S>, Returns<L, S>>;
+pub(crate) type Child<L, S, G> = PromisedHandle<Done<S>, Returns<L, S, G>>;
 
 /// Plays a seat's actor tick by tick. Where it gives up, all threads stop.
-fn run<L: Ledger, S: Player<L> + Drop, R: Wait, G: Gate>(
+fn run<L: Charter, S: Player<L> + Drop, R: Wait, G: Gate>(
     rt: &R,
     hub: &Hub<L>,
     stage: &Stage<'_, G>,
@@ -45,6 +46,7 @@ fn run<L: Ledger, S: Player<L> + Drop, R: Wait, G: Gate>(
     requires { S.is_of hub.now seat }
     ensures same { IsSameSeat (S.seat seat) (S.seat result.seat) }
     ensures of_hub { S.is_of hub.now result.seat }
+    ensures halts { IfErr result.end (HaltsAs L.certified L.limit (G.may_stick stage.now.gate.now number)) }
 {
     let start = seat.plain().receipts().len();
     if stage.meter.stops(rt) {
@@ -65,14 +67,16 @@ fn run<L: Ledger, S: Player<L> + Drop, R: Wait, G: Gate>(
 
 /// Where all threads have started, ticks once all actors have made their steps of the tick. Where the clock gives up,
 /// all threads stop.
-fn run_clock<L: Ledger, R: Wait, G: Gate>(
+fn run_clock<L: Charter, R: Wait, G: Gate>(
     rt: &R,
     hub: &Hub<L>,
     stage: &Stage<'_, G>,
-    started: Result<(), Halt>,
+    started: Result<(), DriveFault>,
     mut clock: ClockSeat<L>,
 ) -> Done<ClockSeat<L>>
-    ensures { IsSameSeat clock result.seat }
+    requires { IfErr started (HaltsAs L.certified L.limit (MayStickAt (G.may_stick stage.now.gate.now))) }
+    ensures same { IsSameSeat clock result.seat }
+    ensures halts { IfErr result.end (HaltsAs L.certified L.limit (MayStickAt (G.may_stick stage.now.gate.now))) }
 {
     if started.is_err() {
         return Done {
@@ -104,7 +108,7 @@ fn run_clock<L: Ledger, R: Wait, G: Gate>(
 fn start<
     's,
     E,
-    L: Ledger + Send + Sync + 's,
+    L: Charter + Send + Sync + 's,
     S: Player<L> + Drop + Send + 's,
     R: Wait + Sync,
     G: Gate + 's,
@@ -115,20 +119,21 @@ fn start<
     stage: &'s Stage<'s, G>,
     number: u64,
     seat: S,
-) -> Result<Child<L, S>, S>
+) -> Result<Child<L, S, G>, S>
     requires { S.is_of hub.now seat }
-    ensures ok { IfOk result (λ h. (h.promise.seat.value ≡ seat) × (h.promise.hub.value ≡ hub.now)) }
+    ensures ok { IfOk result (λ h. (h.promise.seat.value ≡ seat) × (h.promise.hub.value ≡ hub.now) × (h.promise.gate.value ≡ stage.now.gate.now)) }
     ensures err { IfErr result (λ s. IsSameSeat (S.seat seat) (S.seat s) × S.is_of hub.now s) }
 {
     let promise = Returns {
         seat: Snapshot::of(&seat),
         hub: Snapshot::of(hub),
+        gate: Snapshot::of(stage.gate),
     };
     let spawned = scope.spawn_with(
         promise,
         move || -> Done<S>
             requires { S.is_of hub.now seat }
-            ensures { IsSameSeat (S.seat seat) (S.seat result.seat) × S.is_of hub.entry.now result.seat }
+            ensures { IsSameSeat (S.seat seat) (S.seat result.seat) × S.is_of hub.entry.now result.seat × IfErr result.end (HaltsAs L.certified L.limit (MayStickAt (G.may_stick stage.entry.now.gate.now))) }
         { run(rt, hub, stage, number, seat) },
     );
     match spawned {
@@ -146,7 +151,7 @@ fn start<
 fn start_all<
     's,
     E,
-    L: Ledger + Send + Sync + 's,
+    L: Charter + Send + Sync + 's,
     S: Player<L> + Drop + Send + 's,
     R: Wait + Sync,
     G: Gate + 's,
@@ -155,16 +160,17 @@ fn start_all<
     rt: &'s R,
     hub: &'s Hub<L>,
     stage: &'s Stage<'s, G>,
-    started: Result<(), Halt>,
+    started: Result<(), DriveFault>,
     base: usize,
     seats: &mut Vec<S>,
-    children: &mut Vec<Child<L, S>>,
-) -> Result<(), Halt>
+    children: &mut Vec<Child<L, S, G>>,
+) -> Result<(), DriveFault>
     requires of_hub { All (S.is_of hub.now) seats.old.items }
     requires room { (vec_len children.old ≡ 0) × (vec_len seats.old ≤ vec_capacity children.old) }
     ensures same { AreSame S.seat seats.old.items (seats.new.items ++ out_with (λ h. h.promise.seat.value) children.new.items) }
     ensures of_hub { All (S.is_of hub.now) seats.new.items }
-    ensures hubs { All (λ h. h.promise.hub.value ≡ hub.now) children.new.items }
+    ensures hubs { All (λ h. (h.promise.hub.value ≡ hub.now) × (h.promise.gate.value ≡ stage.now.gate.now)) children.new.items }
+    ensures halts { IfErr started (HaltsAs L.certified L.limit (MayStickAt (G.may_stick stage.now.gate.now))) → IfErr result (HaltsAs L.certified L.limit (MayStickAt (G.may_stick stage.now.gate.now))) }
     ensures room { (vec_capacity seats.new ≡ vec_capacity seats.old) × (vec_len seats.new + vec_len children.new ≡ vec_len seats.old) }
 {
     started?;
@@ -174,7 +180,7 @@ fn start_all<
             Ok(child) => children.push_reserved(child),
             Err(seat) => {
                 seats.push_reserved(seat);
-                return Err(Halt::Spawn);
+                return Err(DriveFault::Spawn);
             }
         }
     }
@@ -182,19 +188,22 @@ fn start_all<
 }
 
 /// Joins the threads. Their seats go behind the others.
-fn join_all<L: Ledger, S: Player<L> + Drop, R: Threads>(
+fn join_all<L: Charter, S: Player<L> + Drop, R: Threads, G: Gate>(
     rt: &R,
     hub: &Hub<L>,
-    children: &mut Vec<Child<L, S>>,
+    gate: &G,
+    children: &mut Vec<Child<L, S, G>>,
     seats: &mut Vec<S>,
-) -> Result<(), Halt>
+) -> Result<(), DriveFault>
     requires of_hub { All (S.is_of hub.now) seats.old.items }
-    requires hubs { All (λ h. h.promise.hub.value ≡ hub.now) children.old.items }
+    requires hubs { All (λ h. (h.promise.hub.value ≡ hub.now) × (h.promise.gate.value ≡ gate.now)) children.old.items }
     requires room { vec_len seats.old + vec_len children.old ≤ vec_capacity seats.old }
     ensures same { AreSame S.seat (seats.old.items ++ out_with (λ h. h.promise.seat.value) children.old.items) seats.new.items }
     ensures of_hub { All (S.is_of hub.now) seats.new.items }
+    ensures halts { IfErr result (HaltsAs L.certified L.limit (MayStickAt (G.may_stick gate.now))) }
 {
     let _hub = hub;
+    let _gate = gate;
     let mut end = Ok(());
     while let Some(child) = children.pop() {
         let Done { seat, end: theirs } = child.join(rt);
@@ -205,37 +214,41 @@ fn join_all<L: Ledger, S: Player<L> + Drop, R: Threads>(
 }
 
 /// The first of two ends that is a fault.
-pub(crate) fn first(one: Result<(), Halt>, other: Result<(), Halt>) -> Result<(), Halt> {
-    one?;
-    other
+pub(crate) fn first(
+    one: Result<(), DriveFault>,
+    other: Result<(), DriveFault>,
+) -> Result<(), DriveFault>
+    ensures { (result ≡ one) ⊎ (result ≡ other) }
+{
+    if one.is_err() { one } else { other }
 }
 
 /// The seats of a drive, and how it ended.
 #[derive(Drop)]
-pub(crate) struct Cast<L: Ledger> {
+pub(crate) struct Cast<L: Charter> {
     pub wires: Vec<WireSeat<L>>,
     pub routers: Vec<RouterSeat<L>>,
     pub outputs: Vec<OutputSeat<L>>,
     pub clock: ClockSeat<L>,
-    pub end: Result<(), Halt>,
+    pub end: Result<(), DriveFault>,
 }
 
 /// Room for the handles of all threads.
 #[derive(Drop)]
-pub(crate) struct Rooms<L: Ledger> {
-    pub wires: Vec<Child<L, WireSeat<L>>>,
-    pub routers: Vec<Child<L, RouterSeat<L>>>,
-    pub outputs: Vec<Child<L, OutputSeat<L>>>,
+pub(crate) struct Rooms<L: Charter, G: Gate> {
+    pub wires: Vec<Child<L, WireSeat<L>, G>>,
+    pub routers: Vec<Child<L, RouterSeat<L>, G>>,
+    pub outputs: Vec<Child<L, OutputSeat<L>, G>>,
 }
 
 /// Starts all threads, ticks, and joins them.
-fn run_all<'s, E, L: Ledger + Send + Sync + 's, R: Threads + Wait + Sync, G: Gate + 's>(
+fn run_all<'s, E, L: Charter + Send + Sync + 's, R: Threads + Wait + Sync, G: Gate + 's>(
     scope: &Scope<'s, E>,
     rt: &'s R,
     hub: &'s Hub<L>,
     stage: &'s Stage<'s, G>,
     cast: Cast<L>,
-    rooms: Rooms<L>,
+    rooms: Rooms<L, G>,
 ) -> Cast<L>
     requires of_hub { AreOfHub hub.now cast.wires.items }
     requires room_wires { (vec_len rooms.wires ≡ 0) × (vec_len cast.wires ≤ vec_capacity rooms.wires) }
@@ -246,6 +259,7 @@ fn run_all<'s, E, L: Ledger + Send + Sync + 's, R: Threads + Wait + Sync, G: Gat
     ensures outputs { AreSame itself cast.outputs.items result.outputs.items }
     ensures clock { IsSameSeat cast.clock result.clock }
     ensures of_hub { AreOfHub hub.now result.wires.items }
+    ensures halts { IfErr result.end (HaltsAs L.certified L.limit (MayStickAt (G.may_stick stage.now.gate.now))) }
 {
     let Cast {
         mut wires,
@@ -283,9 +297,18 @@ fn run_all<'s, E, L: Ledger + Send + Sync + 's, R: Threads + Wait + Sync, G: Gat
         &mut of_outputs,
     );
     let Done { seat: clock, end } = run_clock(rt, hub, stage, started, clock);
-    let end = first(join_all(rt, hub, &mut of_wires, &mut wires), end);
-    let end = first(join_all(rt, hub, &mut of_routers, &mut routers), end);
-    let end = first(join_all(rt, hub, &mut of_outputs, &mut outputs), end);
+    let end = first(
+        join_all(rt, hub, stage.gate, &mut of_wires, &mut wires),
+        end,
+    );
+    let end = first(
+        join_all(rt, hub, stage.gate, &mut of_routers, &mut routers),
+        end,
+    );
+    let end = first(
+        join_all(rt, hub, stage.gate, &mut of_outputs, &mut outputs),
+        end,
+    );
     Cast {
         wires,
         routers,
@@ -296,12 +319,12 @@ fn run_all<'s, E, L: Ledger + Send + Sync + 's, R: Threads + Wait + Sync, G: Gat
 }
 
 /// Plays the script in a scope of threads.
-pub(crate) fn in_threads<L: Ledger + Send + Sync, R: Threads + Wait + Sync, G: Gate>(
+pub(crate) fn in_threads<L: Charter + Send + Sync, R: Threads + Wait + Sync, G: Gate>(
     rt: &R,
     hub: &Hub<L>,
     stage: &Stage<'_, G>,
     cast: Cast<L>,
-    rooms: Rooms<L>,
+    rooms: Rooms<L, G>,
 ) -> Cast<L>
     requires of_hub { AreOfHub hub.now cast.wires.items }
     requires room_wires { (vec_len rooms.wires ≡ 0) × (vec_len cast.wires ≤ vec_capacity rooms.wires) }
@@ -312,6 +335,7 @@ pub(crate) fn in_threads<L: Ledger + Send + Sync, R: Threads + Wait + Sync, G: G
     ensures outputs { AreSame itself cast.outputs.items result.outputs.items }
     ensures clock { IsSameSeat cast.clock result.clock }
     ensures of_hub { AreOfHub hub.now result.wires.items }
+    ensures halts { IfErr result.end (HaltsAs L.certified L.limit (MayStickAt (G.may_stick stage.now.gate.now))) }
 {
     thread::scope(
         thread::scope_env(),
@@ -326,6 +350,7 @@ pub(crate) fn in_threads<L: Ledger + Send + Sync, R: Threads + Wait + Sync, G: G
             ensures outputs { AreSame itself cast.outputs.items result.outputs.items }
             ensures clock { IsSameSeat cast.clock result.clock }
             ensures of_hub { AreOfHub hub.entry.now result.wires.items }
+            ensures halts { IfErr result.end (HaltsAs L.certified L.limit (MayStickAt (G.may_stick stage.entry.now.gate.now))) }
         { run_all(scope, rt, hub, stage, cast, rooms) },
     )
 }

@@ -1,14 +1,18 @@
 //! A monitor beside a hub that is driven.
 
-ghost use Rattle.std.specs.Prelude.{◌≡◌, ◌≤◌, IsSome};
+ghost use Rattle.std.specs.Prelude.{◌≡◌, IsSome};
 ghost use Rattle.dc_board.specs.Marks.{IsSeatOf};
+ghost use Rattle.dc_check.specs.Lent.{tables_of};
 ghost use Rattle.dc_drive.specs.Played.{AreOfHub};
+ghost use Rattle.dc_hub.specs.Opening.{IsCharterOf};
+ghost use Rattle.dc_hub.specs.Views.{AreTablesOf};
 
 use crate::drives::{judge_closed, opened};
 use crate::fixture::{Plan, equal_plan};
+use dc_check::Certified;
 use dc_checkpar::Open;
 use dc_drive::{DriveFault, drive};
-use dc_hub::{Hub, MOST_ACTORS, Seats, Watch};
+use dc_hub::{Charter, Hub, MOST_ACTORS, Seats, Watch};
 use dc_script::Script;
 use dc_tables::Tables;
 use std::alloc::Global;
@@ -16,7 +20,7 @@ use std::marker::Brand;
 use std::process::Abort;
 use std::rt::HostRuntime;
 use std::sync::Wait;
-use std::sync::ledger::{Blank, Ledger};
+use std::sync::ledger::Blank;
 use std::test::Fail;
 use std::thread;
 use std::thread::Threads;
@@ -28,7 +32,7 @@ const ROUNDS: u32 = 400;
 const TICKS: u64 = 60;
 
 /// Reads of all buses: whether an answer fell.
-fn monitor<L: Ledger>(hub: &Hub<L>, mut watch: Watch) -> bool
+fn monitor<L: Charter>(hub: &Hub<L>, mut watch: Watch) -> bool
     requires { IsSeatOf hub.now watch }
 {
     let mut seen = [0u64; 64];
@@ -45,7 +49,7 @@ fn monitor<L: Ledger>(hub: &Hub<L>, mut watch: Watch) -> bool
 }
 
 /// Drives the hub, and hands the seats back.
-fn drive_seats<L: Ledger + Send + Sync, R: Threads + Wait + Sync>(
+fn drive_seats<L: Charter + Send + Sync, R: Threads + Wait + Sync>(
     rt: &R,
     alloc: Global,
     tables: &Tables,
@@ -53,6 +57,7 @@ fn drive_seats<L: Ledger + Send + Sync, R: Threads + Wait + Sync>(
     mut seats: Seats<L>,
     script: &Script,
 ) -> (Seats<L>, Result<(), DriveFault>)
+    requires tables { AreTablesOf L.certified tables.now }
     requires of_hub { AreOfHub hub.now seats.wires.items }
     requires clock { IsSome seats.clock }
 {
@@ -61,7 +66,7 @@ fn drive_seats<L: Ledger + Send + Sync, R: Threads + Wait + Sync>(
 }
 
 /// A monitor reads while the hub is driven: the seats, what the drive answers, and whether what was read fell.
-fn watched<L: Ledger + Send + Sync, R: Threads + Wait + Sync>(
+fn watched<L: Charter + Send + Sync, R: Threads + Wait + Sync>(
     rt: &R,
     alloc: Global,
     tables: &Tables,
@@ -69,6 +74,7 @@ fn watched<L: Ledger + Send + Sync, R: Threads + Wait + Sync>(
     mut seats: Seats<L>,
     script: &Script,
 ) -> (Seats<L>, Result<(), DriveFault>, bool)
+    requires tables { AreTablesOf L.certified tables.now }
     requires of_hub { AreOfHub hub.now seats.wires.items }
     requires clock { IsSome seats.clock }
     requires watch { IsSeatOf hub.now seats.watch }
@@ -77,6 +83,7 @@ fn watched<L: Ledger + Send + Sync, R: Threads + Wait + Sync>(
     let (driven, fell) = thread::join(
         rt,
         move || -> (Seats<L>, Result<(), DriveFault>)
+            requires tables { AreTablesOf L.certified tables.now }
             requires of_hub { AreOfHub hub.now seats.wires.items }
             requires clock { IsSome seats.clock }
         { drive_seats(rt, alloc, tables, hub, seats, script) },
@@ -87,20 +94,20 @@ fn watched<L: Ledger + Send + Sync, R: Threads + Wait + Sync>(
 }
 
 /// A hub over these tables is driven beside a monitor. What it reads never falls, and the hub closes.
-fn watches<L: Ledger + Send + Sync, R: Threads + Wait + Abort + Sync>(
+fn watches<L: Charter + Send + Sync, R: Threads + Wait + Abort + Sync>(
     rt: &R,
     alloc: Global,
     blank: Blank,
-    plan: Plan,
+    tables: &Tables,
+    certified: Certified,
 ) -> Result<(), Fail>
-    requires name { blank.name ≡ L.name }
-    requires parts { blank.parts ≡ L.parts }
-    requires enough { 161 ≤ blank.parts }
+    requires blank { (blank.name ≡ L.name) × (blank.parts ≡ L.parts) }
+    requires charter { IsCharterOf L.certified L.limit L.whole L.parts certified 1000000 }
+    requires tables { tables_of certified ≡ tables.now }
 {
-    let Plan { tables, certified } = plan;
-    let script = Script::bench(alloc, &tables, TICKS)?;
-    let (hub, seats) = opened::<L>(alloc, blank, certified)?;
-    let (seats, answer, fell) = watched(rt, alloc, &tables, &hub, seats, &script);
+    let script = Script::bench(alloc, tables, TICKS)?;
+    let (hub, seats) = opened::<L>(alloc, blank, certified, 1_000_000)?;
+    let (seats, answer, fell) = watched(rt, alloc, tables, &hub, seats, &script);
     assert!(rt; answer == Ok(()));
     assert!(rt; !fell);
     judge_closed(rt, alloc, hub.close(seats), &script, None)
@@ -109,5 +116,8 @@ fn watches<L: Ledger + Send + Sync, R: Threads + Wait + Abort + Sync>(
 #[test]
 fn a_monitor_reads_beside(rt: HostRuntime) -> Result<(), Fail> {
     let plan = equal_plan(rt.alloc(), 64, false).ok_or("no tables")?;
-    watches::<Brand, HostRuntime>(&rt, rt.alloc(), Blank::new(MOST_ACTORS), plan)
+    plan.certified.tables().valid();
+    let Plan { tables, certified } = plan;
+    let blank = Blank::new(MOST_ACTORS);
+    watches::<Brand, HostRuntime>(&rt, rt.alloc(), blank, &tables, certified)
 }

@@ -2,23 +2,27 @@
 
 ghost use Rattle.std.specs.Prelude.{◌≡◌, ◌≤◌, IfOk, IsSome};
 ghost use Rattle.dc_board.specs.Marks.{IsSeatOf};
+ghost use Rattle.dc_check.specs.Lent.{tables_of};
 ghost use Rattle.dc_drive.specs.Played.{AreOfHub};
+ghost use Rattle.dc_hub.specs.Opening.{IsCharterOf};
 
 use crate::fixture::{Plan, equal_plan};
 use dc_check::Certified;
 use dc_checkpar::{Gate, Open};
+use dc_core::StepFault;
 use dc_drive::{DriveFault, drive};
 use dc_event::Event;
-use dc_gates::{Against, Counting, Meeting};
-use dc_hub::{CloseFault, Closed, Hub, MOST_ACTORS, Seats};
+use dc_gates::{Against, Counting, Holding, Meeting, Recording};
+use dc_hub::{Charter, CloseFault, Closed, Hub, HubFault, MOST_ACTORS, OutputSeat, Seats};
 use dc_oracle::{claims, keeps_budgets, keeps_sources};
 use dc_script::{Script, Timed};
+use dc_tables::Tables;
 use std::alloc::Global;
 use std::marker::Brand;
 use std::process::Abort;
 use std::rt::HostRuntime;
 use std::sync::Wait;
-use std::sync::ledger::{Blank, Ledger};
+use std::sync::ledger::Blank;
 use std::test::Fail;
 use std::thread::Threads;
 
@@ -95,45 +99,80 @@ pub fn judge_closed<R: Abort>(
 }
 
 /// A hub and its seats.
-pub fn opened<L: Ledger>(
+pub fn opened<L: Charter>(
     alloc: Global,
     blank: Blank,
     certified: Certified,
+    limit: usize,
 ) -> Result<(Hub<L>, Seats<L>), Fail>
-    requires name { blank.name ≡ L.name }
-    requires parts { blank.parts ≡ L.parts }
-    requires enough { 161 ≤ blank.parts }
+    requires blank { (blank.name ≡ L.name) × (blank.parts ≡ L.parts) }
+    requires charter { IsCharterOf L.certified L.limit L.whole L.parts certified limit }
     ensures wires { IfOk result (λ r. AreOfHub r.0 r.1.wires.items) }
     ensures clock { IfOk result (λ r. IsSome r.1.clock) }
     ensures watch { IfOk result (λ r. IsSeatOf r.0 r.1.watch) }
 {
-    match Hub::<L>::open(alloc, blank, certified, 1_000_000) {
+    match Hub::<L>::open(alloc, blank, certified, limit) {
         Ok(opened) => Ok(opened),
         Err(_) => Err("no hub".into()),
     }
 }
 
-/// Drives a hub over these tables by the script of a bench of so many ticks, with this gate. Where it is to answer Ok its
-/// book is judged. It closes in any case.
-fn drives<L: Ledger + Send + Sync, R: Threads + Wait + Abort + Sync, G: Gate>(
+/// A drive by the script of a bench.
+#[derive(Clone, Copy)]
+pub struct Trial {
+    /// For how many ticks.
+    pub ticks: u64,
+    /// How many entries the book may have.
+    pub limit: usize,
+    /// Whether the first output has made a send step before.
+    pub has_sent: bool,
+    /// What is answered, and how many entries the book has then, where that is said.
+    pub wanted: Result<Option<usize>, DriveFault>,
+}
+
+/// A trial of so many ticks, with room for all entries.
+fn of_ticks(ticks: u64, wanted: Result<Option<usize>, DriveFault>) -> Trial
+    requires { (1 ≤ ticks) × (ticks ≤ 1000) }
+    ensures { (result.ticks ≡ ticks) × (result.limit ≡ 1000000) }
+{
+    Trial {
+        ticks,
+        limit: 1_000_000,
+        has_sent: false,
+        wanted,
+    }
+}
+
+/// The first output makes a send step.
+fn send<L: Charter, R: Wait>(rt: &R, hub: &Hub<L>, outputs: &mut Vec<OutputSeat<L>>) {
+    if !outputs.is_empty() {
+        let _ = hub.send(rt, &mut outputs[0]);
+    }
+}
+
+/// Drives a hub over these tables as the trial says, with this gate. Where it is to answer Ok its book is judged. It closes
+/// in any case.
+fn drives<L: Charter + Send + Sync, R: Threads + Wait + Abort + Sync, G: Gate>(
     rt: &R,
     alloc: Global,
     blank: Blank,
-    plan: Plan,
-    ticks: u64,
+    tables: &Tables,
+    certified: Certified,
     gate: &G,
-    wanted: Result<Option<usize>, DriveFault>,
+    trial: Trial,
 ) -> Result<(), Fail>
-    requires name { blank.name ≡ L.name }
-    requires parts { blank.parts ≡ L.parts }
-    requires enough { 161 ≤ blank.parts }
-    requires ticks { (1 ≤ ticks) × (ticks ≤ 1000) }
+    requires blank { (blank.name ≡ L.name) × (blank.parts ≡ L.parts) }
+    requires charter { IsCharterOf L.certified L.limit L.whole L.parts certified trial.limit }
+    requires tables { tables_of certified ≡ tables.now }
+    requires ticks { (1 ≤ trial.ticks) × (trial.ticks ≤ 1000) }
 {
-    let Plan { tables, certified } = plan;
-    let script = Script::bench(alloc, &tables, ticks)?;
-    let (hub, mut seats) = opened::<L>(alloc, blank, certified)?;
-    let answer = drive(rt, alloc, &tables, &hub, &mut seats, &script, gate);
-    match wanted {
+    let script = Script::bench(alloc, tables, trial.ticks)?;
+    let (hub, mut seats) = opened::<L>(alloc, blank, certified, trial.limit)?;
+    if trial.has_sent {
+        send(rt, &hub, &mut seats.outputs);
+    }
+    let answer = drive(rt, alloc, tables, &hub, &mut seats, &script, gate);
+    match trial.wanted {
         Ok(entries) => {
             assert!(rt; answer == Ok(()));
             judge_closed(rt, alloc, hub.close(seats), &script, entries)
@@ -146,72 +185,142 @@ fn drives<L: Ledger + Send + Sync, R: Threads + Wait + Abort + Sync, G: Gate>(
     }
 }
 
-/// The same, with a blank of its own.
-pub fn runs<R: Threads + Wait + Abort + Sync, G: Gate>(
-    rt: &R,
-    alloc: Global,
-    plan: Plan,
-    ticks: u64,
-    gate: &G,
-    wanted: Result<Option<usize>, DriveFault>,
-) -> Result<(), Fail>
-    requires { (1 ≤ ticks) × (ticks ≤ 1000) }
-{
-    let blank = Blank::new(MOST_ACTORS);
-    drives::<Brand, R, G>(rt, alloc, blank, plan, ticks, gate, wanted)
-}
-
-/// The same, over the tables of so many equal buses.
-fn runs_equal<R: Threads + Wait + Abort + Sync, G: Gate>(
+/// The same over the tables of so many equal buses, with a blank of its own.
+fn runs<R: Threads + Wait + Abort + Sync, G: Gate>(
     rt: &R,
     alloc: Global,
     buses: u32,
     policed: bool,
-    ticks: u64,
     gate: &G,
-    wanted: Result<Option<usize>, DriveFault>,
+    trial: Trial,
 ) -> Result<(), Fail>
-    requires { (1 ≤ ticks) × (ticks ≤ 1000) }
+    requires ticks { (1 ≤ trial.ticks) × (trial.ticks ≤ 1000) }
+    requires limit { (1 ≤ trial.limit) × (trial.limit ≤ 1000000) }
 {
     let plan = equal_plan(alloc, buses, policed).ok_or("no tables")?;
-    runs(rt, alloc, plan, ticks, gate, wanted)
+    plan.certified.tables().valid();
+    let Plan { tables, certified } = plan;
+    let blank = Blank::new(MOST_ACTORS);
+    drives::<Brand, R, G>(rt, alloc, blank, &tables, certified, gate, trial)
 }
 
 #[test]
 fn the_small_tables_run(rt: HostRuntime) -> Result<(), Fail> {
-    runs_equal(&rt, rt.alloc(), 1, false, 1, &Open, Ok(Some(6)))?;
-    runs_equal(&rt, rt.alloc(), 1, false, 30, &Open, Ok(Some(126)))?;
-    runs_equal(&rt, rt.alloc(), 1, false, 200, &Open, Ok(Some(840)))
+    runs(&rt, rt.alloc(), 1, false, &Open, of_ticks(1, Ok(Some(6))))?;
+    runs(
+        &rt,
+        rt.alloc(),
+        1,
+        false,
+        &Open,
+        of_ticks(30, Ok(Some(126))),
+    )?;
+    runs(
+        &rt,
+        rt.alloc(),
+        1,
+        false,
+        &Open,
+        of_ticks(200, Ok(Some(840))),
+    )
 }
 
 #[test]
 fn a_policed_bus_runs(rt: HostRuntime) -> Result<(), Fail> {
-    runs_equal(&rt, rt.alloc(), 1, true, 200, &Open, Ok(Some(840)))
+    runs(
+        &rt,
+        rt.alloc(),
+        1,
+        true,
+        &Open,
+        of_ticks(200, Ok(Some(840))),
+    )
 }
 
 #[test]
 fn two_seats_meet_within_a_tick(rt: HostRuntime) -> Result<(), Fail> {
     let gate = Meeting::new();
-    runs_equal(&rt, rt.alloc(), 64, false, 1, &gate, Ok(Some(258)))
+    runs(
+        &rt,
+        rt.alloc(),
+        64,
+        false,
+        &gate,
+        of_ticks(1, Ok(Some(258))),
+    )
 }
 
 #[test]
 fn a_gate_is_stuck_at_the_first_enter(rt: HostRuntime) -> Result<(), Fail> {
-    let stuck = Err(DriveFault::GateStuck);
-    runs_equal(&rt, rt.alloc(), 1, false, 30, &Counting::new(0), stuck)?;
-    runs_equal(&rt, rt.alloc(), 64, false, 30, &Counting::new(0), stuck)
+    let stuck = of_ticks(30, Err(DriveFault::GateStuck));
+    runs(&rt, rt.alloc(), 1, false, &Counting::new(0), stuck)?;
+    runs(&rt, rt.alloc(), 64, false, &Counting::new(0), stuck)
 }
 
+/// Of a wire, of a router, of an output and of the clock.
 #[test]
 fn a_gate_is_stuck_for_one_seat(rt: HostRuntime) -> Result<(), Fail> {
-    let stuck = Err(DriveFault::GateStuck);
-    runs_equal(&rt, rt.alloc(), 64, false, 30, &Against::new(3), stuck)
+    let stuck = of_ticks(30, Err(DriveFault::GateStuck));
+    for number in 0..4 {
+        runs(&rt, rt.alloc(), 1, false, &Against::new(number), stuck)?;
+    }
+    runs(&rt, rt.alloc(), 64, false, &Against::new(3), stuck)
+}
+
+/// The wire has the number 0, the router 1, the output 2, the clock 3.
+#[test]
+fn each_step_enters_and_leaves_by_its_actors_number(rt: HostRuntime) -> Result<(), Fail> {
+    let gate = Recording::new(rt.alloc(), 4)?;
+    runs(
+        &rt,
+        rt.alloc(),
+        1,
+        false,
+        &gate,
+        of_ticks(30, Ok(Some(126))),
+    )?;
+    assert!(&rt; gate.rounds(0) == Some(6));
+    assert!(&rt; gate.rounds(1) == Some(60));
+    assert!(&rt; gate.rounds(2) == Some(30));
+    assert!(&rt; gate.rounds(3) == Some(30));
+    Ok(())
+}
+
+/// While an actor is held at its first step, the others make theirs, and the clock does not tick.
+#[test]
+fn the_clock_waits_for_each_actor(rt: HostRuntime) -> Result<(), Fail> {
+    for number in 0..3 {
+        let gate = Holding::new(number, 3);
+        runs(&rt, rt.alloc(), 1, false, &gate, of_ticks(2, Ok(Some(10))))?;
+        assert!(&rt; gate.met() == Some(false));
+    }
+    Ok(())
 }
 
 #[test]
-fn each_step_enters_and_leaves(rt: HostRuntime) -> Result<(), Fail> {
-    let gate = Counting::new(1000);
-    runs_equal(&rt, rt.alloc(), 1, false, 30, &gate, Ok(Some(126)))?;
-    assert!(&rt; gate.counts() == (126, 126));
-    Ok(())
+fn a_refused_step_is_told_as_itself(rt: HostRuntime) -> Result<(), Fail> {
+    let refused = Trial {
+        ticks: 30,
+        limit: 1_000_000,
+        has_sent: true,
+        wanted: Err(DriveFault::Hub(HubFault::Step(StepFault::TooSoon))),
+    };
+    runs(&rt, rt.alloc(), 1, false, &Open, refused)
+}
+
+#[test]
+fn a_full_book_is_told_as_itself(rt: HostRuntime) -> Result<(), Fail> {
+    let full = Trial {
+        ticks: 30,
+        limit: 125,
+        has_sent: false,
+        wanted: Err(DriveFault::Hub(HubFault::TraceFull)),
+    };
+    runs(&rt, rt.alloc(), 1, false, &Open, full)?;
+    let held = Trial {
+        limit: 126,
+        wanted: Ok(Some(126)),
+        ..full
+    };
+    runs(&rt, rt.alloc(), 1, false, &Open, held)
 }

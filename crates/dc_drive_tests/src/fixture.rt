@@ -1,5 +1,9 @@
 //! Tables that are driven, with a certificate that is accepted for them.
 
+ghost use Rattle.std.specs.Prelude.{◌≡◌};
+ghost use Rattle.std.specs.Arc.{arc_value};
+ghost use Rattle.dc_check.specs.Lent.{tables_of};
+
 use dc_cert::{Certificate, read_cert};
 use dc_check::{Certified, check};
 use dc_tables::Tables;
@@ -13,6 +17,7 @@ use std::sync::Arc;
 pub struct Plan {
     pub tables: Arc<Tables>,
     pub certified: Certified,
+    ghost is_of: { tables_of certified ≡ arc_value tables },
 }
 
 /// Tables of this text. None where they can't be read, or memory ends.

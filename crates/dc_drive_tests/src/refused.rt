@@ -1,20 +1,24 @@
 //! A hub that is driven, and another one where memory or a thread was refused to the first. What each says is a line of
 //! the output.
 
-ghost use Rattle.std.specs.Prelude.{◌≡◌, ◌≤◌, IsSome};
+ghost use Rattle.std.specs.Prelude.{◌≡◌, IsSome};
+ghost use Rattle.dc_check.specs.Lent.{tables_of};
 ghost use Rattle.dc_drive.specs.Played.{AreOfHub};
+ghost use Rattle.dc_hub.specs.Opening.{IsCharterOf};
+ghost use Rattle.dc_hub.specs.Views.{AreTablesOf};
 
 use crate::fixture::{Plan, equal_plan};
+use dc_check::Certified;
 use dc_checkpar::Open;
 use dc_drive::{DriveFault, drive};
-use dc_hub::{Hub, HubFault, MOST_ACTORS, OpenFault, Seats};
+use dc_hub::{Charter, Hub, HubFault, MOST_ACTORS, OpenFault, Seats};
 use dc_script::Script;
 use dc_tables::Tables;
 use std::alloc::Global;
 use std::io;
 use std::marker::Brand;
 use std::sync::Wait;
-use std::sync::ledger::{Blank, Ledger};
+use std::sync::ledger::Blank;
 use std::thread::Threads;
 
 /// How many ticks the script has.
@@ -28,13 +32,13 @@ fn name_of(answer: Result<(), DriveFault>) -> &'static str {
         Err(DriveFault::Spawn) => "spawn",
         Err(DriveFault::GateStuck) => "stuck",
         Err(DriveFault::Hub(HubFault::Memory)) => "memory of the hub",
+        Err(DriveFault::Hub(HubFault::Astray)) => "astray",
         Err(DriveFault::Hub(_)) => "refused",
-        Err(DriveFault::Astray) => "astray",
     }
 }
 
 /// Drives a hub and closes it: whether the drive was answered Ok.
-fn drive_once<L: Ledger + Send + Sync, R: Threads + Wait + Sync + Print>(
+fn drive_once<L: Charter + Send + Sync, R: Threads + Wait + Sync + Print>(
     rt: &R,
     alloc: Global,
     tables: &Tables,
@@ -42,6 +46,7 @@ fn drive_once<L: Ledger + Send + Sync, R: Threads + Wait + Sync + Print>(
     mut seats: Seats<L>,
     script: &Script,
 ) -> io::Result<bool>
+    requires tables { AreTablesOf L.certified tables.now }
     requires of_hub { AreOfHub hub seats.wires.items }
     requires clock { IsSome seats.clock }
 {
@@ -53,26 +58,22 @@ fn drive_once<L: Ledger + Send + Sync, R: Threads + Wait + Sync + Print>(
 }
 
 /// Opens a hub and drives it: whether all was answered Ok.
-fn open_once<L: Ledger + Send + Sync, R: Threads + Wait + Sync + Print>(
+fn open_once<L: Charter + Send + Sync, R: Threads + Wait + Sync + Print>(
     rt: &R,
     alloc: Global,
     blank: Blank,
-    plan: Plan,
+    tables: &Tables,
+    certified: Certified,
     script: &Script,
 ) -> io::Result<bool>
-    requires name { blank.name ≡ L.name }
-    requires parts { blank.parts ≡ L.parts }
-    requires enough { 161 ≤ blank.parts }
+    requires blank { (blank.name ≡ L.name) × (blank.parts ≡ L.parts) }
+    requires charter { IsCharterOf L.certified L.limit L.whole L.parts certified 1000 }
+    requires tables { tables_of certified ≡ tables.now }
 {
-    let Plan { tables, certified } = plan;
     match Hub::<L>::open(alloc, blank, certified, 1000) {
-        Ok((hub, seats)) => drive_once(rt, alloc, &tables, hub, seats, script),
+        Ok((hub, seats)) => drive_once(rt, alloc, tables, hub, seats, script),
         Err(OpenFault::Memory) => {
             println!(rt; "open: memory")?;
-            Ok(false)
-        }
-        Err(OpenFault::TraceLimit) => {
-            println!(rt; "open: limit")?;
             Ok(false)
         }
     }
@@ -88,7 +89,10 @@ fn run_once<R: Threads + Wait + Sync + Print>(rt: &R, alloc: Global) -> io::Resu
         println!(rt; "script: memory")?;
         return Ok(false);
     };
-    open_once::<Brand, R>(rt, alloc, Blank::new(MOST_ACTORS), plan, &script)
+    plan.certified.tables().valid();
+    let Plan { tables, certified } = plan;
+    let blank = Blank::new(MOST_ACTORS);
+    open_once::<Brand, R>(rt, alloc, blank, &tables, certified, &script)
 }
 
 /// Drives a hub, and another one where something was refused to the first.

@@ -1,6 +1,9 @@
 mod Backlogs
 mod Closes
+mod Counts
+mod Each
 mod Faults
+mod Lasts
 mod Legal
 mod Marks
 mod Opens

@@ -1,7 +1,9 @@
 -- New wires, one more.
-use Rattle.std.proofs.Common.{◌≡◌, ◌⊎◌, ⊎_elim, inl, inr, ℕ, zero, suc, ◌+◌, Option, Some, None, List, [], ◌∷◌, ◌++◌, length, refl, sym, ap, subst, ◌∙◌, length-append, slice_get}
+use Rattle.std.proofs.Common.{◌≡◌, ◌⊎◌, ⊎_elim, inl, inr, ℕ, zero, suc, ◌+◌, Option, Some, None, List, [], ◌∷◌, ◌++◌, length, refl, sym, ap, subst, ◌∙◌, length-append, slice_get, slice_index, replicate, arith}
 use Rattle.atomic_table.specs.Seated.{TableId}
-use Rattle.dc_hub.specs.Views.{WireView, IsNewWire, AreNewWires}
+use Rattle.dc_board.specs.Marks.{fresh, stepped_once}
+use Rattle.dc_board.specs.declared.view.View.{View}
+use Rattle.dc_hub.specs.Views.{WireView, IsNewWire, AreNewWires, stepped}
 
 pub some-same : {X : Type 0} (x y : X) → Some x ≡ Some y → x ≡ y
 some-same {X} x y e = ap (λ (o : Option X). given o) e
@@ -32,3 +34,15 @@ wires-push board ws n w are is = (
       (λ (t : (k ≡ length ws) × (w ≡ v)). subst (λ j. IsNewWire board j v) (sym (t.0 ∙ are.0)) (subst (IsNewWire board n) t.1 is))
       (at_push ws w v k there)),
 )
+
+pub stepped_more : (n : ℕ) (v : View) → stepped_once (stepped n v) ≡ stepped (n + 1) v
+stepped_more n v = let e : v.steps + n + 1 ≡ v.steps + (n + 1) = omega arith in ap (λ k. record { caps = v.caps; noted = v.noted; seen = v.seen; steps = k }) e
+
+zeros : (n i : ℕ) → slice_index (replicate n 0) i ≡ 0
+zeros zero i = refl
+zeros (suc n) zero = refl
+zeros (suc n) (suc i) = zeros n i
+
+-- a seat that made such steps has noted nothing
+pub unnoted : (caps : List ℕ) (n : ℕ) (v : View) → v ≡ stepped n (fresh caps) → (i : ℕ) → slice_index v.noted i ≡ 0
+unnoted caps n v is i = ap (λ (w : View). slice_index w.noted i) is ∙ zeros (length caps) i

@@ -1,16 +1,17 @@
 //! The book of entries, as one thread acts on it.
 
-ghost use Rattle.std.specs.Prelude.{◌≡◌, ℕ, ◌+◌, ◌<◌, ◌≤◌, ◌++◌, ◌∷◌, [], List, IfOk, OnErr, Err, MatchResult, length};
+ghost use Rattle.std.specs.Prelude.{◌≡◌, ◌≢◌, ℕ, ◌+◌, ◌<◌, ◌≤◌, ◌++◌, ◌∷◌, [], List, IfOk, OnErr, Err, MatchResult, Some, length};
 ghost use Rattle.dc_check.specs.Lent.{tables_of};
 ghost use Rattle.dc_core.specs.Standing.{MayFollow, IsFault};
 ghost use Rattle.dc_core.specs.Steps.{IsSized, StandsFor, StepsTo};
 ghost use Rattle.dc_event.specs.declared.event.Event.{Event};
 ghost use Rattle.dc_core.specs.declared.fault.StepFault.{StepFault};
 ghost use Rattle.dc_hub.specs.Entries.{actor_of, backlog_of, entry, events, IsLegal};
-ghost use Rattle.dc_hub.specs.Views.{BookView};
-ghost use Rattle.dc_hub.specs.declared.fault.HubFault.TheVariants.{Step, TraceFull};
+ghost use Rattle.dc_hub.specs.Views.{BookView, IsBookOf, others};
+ghost use Rattle.dc_hub.specs.declared.fault.HubFault.TheVariants.{Step, TraceFull, Astray};
 ghost use Rattle.dc_hub.specs.declared.limits.TheConstants.{GREATEST_BACKLOG};
 
+use crate::charter::{Charter, Whole};
 use crate::closed::Closed;
 use crate::entry::{Entry, Receipt};
 use crate::fault::HubFault;
@@ -22,37 +23,42 @@ use dc_event::{Event, Reply};
 use std::alloc::{AllocError, Global};
 use std::marker::Model;
 use std::sync::ledger;
-use std::sync::ledger::Ledger;
+use std::sync::ledger::Share;
 
 /// The entries so far, which are a run of the tables that keeps the budgets, each with the reply that the run calls
 /// for; and the state of the concentrator after that run. Contracts see the certified tables, the trace limit and the
 /// entries.
 #[derive(Drop)]
-pub struct Book<L: Ledger> {
+pub struct Book<L: Charter> {
     pub(crate) certified: Certified,
     state: State,
     limit: usize,
     pub(crate) entries: Vec<Entry>,
-    count: ledger::Book<L>,
+    pub(crate) count: ledger::Book<L>,
+    pub(crate) none: Share<L>,
+    pub(crate) whole: Whole<L>,
 }
 
-impl<L: Ledger> Model for Book<L> {
+impl<L: Charter> Model for Book<L> {
     ghost Value = { BookView };
 
     ghost view = { λ b. record { certified = b.certified; limit = b.limit; entries = b.entries.items } };
 
-    ghost invariant = { λ b. IsLegal (tables_of b.certified) b.entries.items × IsSized (tables_of b.certified) b.state × StandsFor (tables_of b.certified) b.state (events b.entries.items) × (b.count.total ≡ length b.entries.items) };
+    ghost invariant = { λ b. IsLegal (tables_of b.certified) b.entries.items × IsSized (tables_of b.certified) b.state × StandsFor (tables_of b.certified) b.state (events b.entries.items) × (b.count.total ≡ length b.entries.items) × (length b.entries.items ≤ b.limit) × (L.certified ≡ Some b.certified) × (L.limit ≡ b.limit) × (others L.certified < L.whole) × (b.none.parts ≡ 0) × (b.none.amount ≡ 0) };
 }
 
-impl<L: Ledger> Book<L> {
+impl<L: Charter> Book<L> {
     /// A book without entries. `count` is the hub's count.
     pub(crate) fn new(
         alloc: Global,
         certified: Certified,
         limit: usize,
         count: ledger::Book<L>,
+        none: Share<L>,
     ) -> Result<Book<L>, AllocError>
-        requires { count.total ≡ 0 }
+        requires count { count.total ≡ 0 }
+        requires none { (none.parts ≡ 0) × (none.amount ≡ 0) }
+        requires charter { (L.certified ≡ Some certified) × (L.limit ≡ limit) × (L.whole ≡ L.parts) × (others L.certified < L.whole) }
         ensures { IfOk result (λ b. b ≡ record { certified = certified; limit = limit; entries = [] }) }
     {
         let state = State::new(alloc, certified.tables())?;
@@ -62,6 +68,8 @@ impl<L: Ledger> Book<L> {
             limit,
             entries: Vec::new(alloc),
             count,
+            none,
+            whole: Whole::new(),
         })
     }
 
@@ -82,8 +90,18 @@ impl<L: Ledger> Book<L> {
             limit: _,
             entries,
             count: _,
+            none: _,
+            whole: _,
         } = self;
         Closed { certified, entries }
+    }
+
+    /// A book of the hub: its tables, their certificate and the limit are those that the hub was opened with. The call
+    /// does nothing.
+    pub fn of_hub(&self)
+        ensures { IsBookOf L.certified L.limit self.now }
+    {
+        let _ = &self.entries;
     }
 
     /// One step of the seat's actor: an entry at the end of the book, and its receipt at the end of the seat's. The
@@ -104,7 +122,11 @@ impl<L: Ledger> Book<L> {
         ensures step { (f : StepFault) → result ≡ Err (Step f) → (length self.old.entries < self.old.limit) × (¬ MayFollow (tables_of self.old.certified) (events self.old.entries) event) × IsFault (tables_of self.old.certified) (events self.old.entries) event f }
         ensures legal { IsLegal (tables_of self.new.certified) self.new.entries }
         ensures backlog { IfOk result (λ r. backlog_of r.reply ≤ GREATEST_BACKLOG) }
+        ensures astray { result ≢ Err Astray }
+        ensures of_hub { IsBookOf L.certified L.limit self.old × IsBookOf L.certified L.limit self.new }
+        ensures some { (length seat.old.receipts ≤ length self.old.entries) × (length seat.new.receipts ≤ length self.new.entries) }
     {
+        self.count.audit(&mut seat.share);
         if self.entries.len() >= self.limit {
             return Err(HubFault::TraceFull);
         }

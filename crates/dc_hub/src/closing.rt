@@ -1,20 +1,23 @@
 //! Whether seats are one for each actor, and whether their receipts are the book's entries.
 
 ghost use Rattle.std.specs.Prelude.{◌≡◌, ◌+◌, ◌<◌, ◌≤◌, true, false, None, Some, MatchOption, IfOk, IfErr, length, slice_get};
+ghost use Rattle.std.specs.List.{sum_by};
 ghost use Rattle.dc_check.specs.Lent.{tables_of};
-ghost use Rattle.dc_hub.specs.Closing.{is_by, receipts_of, DifferAt, all_seats, actor_at, actor_count, AreOneEach, AllAgree, FirstDiffers, IsCloseFault};
+ghost use Rattle.dc_hub.specs.Closing.{is_by, receipts_of, DifferAt, all_seats, clock_seats, actor_at, actor_count, AreOneEach, AllAgree, FirstDiffers, IsCloseFault};
+ghost use Rattle.dc_hub.specs.Views.{WireView, parts_for, parts_needed, receipts_in};
 ghost use Rattle.dc_hub.specs.declared.limits.TheConstants.{MOST_ACTORS};
 
 use crate::book::Book;
+use crate::charter::Charter;
 use crate::closed::Closed;
 use crate::entry::{Entry, Receipt};
 use crate::fault::CloseFault;
-use crate::seat::Seat;
+use crate::seat::{ClockSeat, OutputSeat, RouterSeat, Seat, WireSeat};
 use crate::seats::Seats;
 use dc_check::Certified;
 use dc_event::{Actor, Event};
 use dc_tables::Tables;
-use std::sync::ledger::Ledger;
+use std::sync::ledger::Share;
 
 /// Whether the actor makes the step.
 pub fn makes(actor: &Actor, event: &Event) -> bool
@@ -84,7 +87,7 @@ fn actors(tables: &Tables) -> usize
     tables.bus_count() + tables.router_count() + tables.output_count() + 1
 }
 
-impl<L: Ledger> Seats<L> {
+impl<L: Charter> Seats<L> {
     /// The seat at this place: wires, routers, outputs, clock.
     fn at(&self, place: usize) -> Option<&Seat<L>>
         ensures { MatchOption result (slice_get (all_seats self.now.wires.items self.now.routers.items self.now.outputs.items self.now.clock) place ≡ None) (λ s. slice_get (all_seats self.now.wires.items self.now.routers.items self.now.outputs.items self.now.clock) place ≡ Some s.now) }
@@ -111,7 +114,7 @@ impl<L: Ledger> Seats<L> {
 }
 
 /// Whether the seats are one for each actor, in order.
-fn are_one_each<L: Ledger>(seats: &Seats<L>, tables: &Tables) -> bool
+fn are_one_each<L: Charter>(seats: &Seats<L>, tables: &Tables) -> bool
     ensures yes { result ≡ true → AreOneEach tables.now (all_seats seats.now.wires.items seats.now.routers.items seats.now.outputs.items seats.now.clock) }
     ensures no { result ≡ false → ¬ AreOneEach tables.now (all_seats seats.now.wires.items seats.now.routers.items seats.now.outputs.items seats.now.clock) }
 {
@@ -128,7 +131,7 @@ fn are_one_each<L: Ledger>(seats: &Seats<L>, tables: &Tables) -> bool
 }
 
 /// The index at which the first seat differs whose receipts are not its actor's entries.
-fn first_mismatch<L: Ledger>(seats: &Seats<L>, count: usize, entries: &[Entry]) -> Option<u64>
+fn first_mismatch<L: Charter>(seats: &Seats<L>, count: usize, entries: &[Entry]) -> Option<u64>
     requires { length (all_seats seats.now.wires.items seats.now.routers.items seats.now.outputs.items seats.now.clock) ≡ count }
     ensures { MatchOption result (AllAgree entries.now (all_seats seats.now.wires.items seats.now.routers.items seats.now.outputs.items seats.now.clock)) (λ index. FirstDiffers entries.now (all_seats seats.now.wires.items seats.now.routers.items seats.now.outputs.items seats.now.clock) index) }
 {
@@ -144,7 +147,7 @@ fn first_mismatch<L: Ledger>(seats: &Seats<L>, count: usize, entries: &[Entry]) 
 }
 
 /// Why a book does not close over the seats, if it does not.
-fn close_fault<L: Ledger>(
+fn close_fault<L: Charter>(
     certified: &Certified,
     entries: &[Entry],
     seats: &Seats<L>,
@@ -161,7 +164,68 @@ fn close_fault<L: Ledger>(
     }
 }
 
-impl<L: Ledger> Book<L> {
+/// Merges a seat's share of the count.
+fn merge_seat<L: Charter>(all: &mut Share<L>, seat: Seat<L>)
+    ensures parts { all.new.parts ≡ all.old.parts + parts_for L.certified L.whole seat.actor }
+    ensures amount { all.new.amount ≡ all.old.amount + length seat.receipts }
+{
+    let Seat {
+        actor: _,
+        receipts: _,
+        share,
+    } = seat;
+    all.merge(share);
+}
+
+/// Merges the shares of wires.
+fn merge_wires<L: Charter>(all: &mut Share<L>, mut wires: Vec<WireSeat<L>>)
+    ensures parts { all.new.parts ≡ all.old.parts + sum_by (λ (w : WireView). parts_for L.certified L.whole w.seat.actor) wires.items }
+    ensures amount { all.new.amount ≡ all.old.amount + sum_by (λ (w : WireView). length w.seat.receipts) wires.items }
+{
+    while let Some(wire) = wires.pop() {
+        let WireSeat {
+            bus: _,
+            seat,
+            marks: _,
+        } = wire;
+        merge_seat(all, seat);
+    }
+}
+
+/// Merges the shares of routers.
+fn merge_routers<L: Charter>(all: &mut Share<L>, mut routers: Vec<RouterSeat<L>>)
+    ensures parts { all.new.parts ≡ all.old.parts + parts_needed L.certified L.whole routers.items }
+    ensures amount { all.new.amount ≡ all.old.amount + receipts_in routers.items }
+{
+    while let Some(router) = routers.pop() {
+        let RouterSeat { router: _, seat } = router;
+        merge_seat(all, seat);
+    }
+}
+
+/// Merges the shares of outputs.
+fn merge_outputs<L: Charter>(all: &mut Share<L>, mut outputs: Vec<OutputSeat<L>>)
+    ensures parts { all.new.parts ≡ all.old.parts + parts_needed L.certified L.whole outputs.items }
+    ensures amount { all.new.amount ≡ all.old.amount + receipts_in outputs.items }
+{
+    while let Some(output) = outputs.pop() {
+        let OutputSeat { output: _, seat } = output;
+        merge_seat(all, seat);
+    }
+}
+
+/// Merges the share of the clock, where it is there.
+fn merge_clock<L: Charter>(all: &mut Share<L>, clock: Option<ClockSeat<L>>)
+    ensures parts { all.new.parts ≡ all.old.parts + parts_needed L.certified L.whole (clock_seats clock) }
+    ensures amount { all.new.amount ≡ all.old.amount + receipts_in (clock_seats clock) }
+{
+    if let Some(clock) = clock {
+        let ClockSeat { seat } = clock;
+        merge_seat(all, seat);
+    }
+}
+
+impl<L: Charter> Book<L> {
     /// The closed book, where the seats are one for each actor and the receipts of each are its actor's entries.
     ///
     /// # Errors
@@ -171,10 +235,36 @@ impl<L: Ledger> Book<L> {
         ensures same { IfOk result (λ c. (c.certified ≡ self.certified) × (c.entries ≡ self.entries)) }
         ensures ok { IfOk result (λ c. AreOneEach (tables_of c.certified) (all_seats seats.wires.items seats.routers.items seats.outputs.items seats.clock) × AllAgree c.entries (all_seats seats.wires.items seats.routers.items seats.outputs.items seats.clock)) }
         ensures err { IfErr result (λ fault. IsCloseFault (tables_of self.certified) self.entries (all_seats seats.wires.items seats.routers.items seats.outputs.items seats.clock) fault) }
+        ensures as_many { AreOneEach (tables_of self.certified) (all_seats seats.wires.items seats.routers.items seats.outputs.items seats.clock) → length self.entries ≡ receipts_in (all_seats seats.wires.items seats.routers.items seats.outputs.items seats.clock) }
     {
-        match close_fault(&self.certified, &self.entries, &seats) {
+        let fault = close_fault(&self.certified, &self.entries, &seats);
+        let book = self.counted(seats);
+        match fault {
             Some(fault) => Err(fault),
-            None => Ok(self.closed()),
+            None => Ok(book.closed()),
         }
+    }
+
+    /// Where the seats are one for each actor, there are as many entries as receipts: their shares are the whole count.
+    fn counted(self, seats: Seats<L>) -> Book<L>
+        ensures same { result ≡ self }
+        ensures as_many { AreOneEach (tables_of self.certified) (all_seats seats.wires.items seats.routers.items seats.outputs.items seats.clock) → length self.entries ≡ receipts_in (all_seats seats.wires.items seats.routers.items seats.outputs.items seats.clock) }
+    {
+        let mut book = self;
+        let Seats {
+            wires,
+            routers,
+            outputs,
+            clock,
+            watch: _,
+        } = seats;
+        let mut all = book.none.empty();
+        merge_wires(&mut all, wires);
+        merge_routers(&mut all, routers);
+        merge_outputs(&mut all, outputs);
+        merge_clock(&mut all, clock);
+        book.whole.known();
+        book.count.audit(&mut all);
+        book
     }
 }

@@ -3,8 +3,6 @@ use dc_core::StepFault;
 /// Why a hub can not be opened.
 #[derive(Clone, Copy, Debug, PartialEq, Eq)]
 pub enum OpenFault {
-    /// The trace limit is 0 or more than [`LONGEST_TRACE`](crate::LONGEST_TRACE).
-    TraceLimit,
     /// Out of memory.
     Memory,
 }
@@ -19,6 +17,8 @@ pub enum HubFault {
     TraceFull,
     /// Out of memory.
     Memory,
+    /// Some seat's new receipts are not its own steps. A drive alone answers it.
+    Astray,
 }
 
 /// Why a book does not close.

@@ -1,23 +1,24 @@
 //! The book under its lock, and the board beside it.
 
-ghost use Rattle.std.specs.Prelude.{◌≡◌, ℕ, ◌+◌, ◌<◌, ◌≤◌, ◌++◌, ◌∷◌, [], List, IfOk, IfErr, OnErr, OnOk, Err, Some, IsSome, IfSome, length, slice_index, max};
+ghost use Rattle.std.specs.Prelude.{◌≡◌, ◌≢◌, ℕ, ◌+◌, ◌<◌, ◌≤◌, ◌++◌, ◌∷◌, [], List, IfOk, IfErr, OnErr, OnOk, Err, Some, IsSome, IfSome, length, slice_index, slice_set, max};
 ghost use Rattle.atomic_table.specs.Seated.{TableId};
 ghost use Rattle.dc_board.specs.Marks.{IsSeatOf, raised, fresh, stepped_once};
 ghost use Rattle.dc_check.specs.Lent.{tables_of};
 ghost use Rattle.dc_event.specs.declared.event.Actor.TheVariants.{Wire, Router, Output, Clock};
+ghost use Rattle.dc_event.specs.declared.event.Event.{Event};
 ghost use Rattle.dc_event.specs.declared.event.Event.TheVariants.{Tick, Arrive, Route, Send};
 ghost use Rattle.dc_hub.specs.Closing.{all_seats, AreOneEach, AllAgree, IsCloseFault};
 ghost use Rattle.dc_hub.specs.Entries.{actor_of, backlog_of, IsLegal};
-ghost use Rattle.dc_hub.specs.Views.{BookView, unused, board_caps, HasNoted, AreNewWires, AreNewSeats};
-ghost use Rattle.dc_hub.specs.declared.fault.OpenFault.TheVariants.{TraceLimit};
+ghost use Rattle.dc_hub.specs.Opening.{IsCharterOf};
+ghost use Rattle.dc_hub.specs.Views.{BookView, IsBookOf, IsOfLast, IsRefusal, unused, board_caps, stepped, parts_for, parts_in, receipts_in, HasNoted, AreNewWires, AreNewSeats};
 ghost use Rattle.dc_board.specs.declared.limits.TheConstants.{MOST_WORDS};
-ghost use Rattle.dc_hub.specs.declared.limits.TheConstants.{GREATEST_BACKLOG, LONGEST_TRACE, MOST_ACTORS};
+ghost use Rattle.dc_hub.specs.declared.limits.TheConstants.{GREATEST_BACKLOG};
 
 use crate::book::Book;
+use crate::charter::Charter;
 use crate::closed::Closed;
 use crate::entry::Receipt;
 use crate::fault::{CloseFault, HubFault, OpenFault};
-use crate::limits::LONGEST_TRACE;
 use crate::opening::{board_of_marks, output_seats, router_seats, wire_seats};
 use crate::seat::{ClockSeat, OutputSeat, RouterSeat, Seat, Watch, WireSeat};
 use crate::seats::Seats;
@@ -27,17 +28,17 @@ use dc_event::{Actor, Event, Reply};
 use dc_word::Word;
 use std::alloc::{AllocError, Global};
 use std::marker::Model;
-use std::sync::ledger::{Blank, Ledger};
+use std::sync::ledger::Blank;
 use std::sync::{Mutex, Wait};
 
 /// The book under its lock, and the board of marks beside it. Contracts see the board.
 #[derive(Drop)]
-pub struct Hub<L: Ledger> {
+pub struct Hub<L: Charter> {
     pub(crate) book: Mutex<Book<L>>,
     board: Board,
 }
 
-impl<L: Ledger> Model for Hub<L> {
+impl<L: Charter> Model for Hub<L> {
     ghost Value = { TableId × List ℕ };
 
     ghost view = { λ h. h.board };
@@ -45,55 +46,50 @@ impl<L: Ledger> Model for Hub<L> {
     ghost invariant = { λ h. h.board.1 ≡ board_caps };
 }
 
-impl<L: Ledger> Hub<L> {
-    /// A hub, and the seats of the actors of certified tables, which were answered nothing. The blank has
-    /// [`MOST_ACTORS`](crate::MOST_ACTORS) parts or more; each wire, router and output has one of them. That the book
-    /// holds at most `trace_limit` entries is tested.
+impl<L: Charter> Hub<L> {
+    /// A hub, and the seats of the actors of certified tables, which were answered nothing. The blank has at least one
+    /// part for each actor; each wire, router and output has one of them, the clock all others. The tables, their
+    /// certificate, the trace limit, 1 to [`LONGEST_TRACE`](crate::LONGEST_TRACE) entries, and the number of parts are
+    /// those of the hub's charter, and so of its book.
     ///
     /// # Errors
-    /// Wherever the trace limit is not 1 to [`LONGEST_TRACE`](crate::LONGEST_TRACE) entries, and `TraceLimit` there
-    /// alone; `Memory` where an allocation failed.
+    /// Out of memory.
     pub fn open(
         alloc: Global,
         blank: Blank,
         certified: Certified,
         trace_limit: usize,
     ) -> Result<(Hub<L>, Seats<L>), OpenFault>
-        requires name { blank.name ≡ L.name }
-        requires parts { blank.parts ≡ L.parts }
-        requires enough { MOST_ACTORS ≤ blank.parts }
-        ensures limit { OnOk result ((1 ≤ trace_limit) × (trace_limit ≤ LONGEST_TRACE)) }
-        ensures refused { result ≡ Err TraceLimit → (1 ≤ trace_limit) × (trace_limit ≤ LONGEST_TRACE) → ⊥ }
+        requires blank { (blank.name ≡ L.name) × (blank.parts ≡ L.parts) }
+        requires charter { IsCharterOf L.certified L.limit L.whole L.parts certified trace_limit }
+        ensures each { IfOk result (λ r. AreOneEach (tables_of certified) (all_seats r.1.wires.items r.1.routers.items r.1.outputs.items r.1.clock) × (parts_in (all_seats r.1.wires.items r.1.routers.items r.1.outputs.items r.1.clock) ≡ L.parts) × (receipts_in (all_seats r.1.wires.items r.1.routers.items r.1.outputs.items r.1.clock) ≡ 0)) }
         ensures wires { IfOk result (λ r. AreNewWires r.0 r.1.wires.items (length (tables_of certified).buses)) }
         ensures routers { IfOk result (λ r. AreNewSeats Router r.1.routers.items (length (tables_of certified).routers)) }
         ensures outputs { IfOk result (λ r. AreNewSeats Output r.1.outputs.items (length (tables_of certified).outputs)) }
-        ensures clock { IfOk result (λ r. IsSome r.1.clock × IfSome r.1.clock (λ c. c ≡ unused Clock c.parts)) }
-        ensures watch { IfOk result (λ r. IsSeatOf r.0 r.1.watch) }
+        ensures clock { IfOk result (λ r. r.1.clock ≡ Some (unused Clock (parts_for L.certified L.whole Clock))) }
+        ensures watch { IfOk result (λ r. IsSeatOf r.0 r.1.watch × (r.1.watch.1 ≡ stepped (length (tables_of certified).buses) (fresh board_caps))) }
     {
-        if trace_limit == 0 || trace_limit > LONGEST_TRACE {
-            return Err(OpenFault::TraceLimit);
-        }
         match Hub::opened(alloc, blank, certified, trace_limit) {
             Ok(opened) => Ok(opened),
             Err(AllocError) => Err(OpenFault::Memory),
         }
     }
 
-    /// The same, where the trace limit is right.
+    /// The same, with the error of the allocator.
     fn opened(
         alloc: Global,
         blank: Blank,
         certified: Certified,
         limit: usize,
     ) -> Result<(Hub<L>, Seats<L>), AllocError>
-        requires name { blank.name ≡ L.name }
-        requires parts { blank.parts ≡ L.parts }
-        requires enough { MOST_ACTORS ≤ blank.parts }
+        requires blank { (blank.name ≡ L.name) × (blank.parts ≡ L.parts) }
+        requires charter { IsCharterOf L.certified L.limit L.whole L.parts certified limit }
+        ensures each { IfOk result (λ r. AreOneEach (tables_of certified) (all_seats r.1.wires.items r.1.routers.items r.1.outputs.items r.1.clock) × (parts_in (all_seats r.1.wires.items r.1.routers.items r.1.outputs.items r.1.clock) ≡ L.parts) × (receipts_in (all_seats r.1.wires.items r.1.routers.items r.1.outputs.items r.1.clock) ≡ 0)) }
         ensures wires { IfOk result (λ r. AreNewWires r.0 r.1.wires.items (length (tables_of certified).buses)) }
         ensures routers { IfOk result (λ r. AreNewSeats Router r.1.routers.items (length (tables_of certified).routers)) }
         ensures outputs { IfOk result (λ r. AreNewSeats Output r.1.outputs.items (length (tables_of certified).outputs)) }
-        ensures clock { IfOk result (λ r. IsSome r.1.clock × IfSome r.1.clock (λ c. c ≡ unused Clock c.parts)) }
-        ensures watch { IfOk result (λ r. IsSeatOf r.0 r.1.watch) }
+        ensures clock { IfOk result (λ r. r.1.clock ≡ Some (unused Clock (parts_for L.certified L.whole Clock))) }
+        ensures watch { IfOk result (λ r. IsSeatOf r.0 r.1.watch × (r.1.watch.1 ≡ stepped (length (tables_of certified).buses) (fresh board_caps))) }
     {
         let (board, mut marks) = board_of_marks(alloc)?;
         let (count, mut rest) = blank.open::<L>();
@@ -102,6 +98,7 @@ impl<L: Ledger> Hub<L> {
         let wires = wire_seats(alloc, &board, &mut marks, &mut rest, tables.bus_count())?;
         let routers = router_seats(alloc, &mut rest, tables.router_count())?;
         let outputs = output_seats(alloc, &mut rest, tables.output_count())?;
+        let none = rest.empty();
         let clock = ClockSeat {
             seat: Seat::new(alloc, Actor::Clock, rest),
         };
@@ -112,7 +109,7 @@ impl<L: Ledger> Hub<L> {
             clock: Some(clock),
             watch: Watch { marks },
         };
-        let book = Book::new(alloc, certified, limit, count)?;
+        let book = Book::new(alloc, certified, limit, count, none)?;
         let hub = Hub {
             book: Mutex::new(book),
             board,
@@ -126,6 +123,8 @@ impl<L: Ledger> Hub<L> {
         ensures receipt { IfOk result (λ r. (seat.new.receipts ≡ seat.old.receipts ++ r ∷ []) × (r.event ≡ event) × (backlog_of r.reply ≤ GREATEST_BACKLOG)) }
         ensures same { OnErr result (seat.new ≡ seat.old) }
         ensures kept { (seat.new.actor ≡ seat.old.actor) × (seat.new.parts ≡ seat.old.parts) }
+        ensures entry { IfOk result (λ r. IsOfLast L.certified L.limit (length seat.new.receipts) r) }
+        ensures err { IfErr result (λ fault. IsRefusal L.certified L.limit (length seat.old.receipts) event fault) }
     {
         self.book.lock(rt).act(seat, event)
     }
@@ -133,8 +132,8 @@ impl<L: Ledger> Hub<L> {
     /// A word arrives on the seat's bus. The greatest backlog that the seat was answered is noted on the board.
     ///
     /// # Errors
-    /// A [`HubFault`]; the seat is unchanged then. What each says of the hub's book no clause says; that a full book is
-    /// reported before what the step would break is tested.
+    /// `TraceFull` only where a book of the hub is full; `Step` only where the event may not follow a book of the hub that
+    /// is not full; `Memory`. The seat is unchanged then. That it is the book as it stands behind the lock is tested.
     pub fn arrive<R: Wait>(
         &self,
         rt: &R,
@@ -147,6 +146,8 @@ impl<L: Ledger> Hub<L> {
         ensures kept { (seat.new.seat.actor ≡ seat.old.seat.actor) × (seat.new.seat.parts ≡ seat.old.seat.parts) }
         ensures board { IsSeatOf self.now seat.new.marks }
         ensures noted { HasNoted seat.new }
+        ensures entry { IfOk result (λ r. IsOfLast L.certified L.limit (length seat.new.seat.receipts) r) }
+        ensures err { IfErr result (λ fault. (bus : ℕ) × (seat.old.seat.actor ≡ Wire bus) × IsRefusal L.certified L.limit (length seat.old.seat.receipts) (Arrive word bus) fault) }
     {
         let event = Event::Arrive(word, seat.bus);
         let receipt = self.act(rt, &mut seat.seat, event)?;
@@ -162,6 +163,8 @@ impl<L: Ledger> Hub<L> {
         ensures receipt { IfOk result (λ r. (seat.new.receipts ≡ seat.old.receipts ++ r ∷ []) × (actor_of r.event ≡ seat.old.actor)) }
         ensures same { OnErr result (seat.new ≡ seat.old) }
         ensures kept { (seat.new.actor ≡ seat.old.actor) × (seat.new.parts ≡ seat.old.parts) }
+        ensures entry { IfOk result (λ r. IsOfLast L.certified L.limit (length seat.new.receipts) r) }
+        ensures err { IfErr result (λ fault. (event : Event) × (actor_of event ≡ seat.old.actor) × IsRefusal L.certified L.limit (length seat.old.receipts) event fault) }
     {
         let event = Event::Route(seat.router);
         self.act(rt, &mut seat.seat, event)
@@ -175,6 +178,8 @@ impl<L: Ledger> Hub<L> {
         ensures receipt { IfOk result (λ r. (seat.new.receipts ≡ seat.old.receipts ++ r ∷ []) × (actor_of r.event ≡ seat.old.actor)) }
         ensures same { OnErr result (seat.new ≡ seat.old) }
         ensures kept { (seat.new.actor ≡ seat.old.actor) × (seat.new.parts ≡ seat.old.parts) }
+        ensures entry { IfOk result (λ r. IsOfLast L.certified L.limit (length seat.new.receipts) r) }
+        ensures err { IfErr result (λ fault. (event : Event) × (actor_of event ≡ seat.old.actor) × IsRefusal L.certified L.limit (length seat.old.receipts) event fault) }
     {
         let event = Event::Send(seat.output);
         self.act(rt, &mut seat.seat, event)
@@ -188,6 +193,8 @@ impl<L: Ledger> Hub<L> {
         ensures receipt { IfOk result (λ r. (seat.new.receipts ≡ seat.old.receipts ++ r ∷ []) × (r.event ≡ Tick)) }
         ensures same { OnErr result (seat.new ≡ seat.old) }
         ensures kept { (seat.new.actor ≡ seat.old.actor) × (seat.new.parts ≡ seat.old.parts) }
+        ensures entry { IfOk result (λ r. IsOfLast L.certified L.limit (length seat.new.receipts) r) }
+        ensures err { IfErr result (λ fault. (event : Event) × (actor_of event ≡ seat.old.actor) × IsRefusal L.certified L.limit (length seat.old.receipts) event fault) }
     {
         self.act(rt, &mut seat.seat, Event::Tick)
     }
@@ -198,9 +205,12 @@ impl<L: Ledger> Hub<L> {
         requires watch { IsSeatOf self.now watch.old }
         requires bus { bus < MOST_WORDS }
         ensures watch { IsSeatOf self.now watch.new }
-        ensures rises { slice_index watch.old.1.seen bus ≤ result }
+        ensures noted { watch.new.1.noted ≡ watch.old.1.noted }
+        ensures seen { watch.new.1.seen ≡ slice_set watch.old.1.seen bus result }
         ensures shown { slice_index watch.new.1.seen bus ≡ result }
+        ensures rises { slice_index watch.old.1.seen bus ≤ result }
         ensures most { result ≤ GREATEST_BACKLOG }
+        ensures step { watch.new.1.steps ≡ watch.old.1.steps + 1 }
     {
         self.board.read(&mut watch.marks, bus)
     }
@@ -218,18 +228,22 @@ impl<L: Ledger> Hub<L> {
     }
 }
 
-impl<L: Ledger> Hub<L> {
+impl<L: Charter> Hub<L> {
     /// Closes the book: the seats are one for each actor, and the receipts of each are its actor's entries.
     ///
     /// # Errors
-    /// As of [`Book::close`](crate::Book::close), of some book; that it is this hub's is tested.
+    /// As of [`Book::close`](crate::Book::close), of a book of this hub: it has the tables, the certificate and the
+    /// trace limit that the hub was opened with, and where the seats are one for each actor, as many entries as they
+    /// have receipts.
     pub fn close(self, seats: Seats<L>) -> Result<Closed, CloseFault>
         ensures ok { IfOk result (λ c. AreOneEach (tables_of c.certified) (all_seats seats.wires.items seats.routers.items seats.outputs.items seats.clock) × AllAgree c.entries (all_seats seats.wires.items seats.routers.items seats.outputs.items seats.clock)) }
-        ensures err { IfErr result (λ fault. (book : BookView) × IsLegal (tables_of book.certified) book.entries × IsCloseFault (tables_of book.certified) book.entries (all_seats seats.wires.items seats.routers.items seats.outputs.items seats.clock) fault) }
+        ensures same { IfOk result (λ c. (L.certified ≡ Some c.certified) × (length c.entries ≤ L.limit)) }
+        ensures as_many { IfOk result (λ c. length c.entries ≡ receipts_in (all_seats seats.wires.items seats.routers.items seats.outputs.items seats.clock)) }
+        ensures err { IfErr result (λ fault. (book : BookView) × IsBookOf L.certified L.limit book × (AreOneEach (tables_of book.certified) (all_seats seats.wires.items seats.routers.items seats.outputs.items seats.clock) → length book.entries ≡ receipts_in (all_seats seats.wires.items seats.routers.items seats.outputs.items seats.clock)) × IsCloseFault (tables_of book.certified) book.entries (all_seats seats.wires.items seats.routers.items seats.outputs.items seats.clock) fault) }
     {
         let Hub { book, board: _ } = self;
         let book = book.into_inner();
-        book.legal();
+        book.of_hub();
         book.close(seats)
     }
 }

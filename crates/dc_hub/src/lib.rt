@@ -2,6 +2,7 @@
 #![tactic(auto)]
 
 mod book;
+mod charter;
 mod closed;
 mod closing;
 mod entry;
@@ -14,6 +15,7 @@ mod seat;
 mod seats;
 
 pub use book::Book;
+pub use charter::Charter;
 pub use closed::Closed;
 pub use closing::makes;
 pub use entry::{Entry, Receipt};

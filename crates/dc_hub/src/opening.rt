@@ -3,15 +3,16 @@
 ghost use Rattle.std.specs.Prelude.{◌≡◌, ◌+◌, ◌<◌, ◌≤◌, IfOk, OnOk};
 ghost use Rattle.dc_board.specs.Marks.{IsSeatOf, fresh};
 ghost use Rattle.dc_event.specs.declared.event.Actor.TheVariants.{Wire, Router, Output};
-ghost use Rattle.dc_hub.specs.Views.{board_caps, AreNewWires, AreNewSeats};
+ghost use Rattle.dc_hub.specs.Views.{board_caps, AreNewWires, AreNewSeats, stepped};
 ghost use Rattle.dc_board.specs.declared.limits.TheConstants.{MOST_WORDS};
 
+use crate::charter::Charter;
 use crate::limits::GREATEST_BACKLOG;
 use crate::seat::{OutputSeat, RouterSeat, Seat, WireSeat};
 use dc_board::{Board, BoardSeat, MOST_WORDS};
 use dc_event::Actor;
 use std::alloc::{AllocError, Global};
-use std::sync::ledger::{Ledger, Share};
+use std::sync::ledger::Share;
 
 /// The board of a hub: [`MOST_WORDS`] words, each at most [`GREATEST_BACKLOG`].
 pub fn board_of_marks(alloc: Global) -> Result<(Board, BoardSeat), AllocError>
@@ -22,7 +23,7 @@ pub fn board_of_marks(alloc: Global) -> Result<(Board, BoardSeat), AllocError>
 }
 
 /// A seat for each wire, each with one part of the count.
-pub fn wire_seats<L: Ledger>(
+pub fn wire_seats<L: Charter>(
     alloc: Global,
     board: &Board,
     watch: &mut BoardSeat,
@@ -34,7 +35,7 @@ pub fn wire_seats<L: Ledger>(
     requires parts { count < rest.old.parts }
     requires amount { rest.old.amount ≡ 0 }
     ensures wires { IfOk result (λ v. AreNewWires board.now v.items count) }
-    ensures watch { IsSeatOf board.now watch.new }
+    ensures watch { OnOk result (IsSeatOf board.now watch.new × (watch.new.1 ≡ stepped count watch.old.1)) }
     ensures rest { OnOk result ((rest.new.parts + count ≡ rest.old.parts) × (rest.new.amount ≡ 0)) }
 {
     let mut wires = Vec::new(alloc);
@@ -47,7 +48,7 @@ pub fn wire_seats<L: Ledger>(
 }
 
 /// A seat for each router, each with one part of the count.
-pub fn router_seats<L: Ledger>(
+pub fn router_seats<L: Charter>(
     alloc: Global,
     rest: &mut Share<L>,
     count: usize,
@@ -66,7 +67,7 @@ pub fn router_seats<L: Ledger>(
 }
 
 /// A seat for each output, each with one part of the count.
-pub fn output_seats<L: Ledger>(
+pub fn output_seats<L: Charter>(
     alloc: Global,
     rest: &mut Share<L>,
     count: usize,

@@ -1,9 +1,9 @@
+use crate::charter::Charter;
 use crate::seat::{ClockSeat, OutputSeat, RouterSeat, Watch, WireSeat};
-use std::sync::ledger::Ledger;
 
 /// The seats of a hub's actors, and a watch of its board, as [`Hub::open`](crate::Hub::open) hands them out.
 #[derive(Drop)]
-pub struct Seats<L: Ledger> {
+pub struct Seats<L: Charter> {
     /// One for each bus, in the order of the tables.
     pub wires: Vec<WireSeat<L>>,
     /// One for each router, in the order of the tables.

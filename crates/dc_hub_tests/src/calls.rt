@@ -1,19 +1,21 @@
 //! Calls of one thread.
 
-ghost use Rattle.std.specs.Prelude.{◌≡◌, ◌≤◌};
+ghost use Rattle.std.specs.Prelude.{◌≡◌};
+ghost use Rattle.dc_hub.specs.Opening.{IsCharterOf};
 
 use crate::fixture::small_certified;
 use crate::runs::{End, Summary, answers, arrive, opened};
+use dc_check::Certified;
 use dc_core::StepFault;
 use dc_event::{Event, Reply};
-use dc_hub::{CloseFault, Hub, HubFault, MOST_ACTORS, OpenFault};
+use dc_hub::{Charter, CloseFault, HubFault, MOST_ACTORS};
 use dc_word::{Label, Word};
 use std::alloc::Global;
 use std::marker::Brand;
 use std::process::Abort;
 use std::rt::HostRuntime;
 use std::sync::Wait;
-use std::sync::ledger::{Blank, Ledger};
+use std::sync::ledger::Blank;
 use std::test::Fail;
 
 /// A word of label 203, and one of label 204.
@@ -27,41 +29,40 @@ const NONE: Word = Word(0xA00000C1);
 /// A word is queued, a router takes it, and a tick ends: indexes 1, 2, 3.
 #[test]
 fn three_calls_have_indexes_1_2_3(rt: HostRuntime) -> Result<(), Fail> {
-    answers::<Brand, HostRuntime>(
+    answers(
         &rt,
         rt.alloc(),
-        Blank::new(MOST_ACTORS),
         16,
         &[
             (Event::Arrive(FIRST, 0), Ok(Reply::Queued(1))),
             (Event::Route(0), Ok(Reply::Took(FIRST, 0))),
             (Event::Tick, Ok(Reply::Now(1))),
         ],
-        End::Whole,
-        Ok(Summary {
-            entries: 3,
-            overruns: 0,
-            first: 1,
-            second: 0,
-        }),
+        (
+            End::Whole,
+            Ok(Summary {
+                entries: 3,
+                overruns: 0,
+                first: 1,
+                second: 0,
+            }),
+        ),
     )
 }
 
 /// With a receipt that the clock was not given the book does not close.
 #[test]
 fn a_forged_receipt_does_not_close(rt: HostRuntime) -> Result<(), Fail> {
-    answers::<Brand, HostRuntime>(
+    answers(
         &rt,
         rt.alloc(),
-        Blank::new(MOST_ACTORS),
         16,
         &[
             (Event::Arrive(FIRST, 0), Ok(Reply::Queued(1))),
             (Event::Route(0), Ok(Reply::Took(FIRST, 0))),
             (Event::Tick, Ok(Reply::Now(1))),
         ],
-        End::Forged,
-        Err(CloseFault::Mismatch(3)),
+        (End::Forged, Err(CloseFault::Mismatch(3))),
     )
 }
 
@@ -69,10 +70,9 @@ fn a_forged_receipt_does_not_close(rt: HostRuntime) -> Result<(), Fail> {
 #[test]
 fn three_entries_fill_a_book_of_three(rt: HostRuntime) -> Result<(), Fail> {
     let label = Label::new(0o203).ok_or("no label")?;
-    answers::<Brand, HostRuntime>(
+    answers(
         &rt,
         rt.alloc(),
-        Blank::new(MOST_ACTORS),
         3,
         &[
             (Event::Arrive(FIRST, 0), Ok(Reply::Queued(1))),
@@ -80,13 +80,15 @@ fn three_entries_fill_a_book_of_three(rt: HostRuntime) -> Result<(), Fail> {
             (Event::Send(0), Ok(Reply::Sent(label, FIRST))),
             (Event::Tick, Err(HubFault::TraceFull)),
         ],
-        End::Whole,
-        Ok(Summary {
-            entries: 3,
-            overruns: 0,
-            first: 1,
-            second: 0,
-        }),
+        (
+            End::Whole,
+            Ok(Summary {
+                entries: 3,
+                overruns: 0,
+                first: 1,
+                second: 0,
+            }),
+        ),
     )
 }
 
@@ -94,22 +96,23 @@ fn three_entries_fill_a_book_of_three(rt: HostRuntime) -> Result<(), Fail> {
 #[test]
 fn a_full_book_is_reported_first(rt: HostRuntime) -> Result<(), Fail> {
     let label = Label::new(0o203).ok_or("no label")?;
-    answers::<Brand, HostRuntime>(
+    answers(
         &rt,
         rt.alloc(),
-        Blank::new(MOST_ACTORS),
         1,
         &[
             (Event::Send(0), Ok(Reply::Sent(label, NONE))),
             (Event::Send(0), Err(HubFault::TraceFull)),
         ],
-        End::Whole,
-        Ok(Summary {
-            entries: 1,
-            overruns: 0,
-            first: 0,
-            second: 0,
-        }),
+        (
+            End::Whole,
+            Ok(Summary {
+                entries: 1,
+                overruns: 0,
+                first: 0,
+                second: 0,
+            }),
+        ),
     )
 }
 
@@ -117,10 +120,9 @@ fn a_full_book_is_reported_first(rt: HostRuntime) -> Result<(), Fail> {
 #[test]
 fn a_seat_is_missing(rt: HostRuntime) -> Result<(), Fail> {
     let label = Label::new(0o203).ok_or("no label")?;
-    answers::<Brand, HostRuntime>(
+    answers(
         &rt,
         rt.alloc(),
-        Blank::new(MOST_ACTORS),
         16,
         &[
             (Event::Route(0), Ok(Reply::Empty(0))),
@@ -129,23 +131,21 @@ fn a_seat_is_missing(rt: HostRuntime) -> Result<(), Fail> {
             (Event::Send(0), Ok(Reply::Sent(label, NONE))),
             (Event::Send(0), Err(HubFault::Step(StepFault::TooSoon))),
         ],
-        End::NoClock,
-        Err(CloseFault::SeatMissing),
+        (End::NoClock, Err(CloseFault::SeatMissing)),
     )
 }
 
 /// Two words wait: a watch reads 2, and so does one that was split off before them.
-fn two_words<L: Ledger, R: Wait + Abort>(rt: &R, alloc: Global, blank: Blank) -> Result<(), Fail>
-    requires name { blank.name ≡ L.name }
-    requires parts { blank.parts ≡ L.parts }
-    requires enough { 161 ≤ blank.parts }
+fn two_words<L: Charter, R: Wait + Abort>(
+    rt: &R,
+    alloc: Global,
+    blank: Blank,
+    certified: Certified,
+) -> Result<(), Fail>
+    requires blank { (blank.name ≡ L.name) × (blank.parts ≡ L.parts) }
+    requires charter { IsCharterOf L.certified L.limit L.whole L.parts certified 16 }
 {
-    let (hub, mut seats) = opened::<L>(
-        alloc,
-        blank,
-        small_certified(alloc).ok_or("no tables")?,
-        16,
-    )?;
+    let (hub, mut seats) = opened::<L>(alloc, blank, certified, 16)?;
     let mut early = hub.split(&mut seats.watch);
     assert!(rt; hub.read(&mut seats.watch, 0) == 0);
     assert!(rt; arrive(rt, &hub, &mut seats.wires, 0, FIRST).is_ok());
@@ -158,34 +158,7 @@ fn two_words<L: Ledger, R: Wait + Abort>(rt: &R, alloc: Global, blank: Blank) ->
 
 #[test]
 fn two_words_wait(rt: HostRuntime) -> Result<(), Fail> {
-    two_words::<Brand, HostRuntime>(&rt, rt.alloc(), Blank::new(MOST_ACTORS))
-}
-
-/// A book with this limit does not open.
-fn does_not_open<L: Ledger, R: Abort>(
-    rt: &R,
-    alloc: Global,
-    blank: Blank,
-    limit: usize,
-) -> Result<(), Fail>
-    requires name { blank.name ≡ L.name }
-    requires parts { blank.parts ≡ L.parts }
-    requires enough { 161 ≤ blank.parts }
-{
-    let certified = small_certified(alloc).ok_or("no tables")?;
-    let fault = Hub::<L>::open(alloc, blank, certified, limit).err();
-    assert!(rt; fault == Some(OpenFault::TraceLimit), "{limit}");
-    Ok(())
-}
-
-/// The same with a blank of its own.
-fn none_opens<R: Abort>(rt: &R, alloc: Global, limit: usize) -> Result<(), Fail> {
-    does_not_open::<Brand, R>(rt, alloc, Blank::new(MOST_ACTORS), limit)
-}
-
-/// A book of no entries, or of too many, does not open.
-#[test]
-fn a_trace_limit_is_1_to_16777216(rt: HostRuntime) -> Result<(), Fail> {
-    none_opens(&rt, rt.alloc(), 0)?;
-    none_opens(&rt, rt.alloc(), 16_777_217)
+    let certified = small_certified(rt.alloc()).ok_or("no tables")?;
+    certified.tables().valid();
+    two_words::<Brand, HostRuntime>(&rt, rt.alloc(), Blank::new(MOST_ACTORS), certified)
 }

@@ -1,18 +1,20 @@
 //! Calls that are made again where memory was refused. What each says is a line of the output.
 
-ghost use Rattle.std.specs.Prelude.{◌≡◌, ◌≤◌};
+ghost use Rattle.std.specs.Prelude.{◌≡◌};
 ghost use Rattle.dc_board.specs.Marks.{IsSeatOf};
+ghost use Rattle.dc_hub.specs.Opening.{IsCharterOf};
 ghost use Rattle.dc_hub_tests.specs.OfBoard.{AreOfBoard};
 
 use crate::fixture::small_certified;
 use dc_board::Board;
-use dc_hub::{CloseFault, Hub, HubFault, MOST_ACTORS, OpenFault, Seats, Watch, WireSeat};
+use dc_check::Certified;
+use dc_hub::{Charter, CloseFault, Hub, HubFault, MOST_ACTORS, OpenFault, Seats, Watch, WireSeat};
 use dc_word::Word;
 use std::alloc::Global;
 use std::io;
 use std::marker::Brand;
 use std::sync::Wait;
-use std::sync::ledger::{Blank, Ledger};
+use std::sync::ledger::Blank;
 
 /// A word of label 203.
 const WORD: Word = Word(0x600000C1);
@@ -37,7 +39,7 @@ pub fn board_again<R: Print>(rt: &R, alloc: Global) -> io::Result<()> {
 }
 
 /// A word arrives, and once more where memory was refused; the bus's mark is read each time.
-fn arrive_again<L: Ledger, R: Wait + Print>(
+fn arrive_again<L: Charter, R: Wait + Print>(
     rt: &R,
     hub: &Hub<L>,
     wire: &mut WireSeat<L>,
@@ -59,7 +61,7 @@ fn arrive_again<L: Ledger, R: Wait + Print>(
 }
 
 /// Closes the book.
-fn close<L: Ledger, R: Print>(rt: &R, hub: Hub<L>, seats: Seats<L>) -> io::Result<()> {
+fn close<L: Charter, R: Print>(rt: &R, hub: Hub<L>, seats: Seats<L>) -> io::Result<()> {
     match hub.close(seats) {
         Ok(closed) => println!(rt; "close: entries {}", closed.entries().len()),
         Err(CloseFault::SeatMissing) => println!(rt; "close: a seat is missing"),
@@ -68,7 +70,7 @@ fn close<L: Ledger, R: Print>(rt: &R, hub: Hub<L>, seats: Seats<L>) -> io::Resul
 }
 
 /// A word arrives, and the book closes.
-fn arrive_and_close<L: Ledger, R: Wait + Print>(
+fn arrive_and_close<L: Charter, R: Wait + Print>(
     rt: &R,
     hub: Hub<L>,
     mut seats: Seats<L>,
@@ -82,16 +84,16 @@ fn arrive_and_close<L: Ledger, R: Wait + Print>(
     close(rt, hub, seats)
 }
 
-/// Opens a hub over the small tables, has a word arrive and closes the book: whether memory was there for the first.
-fn hub_once<L: Ledger, R: Wait + Print>(rt: &R, alloc: Global, blank: Blank) -> io::Result<bool>
-    requires name { blank.name ≡ L.name }
-    requires parts { blank.parts ≡ L.parts }
-    requires enough { 161 ≤ blank.parts }
+/// Opens a hub over certified tables, has a word arrive and closes the book: whether memory was there for the first.
+fn hub_once<L: Charter, R: Wait + Print>(
+    rt: &R,
+    alloc: Global,
+    blank: Blank,
+    certified: Certified,
+) -> io::Result<bool>
+    requires blank { (blank.name ≡ L.name) × (blank.parts ≡ L.parts) }
+    requires charter { IsCharterOf L.certified L.limit L.whole L.parts certified 16 }
 {
-    let Some(certified) = small_certified(alloc) else {
-        println!(rt; "tables: memory")?;
-        return Ok(false);
-    };
     match Hub::<L>::open(alloc, blank, certified, 16) {
         Ok((hub, seats)) => {
             println!(rt; "open: ok")?;
@@ -102,16 +104,17 @@ fn hub_once<L: Ledger, R: Wait + Print>(rt: &R, alloc: Global, blank: Blank) -> 
             println!(rt; "open: memory")?;
             Ok(false)
         }
-        Err(OpenFault::TraceLimit) => {
-            println!(rt; "open: limit")?;
-            Ok(false)
-        }
     }
 }
 
-/// The same with a blank of its own.
+/// The same over the small tables, with a blank of its own.
 fn hub_of_a_blank<R: Wait + Print>(rt: &R, alloc: Global) -> io::Result<bool> {
-    hub_once::<Brand, R>(rt, alloc, Blank::new(MOST_ACTORS))
+    let Some(certified) = small_certified(alloc) else {
+        println!(rt; "tables: memory")?;
+        return Ok(false);
+    };
+    certified.tables().valid();
+    hub_once::<Brand, R>(rt, alloc, Blank::new(MOST_ACTORS), certified)
 }
 
 /// Opens a hub, and once more where memory was refused.

@@ -2,6 +2,8 @@
 
 ghost use Rattle.std.specs.Prelude.{◌≡◌, ◌≤◌, IfOk};
 ghost use Rattle.dc_board.specs.Marks.{IsSeatOf};
+ghost use Rattle.dc_hub.specs.Opening.{IsCharterOf};
+ghost use Rattle.dc_hub.specs.declared.limits.TheConstants.{LONGEST_TRACE};
 ghost use Rattle.dc_hub_tests.specs.OfBoard.{AreOfBoard};
 
 use crate::fixture::small_certified;
@@ -9,13 +11,15 @@ use dc_check::Certified;
 use dc_event::{Event, Reply};
 use dc_hub::laws::forge;
 use dc_hub::{
-    ClockSeat, CloseFault, Hub, HubFault, OutputSeat, Receipt, RouterSeat, Seats, WireSeat,
+    Charter, ClockSeat, CloseFault, Hub, HubFault, MOST_ACTORS, OutputSeat, Receipt, RouterSeat,
+    Seats, WireSeat,
 };
 use dc_word::Word;
 use std::alloc::Global;
+use std::marker::Brand;
 use std::process::Abort;
 use std::sync::Wait;
-use std::sync::ledger::{Blank, Ledger};
+use std::sync::ledger::Blank;
 use std::test::Fail;
 
 /// What is done to the seats before the book closes.
@@ -39,15 +43,14 @@ pub struct Summary {
 }
 
 /// A hub and its seats.
-pub fn opened<L: Ledger>(
+pub fn opened<L: Charter>(
     alloc: Global,
     blank: Blank,
     certified: Certified,
     limit: usize,
 ) -> Result<(Hub<L>, Seats<L>), Fail>
-    requires name { blank.name ≡ L.name }
-    requires parts { blank.parts ≡ L.parts }
-    requires enough { 161 ≤ blank.parts }
+    requires blank { (blank.name ≡ L.name) × (blank.parts ≡ L.parts) }
+    requires charter { IsCharterOf L.certified L.limit L.whole L.parts certified limit }
     ensures wires { IfOk result (λ r. AreOfBoard r.0 r.1.wires.items) }
     ensures watch { IfOk result (λ r. IsSeatOf r.0 r.1.watch) }
 {
@@ -58,7 +61,7 @@ pub fn opened<L: Ledger>(
 }
 
 /// A word arrives on a bus.
-pub fn arrive<L: Ledger, R: Wait>(
+pub fn arrive<L: Charter, R: Wait>(
     rt: &R,
     hub: &Hub<L>,
     wires: &mut Vec<WireSeat<L>>,
@@ -75,7 +78,7 @@ pub fn arrive<L: Ledger, R: Wait>(
 }
 
 /// A router makes a step.
-pub fn route<L: Ledger, R: Wait>(
+pub fn route<L: Charter, R: Wait>(
     rt: &R,
     hub: &Hub<L>,
     routers: &mut Vec<RouterSeat<L>>,
@@ -88,7 +91,7 @@ pub fn route<L: Ledger, R: Wait>(
 }
 
 /// An output makes a send step.
-pub fn send<L: Ledger, R: Wait>(
+pub fn send<L: Charter, R: Wait>(
     rt: &R,
     hub: &Hub<L>,
     outputs: &mut Vec<OutputSeat<L>>,
@@ -101,7 +104,7 @@ pub fn send<L: Ledger, R: Wait>(
 }
 
 /// The tick ends.
-pub fn tick<L: Ledger, R: Wait>(
+pub fn tick<L: Charter, R: Wait>(
     rt: &R,
     hub: &Hub<L>,
     clock: &mut Option<ClockSeat<L>>,
@@ -114,7 +117,7 @@ pub fn tick<L: Ledger, R: Wait>(
 
 /// A call by the seat whose event it is. Where there is no such seat it is answered as want of memory, which no trial
 /// wants.
-fn call<L: Ledger, R: Wait>(
+fn call<L: Charter, R: Wait>(
     rt: &R,
     hub: &Hub<L>,
     seats: &mut Seats<L>,
@@ -147,7 +150,7 @@ fn expected(calls: &mut u64, step: &(Event, Result<Reply, HubFault>)) -> Result<
 }
 
 /// Each call is answered as the step says, and the receipts have the indexes 1, 2, 3 and on.
-fn compare<L: Ledger, R: Wait + Abort>(
+fn compare<L: Charter, R: Wait + Abort>(
     rt: &R,
     hub: &Hub<L>,
     seats: &mut Seats<L>,
@@ -161,28 +164,36 @@ fn compare<L: Ledger, R: Wait + Abort>(
     }
 }
 
+/// The clock's last receipt, where it has one, is replaced by one that it was not given.
+fn forge_last<L: Charter>(clock: &mut ClockSeat<L>) {
+    if clock.seat().receipts().is_empty() {
+        return;
+    }
+    forge(
+        clock,
+        Receipt {
+            index: 3,
+            event: Event::Tick,
+            reply: Reply::Now(2),
+        },
+    );
+}
+
 /// Does to the seats what is done before the end.
-fn spoil<L: Ledger>(clock: &mut Option<ClockSeat<L>>, end: End) {
+fn spoil<L: Charter>(clock: &mut Option<ClockSeat<L>>, end: End) {
     match end {
         End::Whole => {}
         End::NoClock => *clock = None,
         End::Forged => {
             if let Some(clock) = clock {
-                forge(
-                    clock,
-                    Receipt {
-                        index: 3,
-                        event: Event::Tick,
-                        reply: Reply::Now(2),
-                    },
-                );
+                forge_last(clock);
             }
         }
     }
 }
 
 /// What the book holds once it is closed.
-fn closed<L: Ledger>(hub: Hub<L>, seats: Seats<L>) -> Result<Summary, CloseFault> {
+fn closed<L: Charter>(hub: Hub<L>, seats: Seats<L>) -> Result<Summary, CloseFault> {
     match hub.close(seats) {
         Ok(closed) => {
             let marks = closed.marks();
@@ -197,28 +208,38 @@ fn closed<L: Ledger>(hub: Hub<L>, seats: Seats<L>) -> Result<Summary, CloseFault
     }
 }
 
-/// A hub is opened, its calls are answered as the steps say, and it closes as is wanted.
-pub fn answers<L: Ledger, R: Wait + Abort>(
+/// A hub over these tables is opened, its calls are answered as the steps say, and it closes as is wanted.
+fn answers_by<L: Charter, R: Wait + Abort>(
     rt: &R,
     alloc: Global,
     blank: Blank,
+    certified: Certified,
     limit: usize,
     steps: &[(Event, Result<Reply, HubFault>)],
-    end: End,
-    wanted: Result<Summary, CloseFault>,
+    ending: (End, Result<Summary, CloseFault>),
 ) -> Result<(), Fail>
-    requires name { blank.name ≡ L.name }
-    requires parts { blank.parts ≡ L.parts }
-    requires enough { 161 ≤ blank.parts }
+    requires blank { (blank.name ≡ L.name) × (blank.parts ≡ L.parts) }
+    requires charter { IsCharterOf L.certified L.limit L.whole L.parts certified limit }
 {
-    let (hub, mut seats) = opened::<L>(
-        alloc,
-        blank,
-        small_certified(alloc).ok_or("no tables")?,
-        limit,
-    )?;
+    let (hub, mut seats) = opened::<L>(alloc, blank, certified, limit)?;
     compare(rt, &hub, &mut seats, steps);
-    spoil(&mut seats.clock, end);
-    assert!(rt; closed(hub, seats) == wanted);
+    spoil(&mut seats.clock, ending.0);
+    assert!(rt; closed(hub, seats) == ending.1);
     Ok(())
+}
+
+/// The same over the small tables.
+pub fn answers<R: Wait + Abort>(
+    rt: &R,
+    alloc: Global,
+    limit: usize,
+    steps: &[(Event, Result<Reply, HubFault>)],
+    ending: (End, Result<Summary, CloseFault>),
+) -> Result<(), Fail>
+    requires { (1 ≤ limit) × (limit ≤ LONGEST_TRACE) }
+{
+    let certified = small_certified(alloc).ok_or("no tables")?;
+    certified.tables().valid();
+    let blank = Blank::new(MOST_ACTORS);
+    answers_by::<Brand, R>(rt, alloc, blank, certified, limit, steps, ending)
 }

@@ -1,15 +1,17 @@
 //! Wires, routers, outputs and a clock in threads of their own, and a monitor beside them.
 
-ghost use Rattle.std.specs.Prelude.{◌≡◌, ◌≤◌};
+ghost use Rattle.std.specs.Prelude.{◌≡◌};
 ghost use Rattle.dc_board.specs.Marks.{IsSeatOf};
+ghost use Rattle.dc_hub.specs.Opening.{IsCharterOf};
 ghost use Rattle.dc_hub_tests.specs.OfBoard.{AreOfBoard};
 
 use crate::fixture::wide_certified;
 use crate::runs::{opened, tick};
+use dc_check::Certified;
 use dc_event::{Event, Reply};
 use dc_hub::{
-    ClockSeat, CloseFault, Closed, Entry, Hub, MOST_ACTORS, OutputSeat, RouterSeat, Seats, Watch,
-    WireSeat,
+    Charter, ClockSeat, CloseFault, Closed, Entry, Hub, MOST_ACTORS, OutputSeat, RouterSeat, Seats,
+    Watch, WireSeat,
 };
 use dc_oracle::{keeps_budgets, outputs};
 use dc_word::Word;
@@ -18,7 +20,7 @@ use std::marker::Brand;
 use std::process::Abort;
 use std::rt::HostRuntime;
 use std::sync::Wait;
-use std::sync::ledger::{Blank, Ledger};
+use std::sync::ledger::Blank;
 use std::test::Fail;
 use std::thread;
 use std::thread::Threads;
@@ -36,7 +38,7 @@ fn word_of(round: u32) -> Word {
 }
 
 /// A word on the wire's bus, round after round.
-fn run_wire<L: Ledger, R: Wait>(rt: &R, hub: &Hub<L>, mut wire: WireSeat<L>) -> WireSeat<L>
+fn run_wire<L: Charter, R: Wait>(rt: &R, hub: &Hub<L>, mut wire: WireSeat<L>) -> WireSeat<L>
     requires { IsSeatOf hub.now wire.marks }
 {
     for round in 0..ROUNDS {
@@ -47,7 +49,7 @@ fn run_wire<L: Ledger, R: Wait>(rt: &R, hub: &Hub<L>, mut wire: WireSeat<L>) -> 
 }
 
 /// A router's steps.
-fn run_router<L: Ledger, R: Wait>(
+fn run_router<L: Charter, R: Wait>(
     rt: &R,
     hub: &Hub<L>,
     mut router: RouterSeat<L>,
@@ -60,7 +62,7 @@ fn run_router<L: Ledger, R: Wait>(
 }
 
 /// An output's send steps.
-fn run_output<L: Ledger, R: Wait>(
+fn run_output<L: Charter, R: Wait>(
     rt: &R,
     hub: &Hub<L>,
     mut output: OutputSeat<L>,
@@ -73,7 +75,7 @@ fn run_output<L: Ledger, R: Wait>(
 }
 
 /// Ticks, which are refused while a router owes a step.
-fn run_clock<L: Ledger, R: Wait>(
+fn run_clock<L: Charter, R: Wait>(
     rt: &R,
     hub: &Hub<L>,
     mut clock: Option<ClockSeat<L>>,
@@ -86,7 +88,7 @@ fn run_clock<L: Ledger, R: Wait>(
 }
 
 /// Reads of all buses: whether an answer fell.
-fn monitor<L: Ledger>(hub: &Hub<L>, mut watch: Watch) -> bool
+fn monitor<L: Charter>(hub: &Hub<L>, mut watch: Watch) -> bool
     requires { IsSeatOf hub.now watch }
 {
     let mut seen = [0u64; 64];
@@ -103,7 +105,7 @@ fn monitor<L: Ledger>(hub: &Hub<L>, mut watch: Watch) -> bool
 }
 
 /// Each wire in a thread of its own.
-fn run_wires<L: Ledger + Send + Sync, R: Threads + Wait + Sync>(
+fn run_wires<L: Charter + Send + Sync, R: Threads + Wait + Sync>(
     rt: &R,
     hub: &Hub<L>,
     wires: Vec<WireSeat<L>>,
@@ -120,7 +122,7 @@ fn run_wires<L: Ledger + Send + Sync, R: Threads + Wait + Sync>(
 }
 
 /// Each router in a thread of its own.
-fn run_routers<L: Ledger + Send + Sync, R: Threads + Wait + Sync>(
+fn run_routers<L: Charter + Send + Sync, R: Threads + Wait + Sync>(
     rt: &R,
     hub: &Hub<L>,
     routers: Vec<RouterSeat<L>>,
@@ -133,7 +135,7 @@ fn run_routers<L: Ledger + Send + Sync, R: Threads + Wait + Sync>(
 }
 
 /// Each output in a thread of its own.
-fn run_outputs<L: Ledger + Send + Sync, R: Threads + Wait + Sync>(
+fn run_outputs<L: Charter + Send + Sync, R: Threads + Wait + Sync>(
     rt: &R,
     hub: &Hub<L>,
     outputs: Vec<OutputSeat<L>>,
@@ -146,7 +148,7 @@ fn run_outputs<L: Ledger + Send + Sync, R: Threads + Wait + Sync>(
 }
 
 /// Wires and routers at once.
-fn run_inputs<L: Ledger + Send + Sync, R: Threads + Wait + Sync>(
+fn run_inputs<L: Charter + Send + Sync, R: Threads + Wait + Sync>(
     rt: &R,
     hub: &Hub<L>,
     wires: Vec<WireSeat<L>>,
@@ -165,7 +167,7 @@ fn run_inputs<L: Ledger + Send + Sync, R: Threads + Wait + Sync>(
 }
 
 /// Outputs and the clock at once.
-fn run_sends<L: Ledger + Send + Sync, R: Threads + Wait + Sync>(
+fn run_sends<L: Charter + Send + Sync, R: Threads + Wait + Sync>(
     rt: &R,
     hub: &Hub<L>,
     outputs: Vec<OutputSeat<L>>,
@@ -180,7 +182,7 @@ fn run_sends<L: Ledger + Send + Sync, R: Threads + Wait + Sync>(
 }
 
 /// All actors at once. The watch is not used.
-fn run_actors<L: Ledger + Send + Sync, R: Threads + Wait + Sync>(
+fn run_actors<L: Charter + Send + Sync, R: Threads + Wait + Sync>(
     rt: &R,
     hub: &Hub<L>,
     seats: Seats<L>,
@@ -213,7 +215,7 @@ fn run_actors<L: Ledger + Send + Sync, R: Threads + Wait + Sync>(
 }
 
 /// All actors and a monitor beside them: the seats, and whether an answer of the monitor fell.
-fn run_seats<L: Ledger + Send + Sync, R: Threads + Wait + Sync>(
+fn run_seats<L: Charter + Send + Sync, R: Threads + Wait + Sync>(
     rt: &R,
     hub: &Hub<L>,
     mut seats: Seats<L>,
@@ -286,16 +288,15 @@ fn judge_closed<R: Abort>(
 }
 
 /// All threads run, the book closes, and its entries are judged.
-fn run_all<L: Ledger + Send + Sync, R: Threads + Wait + Abort + Sync>(
+fn run_all<L: Charter + Send + Sync, R: Threads + Wait + Abort + Sync>(
     rt: &R,
     alloc: Global,
     blank: Blank,
+    certified: Certified,
 ) -> Result<(), Fail>
-    requires name { blank.name ≡ L.name }
-    requires parts { blank.parts ≡ L.parts }
-    requires enough { 161 ≤ blank.parts }
+    requires blank { (blank.name ≡ L.name) × (blank.parts ≡ L.parts) }
+    requires charter { IsCharterOf L.certified L.limit L.whole L.parts certified 1000000 }
 {
-    let certified = wide_certified(alloc).ok_or("no tables")?;
     let (hub, seats) = opened::<L>(alloc, blank, certified, 1_000_000)?;
     let (seats, fell) = run_seats(rt, &hub, seats);
     assert!(rt; !fell);
@@ -304,5 +305,7 @@ fn run_all<L: Ledger + Send + Sync, R: Threads + Wait + Abort + Sync>(
 
 #[test]
 fn actors_run_in_threads(rt: HostRuntime) -> Result<(), Fail> {
-    run_all::<Brand, HostRuntime>(&rt, rt.alloc(), Blank::new(MOST_ACTORS))
+    let certified = wide_certified(rt.alloc()).ok_or("no tables")?;
+    certified.tables().valid();
+    run_all::<Brand, HostRuntime>(&rt, rt.alloc(), Blank::new(MOST_ACTORS), certified)
 }

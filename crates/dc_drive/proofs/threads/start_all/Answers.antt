@@ -1,7 +1,7 @@
-use Rattle.std.proofs.Common.{◌++◌, append-nil, subst, ap, ◌∙◌, arith}
+use Rattle.std.proofs.Common.{◌≡◌, ◌++◌, append-nil, subst, ap, ◌∙◌, arith}
 use Rattle.std.specs.Prelude.{All}
 use Rattle.dc_drive.specs.Played.{out_with}
-use Rattle.dc_drive.proofs.Same.{all-before, all-last, all-eq, handed, hubs-more, nothing-out, refused}
+use Rattle.dc_drive.proofs.Same.{all-before, all-last, all-eq, all-more, handed, nothing-out, refused}
 use Rattle.dc_drive.proofs.threads.start_all.Goals as goal
 
 pub returns-in_err-started-clause-same : goal.returns-in_err-started-clause-same
@@ -18,7 +18,7 @@ loop-seat-preserved g c =
       handed c.loop-seat.children.items c.push_reserved.new.self.items c.in-Ok.child (λ h. h.promise.seat.value) c.args.seats.now.items c.loop-seat.seats.items c.pop.new.self.items c.in-Some.seat
           before.0 c.in-Some.ensures.items c.push_reserved.ensures.items c.in-Ok.ensures.ok.0,
       all-before (g.S.Player.is_of c.args.hub.now) c.pop.new.self.items c.in-Some.seat (subst (All (g.S.Player.is_of c.args.hub.now)) c.in-Some.ensures.items before.1),
-      hubs-more c.loop-seat.children.items c.push_reserved.new.self.items c.in-Ok.child (λ h. h.promise.hub.value) c.args.hub.now before.2 c.in-Ok.ensures.ok.1 c.push_reserved.ensures.items,
+      all-more (λ h. (h.promise.hub.value ≡ c.args.hub.now) × (h.promise.gate.value ≡ c.args.stage.now.gate.now)) c.loop-seat.children.items c.push_reserved.new.self.items c.in-Ok.child before.2 (c.in-Ok.ensures.ok.1, c.in-Ok.ensures.ok.2) c.push_reserved.ensures.items,
       omega (arith, before.3, c.in-Some.ensures.len, c.push_reserved.ensures.len),
       omega (arith, before.4, c.push_reserved.ensures.capacity),
       omega (arith, before.5, c.pop.ensures.capacity),

@@ -1,0 +1,7 @@
+use Rattle.std.proofs.Common.{sym}
+use Rattle.dc_event.specs.declared.event.Event.TheVariants.{Send}
+use Rattle.dc_hub.proofs.Lasts.{by_actor}
+use Rattle.dc_hub.proofs.hub.Hub.send.Goals as goal
+
+pub returns-clause-err : goal.returns-clause-err
+returns-clause-err g c = by_actor g.L.Charter.certified g.L.Charter.limit c.seat.inside.seat c.args.seat.now (Send c.seat.inside.output) c.act.result c.seat.view_is (sym c.seat.invariant) c.act.ensures.err
