@@ -1,16 +1,21 @@
-# `make run` shows the main job, `make build` proves and builds the program, `make test` is the whole gate, `make trials` tries the
-# built program.
+# `make run` shows the main job and `make quick` any other, with no proof; `make build` proves and builds the program, `make test` is
+# the whole gate, `make trials` tries the built program, `make rows` some of its rows.
 
 RT := rt
 
 # How many crates are proved side by side by `make build`: one a processor, at most four. Each takes 1 to 4 GB.
 JOBS := $(shell n=$$(nproc 2>/dev/null || echo 1); [ "$$n" -lt 4 ] || n=4; echo $$n)
 
-.PHONY: run build test trials edits edits-apply
+.PHONY: run quick build test trials rows edits edits-apply
 
 # Decodes one word, with no proof: about a minute from a fresh clone.
 run:
 	@cd crates/dc429 && $(RT) try -- decode bnr < stdin
+
+# Any command on any files, with no proof: make quick ARGS="check examples/small.toml examples/small-certificate.json". Standard
+# input is the command's, as in: make quick ARGS="replay examples/small.toml --all" < examples/small.trace
+quick:
+	@RT=$(RT) scripts/quick $(ARGS)
 
 # The proved program, at build/dc429: first the libraries that it stands on, side by side.
 build:
@@ -29,6 +34,10 @@ trials: $(addprefix try-,rows chance crowds largest audits edges hostile pages r
 
 try-%:
 	@scripts/$*
+
+# The built program on the rows of rows/ whose file or name has a word, as make rows ONLY=replay; with no word on all. No proof.
+rows:
+	@scripts/rows $(if $(ONLY),--only '$(ONLY)')
 
 # The edits outside the gate, of one crate or of all: the prover must refuse each.
 edits:
