@@ -3,9 +3,12 @@ mod Closes
 mod Counts
 mod Each
 mod Faults
+mod Frees
+mod Honest
 mod Lasts
 mod Legal
 mod Marks
+mod Moves
 mod Opens
 mod Places
 mod Receipts

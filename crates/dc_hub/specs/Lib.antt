@@ -2,3 +2,4 @@ pub mod Entries
 pub mod Views
 pub mod Closing
 pub mod Opening
+pub mod Histories

@@ -1,6 +1,7 @@
 //! What the types of one hub know.
 
 ghost use Rattle.std.specs.Prelude.{◌≡◌, ℕ, Option, None};
+ghost use Rattle.atomic_table.specs.Seated.{TableId};
 ghost use Rattle.dc_check.specs.declared.certified.Certified.{Certified};
 
 use std::marker::{Brand, PhantomData};
@@ -17,6 +18,9 @@ pub trait Charter: Ledger {
 
     /// How many parts the count has.
     ghost whole: { ℕ };
+
+    /// The history; it is there.
+    ghost history: { Option TableId };
 }
 
 impl Charter for Brand {
@@ -25,6 +29,8 @@ impl Charter for Brand {
     ghost limit = { 0 };
 
     ghost whole = { 0 };
+
+    ghost history = { None };
 }
 
 /// That the charter knows all parts of its ledger.
