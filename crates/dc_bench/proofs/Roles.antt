@@ -1,22 +1,23 @@
 -- A closed book holds what each actor was to make, and why a hub has refused.
-use Rattle.std.proofs.Common.{◌≡◌, ◌≢◌, ℕ, zero, suc, ◌+◌, ◌<◌, Bool, true, false, cond, Option, Some, None, List, [], ◌∷◌, length, get_or, IfSome, refl, sym, ap, subst, ◌∙◌, arith, inl, inr}
+use Rattle.std.proofs.Common.{◌≡◌, ◌≢◌, ℕ, ◌+◌, ◌<◌, Bool, true, false, cond, Option, Some, None, List, [], ◌∷◌, length, get_or, IfSome, refl, sym, ap, subst, ◌∙◌, arith, inl, inr}
 use Rattle.std.specs.Prelude.{slice_get}
 use Rattle.std.proofs.lemmas.Option.{slice_get-get_or}
 use Rattle.dc_bench.specs.Bench.{HasRefused, WentAstray}
 use Rattle.dc_check.specs.Lent.{tables_of}
 use Rattle.dc_check.specs.declared.certified.Certified.{Certified}
-use Rattle.dc_drive.specs.Played.{AllPlayed, AreSame, IsSameSeat, HaveRoles, IsDriven, events as events_in, itself, own, role}
+use Rattle.dc_drive.specs.Played.{AllPlayed, HaveRoles, IsDriven, events as events_in, own, role}
 use Rattle.dc_drive.specs.Refusals.{HaltsAs, MayStickAt}
 use Rattle.dc_drive.specs.declared.fault.DriveFault.{DriveFault}
 use Rattle.dc_drive.specs.declared.fault.DriveFault.TheVariants as drive
 use Rattle.dc_event.specs.declared.event.Actor.{Actor}
 use Rattle.dc_event.specs.declared.event.Actor.TheVariants.{Clock}
 use Rattle.dc_event.specs.declared.event.Event.{Event}
-use Rattle.dc_hub.specs.Closing.{is_by, receipts_from, actor_at, actor_count, AreOneEach, AllAgree, AllGenuine}
+use Rattle.dc_hub.specs.Closing.{is_by, receipts_from, actor_at, actor_count, AreOneEach, AllAgree, IsCloseFault}
 use Rattle.dc_hub.specs.Entries.{events}
-use Rattle.dc_hub.specs.Views.{ClosedView, SeatView, AreTablesOf, unused}
+use Rattle.dc_hub.specs.Views.{BookView, ClosedView, SeatView, WireView, IsBookOf, AreTablesOf, unused}
 use Rattle.dc_hub.specs.declared.entry.Entry.{Entry}
 use Rattle.dc_hub.specs.declared.entry.Receipt.{Receipt}
+use Rattle.dc_hub.specs.declared.fault.CloseFault.{CloseFault}
 use Rattle.dc_hub.specs.declared.fault.HubFault.{HubFault}
 use Rattle.dc_hub.specs.declared.fault.HubFault.TheVariants as hub
 use Rattle.dc_hub.specs.declared.limits.TheConstants.{LONGEST_TRACE}
@@ -51,6 +52,19 @@ closed_driven known c ticks seats is roles each agree =
 
 -- ---- why a hub has refused
 
+-- its book did not close
+pub unclosed : (known : Option Certified) (limit ticks : ℕ) (book : BookView) (seats : List SeatView) (fault : CloseFault) → limit ≡ LONGEST_TRACE → IsBookOf known limit book → IsCloseFault (tables_of book.certified) book.entries seats fault
+    → IfSome known (λ c. HasRefused c ticks)
+unclosed known limit ticks book seats fault is of_hub why =
+    subst (λ o. IfSome o (λ c. HasRefused c ticks)) (sym of_hub.certified_is)
+    (inr (inr (record {
+      book = book;
+      seats = seats;
+      fault = fault;
+      of_hub = subst (λ n. IsBookOf (Some book.certified) n book) is (subst (λ o. IsBookOf o limit book) of_hub.certified_is of_hub);
+      fault_is = why;
+    })))
+
 -- a call was refused, or a seat went astray
 pub refused : (known : Option Certified) (limit ticks : ℕ) (stuck : Type 0) (fault : HubFault) → limit ≡ LONGEST_TRACE → fault ≢ hub.Memory → (drive.Hub fault ≢ drive.Hub hub.Astray → HaltsAs known limit stuck (drive.Hub fault))
     → (drive.Hub fault ≡ drive.Hub hub.Astray → IfSome known (λ c. WentAstray (tables_of c) (bench_script (tables_of c) ticks))) → IfSome known (λ c. HasRefused c ticks)
@@ -58,7 +72,7 @@ refused None limit ticks stuck fault is not told astray = tt
 refused (Some c) limit ticks stuck (hub.Step f) is not told astray = inl (hub.Step f, not, subst (λ n. HaltsAs (Some c) n stuck (drive.Hub (hub.Step f))) is (told (λ e. absurd (cc))))
 refused (Some c) limit ticks stuck hub.TraceFull is not told astray = inl (hub.TraceFull, not, subst (λ n. HaltsAs (Some c) n stuck (drive.Hub hub.TraceFull)) is (told (λ e. absurd (cc))))
 refused (Some c) limit ticks stuck hub.Memory is not told astray = absurd (not refl)
-refused (Some c) limit ticks stuck hub.Astray is not told astray = inr (astray refl)
+refused (Some c) limit ticks stuck hub.Astray is not told astray = inr (inl (astray refl))
 
 -- an open gate is never stuck
 pub never_stuck : (known : Option Certified) (limit : ℕ) (fault : DriveFault) → HaltsAs known limit (MayStickAt (λ _. ⊥)) fault → HaltsAs known limit ⊥ fault
@@ -72,34 +86,3 @@ pub of_known : (P : TableRows → ScriptView → Type 0) (known : Option Certifi
 of_known P known t s ticks are is so =
     subst (λ o. IfSome o (λ c. P (tables_of c) (bench_script (tables_of c) ticks))) (sym are.1)
     (subst (λ u. P u (bench_script u ticks)) (sym are.2) (subst (P t) is so))
-
--- ---- seats that are the same, with more receipts behind their own
-
-slot : (xs ys : List SeatView) → AreSame itself xs ys → (p : ℕ) (y : SeatView) → slice_get ys p ≡ Some y → (x : SeatView) × (slice_get xs p ≡ Some x) × IsSameSeat x y
-slot [] [] same p y there = absurd (cc)
-slot [] (z ∷ ys) same p y there = absurd same
-slot (x ∷ xs) [] same p y there = absurd same
-slot (x ∷ xs) (z ∷ ys) same zero y there = (x, refl, subst (IsSameSeat x) (ap (λ (o : Option SeatView). given o) there) same.0)
-slot (x ∷ xs) (z ∷ ys) same (suc p) y there = slot xs ys same.1 p y there
-  where
-    given : Option SeatView → SeatView
-    given (Some s) = s
-    given None = x
-
-as-many : (xs ys : List SeatView) → AreSame itself xs ys → length ys ≡ length xs
-as-many [] [] same = refl
-as-many [] (y ∷ ys) same = absurd same
-as-many (x ∷ xs) [] same = absurd same
-as-many (x ∷ xs) (y ∷ ys) same = ap suc (as-many xs ys same.1)
-
--- they are one for each actor
-pub still_each : (t : TableRows) (xs ys : List SeatView) → AreSame itself xs ys → AreOneEach t xs → AreOneEach t ys
-still_each t xs ys same each = (as-many xs ys same ∙ each.0, λ p y there. let at = slot xs ys same p y there in at.2.0 ∙ each.1 p at.0 at.1)
-
--- none was forged
-pub still_genuine : (xs ys : List SeatView) → AreSame itself xs ys → AllGenuine xs → AllGenuine ys
-still_genuine xs ys same genuine = λ p y there. let at = slot xs ys same p y there in at.2.2 ∙ genuine p at.0 at.1
-
--- what is so of these tables is so of the charter's
-pub of_tables : (P : TableRows → Type 0) (known : Option Certified) (t : TableRows) → AreTablesOf known t → P t → IfSome known (λ c. P (tables_of c))
-of_tables P known t are so = subst (λ o. IfSome o (λ c. P (tables_of c))) (sym are.1) (subst P (sym are.2) so)

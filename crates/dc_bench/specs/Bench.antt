@@ -10,7 +10,9 @@ use Rattle.dc_drive.specs.Played.{AllPlayed, IsDriven}
 use Rattle.dc_drive.specs.Refusals.{IsRefused}
 use Rattle.dc_event.specs.Breaks.{BreaksClaimsAt}
 use Rattle.dc_hub.specs.Entries.{IsLegal, events, overruns_in}
-use Rattle.dc_hub.specs.Views.{ClosedView, SeatView, WireView}
+use Rattle.dc_hub.specs.Closing.{IsCloseFault}
+use Rattle.dc_hub.specs.Views.{BookView, ClosedView, SeatView, WireView, IsBookOf}
+use Rattle.dc_hub.specs.declared.fault.CloseFault.{CloseFault}
 use Rattle.dc_hub.specs.declared.fault.HubFault.{HubFault}
 use Rattle.dc_hub.specs.declared.fault.HubFault.TheVariants.{Memory}
 use Rattle.dc_hub.specs.declared.limits.TheConstants.{LONGEST_TRACE}
@@ -62,11 +64,19 @@ pub record WentAstray (t : TableRows) (s : ScriptView) : Type 0 where
   pub clock' : Option SeatView
   pub astray : ¬ AllPlayed t s wires wires' routers routers' outputs outputs' clock clock'
 
--- why the hub over certified tables is told to have refused: a call of it was refused, and not for memory, or a seat\'s steps were not its own
+-- a book of the hub did not close over some seats
+pub record DidNotClose (certified : Certified) : Type 0 where
+  pub book : BookView
+  pub seats : List SeatView
+  pub fault : CloseFault
+  pub of_hub : IsBookOf (Some certified) LONGEST_TRACE book
+  pub fault_is : IsCloseFault (tables_in certified) book.entries seats fault
+
+-- why the hub over certified tables is told to have refused: a call of it was refused, and not for memory, a seat's steps were not its own, or its book did not close
 abbrev pub HasRefused : Certified → ℕ → Type 0
 HasRefused certified ticks =
     ((fault : HubFault) × (fault ≢ Memory) × IsRefused (Some certified) LONGEST_TRACE fault)
-    ⊎ WentAstray (tables_in certified) (bench_script (tables_in certified) ticks)
+    ⊎ (WentAstray (tables_in certified) (bench_script (tables_in certified) ticks) ⊎ DidNotClose certified)
 
 -- what is printed then
 abbrev pub hub_refused : Answer

@@ -1,5 +1,5 @@
 //! A hub over certified tables that runs and closes, and what is seen of its book.
-ghost use Rattle.std.specs.Prelude.{◌≡◌, ◌≢◌, ◌⊎◌, ℕ, List, [], ◌∷◌, ◌++◌, ◌+◌, ◌<◌, ◌≤◌, IfErr, IfOk, IfSome, IsSome, Ok, Err, codes, decimal, length, Some};
+ghost use Rattle.std.specs.Prelude.{◌≡◌, ◌≢◌, ◌⊎◌, ℕ, List, [], ◌∷◌, ◌++◌, ◌+◌, ◌<◌, ◌≤◌, IfErr, IfOk, IfSome, IsSome, Ok, Err, codes, decimal, length};
 ghost use Rattle.arrayvec.specs.ArrayVec.{array_vec_len};
 ghost use Rattle.dc_answer.specs.Judging.{Judged};
 ghost use Rattle.dc_answer.specs.declared.exit.Outcome.TheVariants.{Refused as WasRefused};
@@ -8,7 +8,7 @@ ghost use Rattle.dc_check.specs.Lent.{tables_of};
 ghost use Rattle.dc_device.specs.Lines.{spelled};
 ghost use Rattle.dc_drive.specs.Played.{AreOfHub, HaveRoles, IsDriven};
 ghost use Rattle.dc_drive.specs.Refusals.{HaltsAs};
-ghost use Rattle.dc_hub.specs.Closing.{all_seats, AllGenuine, AreOneEach};
+ghost use Rattle.dc_hub.specs.Closing.{all_seats};
 ghost use Rattle.dc_hub.specs.Entries.{events as events_in};
 ghost use Rattle.dc_hub.specs.Opening.{IsCharterOf};
 ghost use Rattle.dc_hub.specs.Views.{AreTablesOf, receipts_in};
@@ -25,9 +25,7 @@ use dc_check::Certified;
 use dc_checkpar::Open;
 use dc_drive::{DriveFault, drive};
 use dc_event::{Claim, Event};
-use dc_hub::{
-    Charter, Closed, Entry, History, Hub, HubFault, LONGEST_TRACE, MOST_ACTORS, OpenFault, Seats,
-};
+use dc_hub::{Charter, Closed, Entry, Hub, HubFault, LONGEST_TRACE, MOST_ACTORS, OpenFault, Seats};
 use dc_oracle::claims;
 use dc_print::{Text, append, append_number};
 use dc_script::Script;
@@ -139,7 +137,7 @@ fn judge_book(
     }
 }
 
-// Prints that the hub refused.
+// Prints that the hub refused: a call, or to close.
 fn refuse_hub<L: Charter>(ticks: u64, text: &mut Text) -> Outcome
     requires { IfSome L.certified (λ c. HasRefused c ticks) }
     ensures answer { IfSome L.certified (λ c. Judged (AnswersRun c ticks) text.new.items (Ok result)) }
@@ -159,15 +157,13 @@ fn close_hub<L: Charter>(
     text: &mut Text,
 ) -> Result<Outcome, Failure>
     requires limit { L.limit ≡ LONGEST_TRACE }
-    requires each { IfSome L.certified (λ c. AreOneEach (tables_of c) (all_seats seats.wires.items seats.routers.items seats.outputs.items seats.clock)) }
-    requires genuine { AllGenuine (all_seats seats.wires.items seats.routers.items seats.outputs.items seats.clock) }
     requires roles { IfSome L.certified (λ c. HaveRoles (tables_of c) (bench_script (tables_of c) ticks) (all_seats seats.wires.items seats.routers.items seats.outputs.items seats.clock)) }
     ensures answer { IfSome L.certified (λ c. Judged (AnswersRun c ticks) text.new.items result) }
     ensures memory { IfErr result (λ e. e ≡ Failure.Memory) }
 {
     match hub.close(seats) {
         Ok(closed) => judge_book(alloc, ticks, &closed, text),
-        Err(_) => unreachable!(),
+        Err(_) => Ok(refuse_hub::<L>(ticks, text)),
     }
 }
 
@@ -223,8 +219,6 @@ fn drive_hub<L: Charter + Send + Sync, R: Threads + Wait + Sync>(
     requires script { script.now ≡ bench_script tables.now script.now.ticks }
     requires of_hub { AreOfHub hub seats.wires.items }
     requires clock { IsSome seats.clock }
-    requires each { AreOneEach tables.now (all_seats seats.wires.items seats.routers.items seats.outputs.items seats.clock) }
-    requires genuine { AllGenuine (all_seats seats.wires.items seats.routers.items seats.outputs.items seats.clock) }
     requires unused { receipts_in (all_seats seats.wires.items seats.routers.items seats.outputs.items seats.clock) ≡ 0 }
     ensures answer { IfOk result (λ judged. IfSome L.certified (λ c. Judged (AnswersRun c script.now.ticks) text.new.items judged)) }
     ensures memory { IfOk result (λ judged. IfErr judged (λ e. e ≡ Failure.Memory)) }
@@ -239,22 +233,20 @@ fn drive_hub<L: Charter + Send + Sync, R: Threads + Wait + Sync>(
 fn run_hub<L: Charter + Send + Sync, R: Threads + Wait + Sync>(
     rt: &R,
     alloc: Global,
-    fresh: (Blank, History),
+    blank: Blank,
     tables: &Tables,
     script: &Script,
     certified: Certified,
     text: &mut Text,
 ) -> Result<Result<Outcome, Failure>, NoThread>
-    requires blank { (fresh.0.name ≡ L.name) × (fresh.0.parts ≡ L.parts) }
-    requires history { L.history ≡ Some fresh.1 }
+    requires blank { (blank.name ≡ L.name) × (blank.parts ≡ L.parts) }
     requires charter { IsCharterOf L.certified L.limit L.whole L.parts certified LONGEST_TRACE }
     requires tables { tables_of certified ≡ tables.now }
     requires script { script.now ≡ bench_script tables.now script.now.ticks }
     ensures answer { IfOk result (Judged (AnswersRun certified script.now.ticks) text.new.items) }
     ensures memory { IfOk result (λ judged. IfErr judged (λ e. e ≡ Failure.Memory)) }
 {
-    let (blank, history) = fresh;
-    match Hub::<L>::open(alloc, blank, history, certified, LONGEST_TRACE) {
+    match Hub::<L>::open(alloc, blank, certified, LONGEST_TRACE) {
         Ok((hub, seats)) => drive_hub(rt, alloc, tables, script, hub, seats, text),
         Err(OpenFault::Memory) => Ok(Err(Failure::Memory)),
     }
@@ -276,14 +268,11 @@ pub fn run_certified<R: Threads + Wait + Sync>(
     ensures memory { IfOk result (λ judged. IfErr judged (λ e. e ≡ Failure.Memory)) }
 {
     certified.tables().valid();
-    let Ok(history) = History::new(alloc) else {
-        return Ok(Err(Failure::Memory));
-    };
     match Script::bench(alloc, tables, ticks) {
         Ok(script) => run_hub::<Brand, R>(
             rt,
             alloc,
-            (Blank::new(MOST_ACTORS), history),
+            Blank::new(MOST_ACTORS),
             tables,
             &script,
             certified,

@@ -1,18 +1,17 @@
 -- Seats that stay the same, with more receipts behind their own.
-use Rattle.std.proofs.Common.{◌≡◌, suc, Option, Some, None, List, [], ◌∷◌, ◌++◌, map, reverse, append-nil, append_assoc, refl, sym, ap, subst, ◌∙◌}
+use Rattle.std.proofs.Common.{◌≡◌, suc, List, [], ◌∷◌, ◌++◌, map, reverse, append-nil, append_assoc, refl, sym, ap, subst, ◌∙◌}
 use Rattle.std.specs.Prelude.{All, length}
 use Rattle.std.proofs.lemmas.List.{map-append, reverse-append, nil_from_length}
 use Rattle.std.proofs.lemmas.List.Elements.{All-push, All-head, All-tail, All-nil, All-cons}
-use Rattle.dc_drive.specs.Played.{IsSameSeat, AreSame, IsSameClock, counts, itself, out_with, seat_of_wire}
-use Rattle.dc_hub.specs.Closing.{all_seats, clock_seats}
-use Rattle.dc_hub.specs.Views.{SeatView, WireView}
+use Rattle.dc_drive.specs.Played.{IsSameSeat, AreSame, counts, out_with}
+use Rattle.dc_hub.specs.Views.{SeatView}
 
 pub same-self : (s : SeatView) → IsSameSeat s s
-same-self s = (refl, refl, refl, ([], sym (append-nil s.receipts)))
+same-self s = (refl, refl, ([], sym (append-nil s.receipts)))
 
 pub same-trans : (s t u : SeatView) → IsSameSeat s t → IsSameSeat t u → IsSameSeat s u
 same-trans s t u a b =
-    (b.0 ∙ a.0, b.1 ∙ a.1, b.2 ∙ a.2, (a.3.0 ++ b.3.0, b.3.1 ∙ ap (λ rs. rs ++ b.3.0) a.3.1 ∙ append_assoc s.receipts a.3.0 b.3.0))
+    (b.0 ∙ a.0, b.1 ∙ a.1, (a.2.0 ++ b.2.0, b.2.1 ∙ ap (λ rs. rs ++ b.2.0) a.2.1 ∙ append_assoc s.receipts a.2.0 b.2.0))
 
 pub all_self : {X : Type 0} (f : X → SeatView) (xs : List X) → AreSame f xs xs
 all_self f [] = tt
@@ -83,32 +82,6 @@ all-fewer P hs hs' h all popped = all-before P hs' h (subst (All P) popped all)
 
 pub one-last : {H : Type 0} (P : H → Type 0) (hs hs' : List H) (h : H) → All P hs → hs ≡ hs' ++ h ∷ [] → P h
 one-last P hs hs' h all popped = all-last P hs' h (subst (All P) popped all)
-
--- lists of seats one behind another
-same-append : {X : Type 0} (f : X → SeatView) (xs ys xs' ys' : List X) → AreSame f xs ys → AreSame f xs' ys' → AreSame f (xs ++ xs') (ys ++ ys')
-same-append f [] [] xs' ys' a b = b
-same-append f [] (y ∷ ys) xs' ys' a b = absurd a
-same-append f (x ∷ xs) [] xs' ys' a b = absurd a
-same-append f (x ∷ xs) (y ∷ ys) xs' ys' a b = (a.0, same-append f xs ys xs' ys' a.1 b)
-
-plain : {X : Type 0} (f : X → SeatView) (xs ys : List X) → AreSame f xs ys → AreSame itself (map f xs) (map f ys)
-plain f [] [] a = tt
-plain f [] (y ∷ ys) a = absurd a
-plain f (x ∷ xs) [] a = absurd a
-plain f (x ∷ xs) (y ∷ ys) a = (a.0, plain f xs ys a.1)
-
-of-clocks : (c d : Option SeatView) → IsSameClock c d → AreSame itself (clock_seats c) (clock_seats d)
-of-clocks None None a = tt
-of-clocks None (Some d) a = absurd a
-of-clocks (Some c) None a = absurd a
-of-clocks (Some c) (Some d) a = (a, tt)
-
--- all seats
-pub same-all : (wires wires' : List WireView) (routers routers' outputs outputs' : List SeatView) (clock clock' : Option SeatView) → AreSame seat_of_wire wires wires' → AreSame itself routers routers' → AreSame itself outputs outputs' → IsSameClock clock clock'
-    → AreSame itself (all_seats wires routers outputs clock) (all_seats wires' routers' outputs' clock')
-same-all wires wires' routers routers' outputs outputs' clock clock' ws rs os c =
-    same-append itself (map seat_of_wire wires) (map seat_of_wire wires') (routers ++ (outputs ++ clock_seats clock)) (routers' ++ (outputs' ++ clock_seats clock')) (plain seat_of_wire wires wires' ws)
-    (same-append itself routers routers' (outputs ++ clock_seats clock) (outputs' ++ clock_seats clock') rs (same-append itself outputs outputs' (clock_seats clock) (clock_seats clock') os (of-clocks clock clock' c)))
 
 -- as many counts as seats
 pub counted : {X : Type 0} (f : X → SeatView) (xs ys : List X) → AreSame f xs ys → length (counts f xs) ≡ length ys

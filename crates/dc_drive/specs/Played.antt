@@ -14,9 +14,9 @@ use Rattle.dc_hub.specs.Views.{SeatView, WireView}
 use Rattle.dc_hub.specs.declared.entry.Receipt.{Receipt}
 use Rattle.dc_tables.specs.TableRows.{TableRows}
 
--- the same seat, with more receipts behind its own, forged or not as before
+-- the same seat, with more receipts behind its own
 abbrev pub IsSameSeat : SeatView → SeatView → Type 0
-IsSameSeat s t = (t.actor ≡ s.actor) × (t.parts ≡ s.parts) × (t.genuine ≡ s.genuine) × ((more : List Receipt) × (t.receipts ≡ s.receipts ++ more))
+IsSameSeat s t = (t.actor ≡ s.actor) × (t.parts ≡ s.parts) × ((more : List Receipt) × (t.receipts ≡ s.receipts ++ more))
 
 -- the same seats in the same order, each with more receipts behind its own. `seat` tells the seat of each
 abbrev pub AreSame : {X : Type 0} → (X → SeatView) → List X → List X → Type 0

@@ -137,7 +137,6 @@ pub fn drive<L: Charter + Send + Sync, R: Threads + Wait + Sync, G: Gate>(
     ensures clock { IsSameClock seats.old.clock seats.new.clock }
     ensures of_hub { AreOfHub hub.now seats.new.wires.items }
     ensures watch { seats.new.watch ≡ seats.old.watch }
-    ensures same { AreSame itself (all_seats seats.old.wires.items seats.old.routers.items seats.old.outputs.items seats.old.clock) (all_seats seats.new.wires.items seats.new.routers.items seats.new.outputs.items seats.new.clock) }
     ensures played { OnOk result (AllPlayed tables.now script.now seats.old.wires.items seats.new.wires.items seats.old.routers.items seats.new.routers.items seats.old.outputs.items seats.new.outputs.items seats.old.clock seats.new.clock) }
     ensures astray { result ≡ Err (Refused Astray) → ¬ AllPlayed tables.now script.now seats.old.wires.items seats.new.wires.items seats.old.routers.items seats.new.routers.items seats.old.outputs.items seats.new.outputs.items seats.old.clock seats.new.clock }
     ensures fresh { receipts_in (all_seats seats.old.wires.items seats.old.routers.items seats.old.outputs.items seats.old.clock) ≡ 0 → OnOk result (HaveRoles tables.now script.now (all_seats seats.new.wires.items seats.new.routers.items seats.new.outputs.items seats.new.clock)) }

@@ -1,6 +1,6 @@
 //! A monitor beside a hub that is driven.
 
-ghost use Rattle.std.specs.Prelude.{◌≡◌, IsSome, Some};
+ghost use Rattle.std.specs.Prelude.{◌≡◌, IsSome};
 ghost use Rattle.dc_board.specs.Marks.{IsSeatOf};
 ghost use Rattle.dc_check.specs.Lent.{tables_of};
 ghost use Rattle.dc_drive.specs.Played.{AreOfHub};
@@ -12,7 +12,7 @@ use crate::fixture::{Plan, equal_plan};
 use dc_check::Certified;
 use dc_checkpar::Open;
 use dc_drive::{DriveFault, drive};
-use dc_hub::{Charter, History, Hub, MOST_ACTORS, Seats, Watch};
+use dc_hub::{Charter, Hub, MOST_ACTORS, Seats, Watch};
 use dc_script::Script;
 use dc_tables::Tables;
 use std::alloc::Global;
@@ -98,17 +98,15 @@ fn watches<L: Charter + Send + Sync, R: Threads + Wait + Abort + Sync>(
     rt: &R,
     alloc: Global,
     blank: Blank,
-    history: History,
     tables: &Tables,
     certified: Certified,
 ) -> Result<(), Fail>
     requires blank { (blank.name ≡ L.name) × (blank.parts ≡ L.parts) }
-    requires history { L.history ≡ Some history }
     requires charter { IsCharterOf L.certified L.limit L.whole L.parts certified 1000000 }
     requires tables { tables_of certified ≡ tables.now }
 {
     let script = Script::bench(alloc, tables, TICKS)?;
-    let (hub, seats) = opened::<L>(alloc, blank, history, certified, 1_000_000)?;
+    let (hub, seats) = opened::<L>(alloc, blank, certified, 1_000_000)?;
     let (seats, answer, fell) = watched(rt, alloc, tables, &hub, seats, &script);
     assert!(rt; answer == Ok(()));
     assert!(rt; !fell);
@@ -120,6 +118,6 @@ fn a_monitor_reads_beside(rt: HostRuntime) -> Result<(), Fail> {
     let plan = equal_plan(rt.alloc(), 64, false).ok_or("no tables")?;
     plan.certified.tables().valid();
     let Plan { tables, certified } = plan;
-    let (blank, history) = (Blank::new(MOST_ACTORS), History::new(rt.alloc())?);
-    watches::<Brand, HostRuntime>(&rt, rt.alloc(), blank, history, &tables, certified)
+    let blank = Blank::new(MOST_ACTORS);
+    watches::<Brand, HostRuntime>(&rt, rt.alloc(), blank, &tables, certified)
 }

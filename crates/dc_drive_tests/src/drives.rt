@@ -1,6 +1,6 @@
 //! Hubs that are driven by the script of a bench, and what their books hold.
 
-ghost use Rattle.std.specs.Prelude.{◌≡◌, ◌≤◌, IfOk, IsSome, Some};
+ghost use Rattle.std.specs.Prelude.{◌≡◌, ◌≤◌, IfOk, IsSome};
 ghost use Rattle.dc_board.specs.Marks.{IsSeatOf};
 ghost use Rattle.dc_check.specs.Lent.{tables_of};
 ghost use Rattle.dc_drive.specs.Played.{AreOfHub};
@@ -13,7 +13,7 @@ use dc_core::StepFault;
 use dc_drive::{DriveFault, drive};
 use dc_event::Event;
 use dc_gates::{Against, Counting, Holding, Meeting, Recording};
-use dc_hub::{Charter, CloseFault, Closed, History, Hub, HubFault, MOST_ACTORS, OutputSeat, Seats};
+use dc_hub::{Charter, CloseFault, Closed, Hub, HubFault, MOST_ACTORS, OutputSeat, Seats};
 use dc_oracle::{claims, keeps_budgets, keeps_sources};
 use dc_script::{Script, Timed};
 use dc_tables::Tables;
@@ -102,18 +102,16 @@ pub fn judge_closed<R: Abort>(
 pub fn opened<L: Charter>(
     alloc: Global,
     blank: Blank,
-    history: History,
     certified: Certified,
     limit: usize,
 ) -> Result<(Hub<L>, Seats<L>), Fail>
     requires blank { (blank.name ≡ L.name) × (blank.parts ≡ L.parts) }
-    requires history { L.history ≡ Some history }
     requires charter { IsCharterOf L.certified L.limit L.whole L.parts certified limit }
     ensures wires { IfOk result (λ r. AreOfHub r.0 r.1.wires.items) }
     ensures clock { IfOk result (λ r. IsSome r.1.clock) }
     ensures watch { IfOk result (λ r. IsSeatOf r.0 r.1.watch) }
 {
-    match Hub::<L>::open(alloc, blank, history, certified, limit) {
+    match Hub::<L>::open(alloc, blank, certified, limit) {
         Ok(opened) => Ok(opened),
         Err(_) => Err("no hub".into()),
     }
@@ -157,21 +155,19 @@ fn send<L: Charter, R: Wait>(rt: &R, hub: &Hub<L>, outputs: &mut Vec<OutputSeat<
 fn drives<L: Charter + Send + Sync, R: Threads + Wait + Abort + Sync, G: Gate>(
     rt: &R,
     alloc: Global,
-    fresh: (Blank, History),
+    blank: Blank,
     tables: &Tables,
     certified: Certified,
     gate: &G,
     trial: Trial,
 ) -> Result<(), Fail>
-    requires blank { (fresh.0.name ≡ L.name) × (fresh.0.parts ≡ L.parts) }
-    requires history { L.history ≡ Some fresh.1 }
+    requires blank { (blank.name ≡ L.name) × (blank.parts ≡ L.parts) }
     requires charter { IsCharterOf L.certified L.limit L.whole L.parts certified trial.limit }
     requires tables { tables_of certified ≡ tables.now }
     requires ticks { (1 ≤ trial.ticks) × (trial.ticks ≤ 1000) }
 {
     let script = Script::bench(alloc, tables, trial.ticks)?;
-    let (blank, history) = fresh;
-    let (hub, mut seats) = opened::<L>(alloc, blank, history, certified, trial.limit)?;
+    let (hub, mut seats) = opened::<L>(alloc, blank, certified, trial.limit)?;
     if trial.has_sent {
         send(rt, &hub, &mut seats.outputs);
     }
@@ -204,8 +200,8 @@ fn runs<R: Threads + Wait + Abort + Sync, G: Gate>(
     let plan = equal_plan(alloc, buses, policed).ok_or("no tables")?;
     plan.certified.tables().valid();
     let Plan { tables, certified } = plan;
-    let fresh = (Blank::new(MOST_ACTORS), History::new(alloc)?);
-    drives::<Brand, R, G>(rt, alloc, fresh, &tables, certified, gate, trial)
+    let blank = Blank::new(MOST_ACTORS);
+    drives::<Brand, R, G>(rt, alloc, blank, &tables, certified, gate, trial)
 }
 
 #[test]

@@ -1,7 +1,7 @@
 //! A hub that is driven, and another one where memory or a thread was refused to the first. What each says is a line of
 //! the output.
 
-ghost use Rattle.std.specs.Prelude.{◌≡◌, IsSome, Some};
+ghost use Rattle.std.specs.Prelude.{◌≡◌, IsSome};
 ghost use Rattle.dc_check.specs.Lent.{tables_of};
 ghost use Rattle.dc_drive.specs.Played.{AreOfHub};
 ghost use Rattle.dc_hub.specs.Opening.{IsCharterOf};
@@ -11,7 +11,7 @@ use crate::fixture::{Plan, equal_plan};
 use dc_check::Certified;
 use dc_checkpar::Open;
 use dc_drive::{DriveFault, drive};
-use dc_hub::{Charter, History, Hub, HubFault, MOST_ACTORS, OpenFault, Seats};
+use dc_hub::{Charter, Hub, HubFault, MOST_ACTORS, OpenFault, Seats};
 use dc_script::Script;
 use dc_tables::Tables;
 use std::alloc::Global;
@@ -62,17 +62,15 @@ fn open_once<L: Charter + Send + Sync, R: Threads + Wait + Sync + Print>(
     rt: &R,
     alloc: Global,
     blank: Blank,
-    history: History,
     tables: &Tables,
     certified: Certified,
     script: &Script,
 ) -> io::Result<bool>
     requires blank { (blank.name ≡ L.name) × (blank.parts ≡ L.parts) }
-    requires history { L.history ≡ Some history }
     requires charter { IsCharterOf L.certified L.limit L.whole L.parts certified 1000 }
     requires tables { tables_of certified ≡ tables.now }
 {
-    match Hub::<L>::open(alloc, blank, history, certified, 1000) {
+    match Hub::<L>::open(alloc, blank, certified, 1000) {
         Ok((hub, seats)) => drive_once(rt, alloc, tables, hub, seats, script),
         Err(OpenFault::Memory) => {
             println!(rt; "open: memory")?;
@@ -93,12 +91,8 @@ fn run_once<R: Threads + Wait + Sync + Print>(rt: &R, alloc: Global) -> io::Resu
     };
     plan.certified.tables().valid();
     let Plan { tables, certified } = plan;
-    let Ok(history) = History::new(alloc) else {
-        println!(rt; "history: memory")?;
-        return Ok(false);
-    };
     let blank = Blank::new(MOST_ACTORS);
-    open_once::<Brand, R>(rt, alloc, blank, history, &tables, certified, &script)
+    open_once::<Brand, R>(rt, alloc, blank, &tables, certified, &script)
 }
 
 /// Drives a hub, and another one where something was refused to the first.

@@ -8,7 +8,7 @@ use Rattle.atomic_table.specs.Seated.{TableId}
 use Rattle.dc_check.specs.Lent.{tables_of}
 use Rattle.dc_check.specs.declared.certified.Certified.{Certified}
 use Rattle.dc_event.specs.declared.event.Actor.TheVariants.{Wire, Router, Output, Clock}
-use Rattle.dc_hub.specs.Closing.{all_seats, actor_at, actor_count, AllGenuine, AreOneEach}
+use Rattle.dc_hub.specs.Closing.{all_seats, actor_at, actor_count, AreOneEach}
 use Rattle.dc_hub.specs.Views.{SeatView, WireView, AreNewWires, AreNewSeats, unused, others, parts_for, parts_in, receipts_in}
 use Rattle.dc_hub.proofs.Counts.{sum-ones, part_at, part_last}
 use Rattle.dc_hub.proofs.Opens.{some-same, none-some}
@@ -124,12 +124,3 @@ new_each certified c whole board wires routers outputs clock is some ws rs os cl
         (λ p s there below. ap (λ (x : SeatView). x.parts) (at p s there) ∙ part_at c whole p below)
         (λ s there. ap (λ (x : SeatView). x.parts) (at (others (Some c)) s there) ∙ part_last c whole) in
         s ∙ omega (arith, h)
-
--- no test forged them
-pub new_genuine : (certified : Option Certified) (c : Certified) (whole : ℕ) (board : TableId × List ℕ) (wires : List WireView) (routers outputs : List SeatView) (clock : Option SeatView) → certified ≡ Some c
-    → AreNewWires board wires (length (tables_of c).buses) → AreNewSeats Router routers (length (tables_of c).routers) → AreNewSeats Output outputs (length (tables_of c).outputs) → clock ≡ Some (unused Clock (parts_for certified whole Clock))
-    → AllGenuine (all_seats wires routers outputs clock)
-new_genuine certified c whole board wires routers outputs clock is ws rs os clocked =
-    subst (λ (o : Option SeatView). AllGenuine (all_seats wires routers outputs o))
-    (sym (clocked ∙ ap (λ (o : Option Certified). Some (unused Clock (parts_for o whole Clock))) is))
-    (λ p s there. ap (λ (x : SeatView). x.genuine) (new_at c whole board wires routers outputs ws rs os p s there))

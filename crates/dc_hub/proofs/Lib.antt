@@ -3,12 +3,9 @@ mod Closes
 mod Counts
 mod Each
 mod Faults
-mod Frees
-mod Honest
 mod Lasts
 mod Legal
 mod Marks
-mod Moves
 mod Opens
 mod Places
 mod Receipts

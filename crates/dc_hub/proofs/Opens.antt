@@ -1,10 +1,9 @@
--- New seats, one more.
+-- New wires, one more.
 use Rattle.std.proofs.Common.{◌≡◌, ◌⊎◌, ⊎_elim, inl, inr, ℕ, zero, suc, ◌+◌, Option, Some, None, List, [], ◌∷◌, ◌++◌, length, refl, sym, ap, subst, ◌∙◌, length-append, slice_get, slice_index, replicate, arith}
 use Rattle.atomic_table.specs.Seated.{TableId}
 use Rattle.dc_board.specs.Marks.{fresh, stepped_once}
 use Rattle.dc_board.specs.declared.view.View.{View}
-use Rattle.dc_event.specs.declared.event.Actor.{Actor}
-use Rattle.dc_hub.specs.Views.{SeatView, WireView, IsNewWire, AreNewSeats, AreNewWires, stepped, unused}
+use Rattle.dc_hub.specs.Views.{WireView, IsNewWire, AreNewWires, stepped}
 
 pub some-same : {X : Type 0} (x y : X) → Some x ≡ Some y → x ≡ y
 some-same {X} x y e = ap (λ (o : Option X). given o) e
@@ -34,15 +33,6 @@ wires-push board ws n w are is = (
       (λ (t : slice_get ws k ≡ Some v). are.1 k v t)
       (λ (t : (k ≡ length ws) × (w ≡ v)). subst (λ j. IsNewWire board j v) (sym (t.0 ∙ are.0)) (subst (IsNewWire board n) t.1 is))
       (at_push ws w v k there)),
-)
-
-pub seats-push : (kind : ℕ → Actor) (ss : List SeatView) (n : ℕ) (s : SeatView) → AreNewSeats kind ss n → s ≡ unused (kind n) 1 → AreNewSeats kind (ss ++ s ∷ []) (n + 1)
-seats-push kind ss n s are is = (
-  length-append ss (s ∷ []) ∙ ap (λ k. k + 1) are.0,
-  (λ k v there. ⊎_elim
-      (λ (t : slice_get ss k ≡ Some v). are.1 k v t)
-      (λ (t : (k ≡ length ss) × (s ≡ v)). subst (λ j. v ≡ unused (kind j) 1) (sym (t.0 ∙ are.0)) (sym t.1 ∙ is))
-      (at_push ss s v k there)),
 )
 
 pub stepped_more : (n : ℕ) (v : View) → stepped_once (stepped n v) ≡ stepped (n + 1) v

@@ -64,10 +64,6 @@ abbrev pub clock_seats : Option SeatView → List SeatView
 clock_seats None = []
 clock_seats (Some s) = s ∷ []
 
--- the seats of wires
-abbrev pub wires_seats : List WireView → List SeatView
-wires_seats wires = map (λ (w : WireView). w.seat) wires
-
 -- all seats in order: wires, routers, outputs, clock
 abbrev pub all_seats : List WireView → List SeatView → List SeatView → Option SeatView → List SeatView
 all_seats wires routers outputs clock = map (λ (w : WireView). w.seat) wires ++ (routers ++ (outputs ++ clock_seats clock))
@@ -90,14 +86,6 @@ AreOneEach t seats = (length seats ≡ actor_count t) × ((p : ℕ) (s : SeatVie
 -- each seat's receipts are its actor's entries
 abbrev pub AllAgree : List Entry → List SeatView → Type 0
 AllAgree es seats = (p : ℕ) (s : SeatView) → slice_get seats p ≡ Some s → Agrees es s
-
--- no seat's receipts were forged
-abbrev pub AllGenuine : List SeatView → Type 0
-AllGenuine seats = (p : ℕ) (s : SeatView) → slice_get seats p ≡ Some s → s.genuine ≡ true
-
--- each seat's receipts are its actor's entries, or forged
-abbrev pub AgreeOrForged : List Entry → List SeatView → Type 0
-AgreeOrForged es seats = (p : ℕ) (s : SeatView) → slice_get seats p ≡ Some s → s.genuine ≡ true → Agrees es s
 
 -- the first seat whose receipts are not its actor's entries has this index first
 pub record FirstDiffers (es : List Entry) (seats : List SeatView) (index : ℕ) : Type 0 where

@@ -2,4 +2,3 @@ pub mod Entries
 pub mod Views
 pub mod Closing
 pub mod Opening
-pub mod Histories

@@ -1,5 +1,5 @@
 -- What contracts see of books and seats.
-use Rattle.std.specs.Prelude.{◌≡◌, ℕ, ◌+◌, ◌-◌, ◌<◌, ◌≤◌, ◌==◌, Bool, true, if◌then◌else◌, max, replicate, Option, None, Some, List, [], ◌∷◌, ◌++◌, length, slice_get, slice_index}
+use Rattle.std.specs.Prelude.{◌≡◌, ℕ, ◌+◌, ◌-◌, ◌<◌, ◌≤◌, ◌==◌, if◌then◌else◌, max, replicate, Option, None, Some, List, [], ◌∷◌, ◌++◌, length, slice_get, slice_index}
 use Rattle.std.specs.List.{sum_by}
 use Rattle.atomic_table.specs.Seated.{TableId}
 use Rattle.dc_board.specs.Marks.{fresh, IsSeatOf}
@@ -70,12 +70,11 @@ pub record ClosedView : Type 0 where
   pub certified : Certified
   pub entries : List Entry
 
--- a seat: its actor, what the actor was answered, the seat's parts of the hub's count, and whether no receipt was forged
+-- a seat: its actor, what the actor was answered, and the seat's parts of the hub's count
 pub record SeatView : Type 0 where
   pub actor : Actor
   pub receipts : List Receipt
   pub parts : ℕ
-  pub genuine : Bool
 
 -- they are the hub's tables
 abbrev pub AreTablesOf : Option Certified → TableRows → Type 0
@@ -112,7 +111,7 @@ pub record WireView : Type 0 where
 
 -- a seat without receipts
 abbrev pub unused : Actor → ℕ → SeatView
-unused actor parts = record { actor = actor; receipts = []; parts = parts; genuine = true }
+unused actor parts = record { actor = actor; receipts = []; parts = parts }
 
 -- the board of a hub: each of its words is at most the greatest capacity of a queue
 abbrev pub board_caps : List ℕ
@@ -148,15 +147,3 @@ AreNewWires board wires n = (length wires ≡ n) × ((k : ℕ) (w : WireView) �
 -- there is one new seat for each of n actors of a kind, in order
 abbrev pub AreNewSeats : (ℕ → Actor) → List SeatView → ℕ → Type 0
 AreNewSeats kind seats n = (length seats ≡ n) × ((k : ℕ) (s : SeatView) → slice_get seats k ≡ Some s → s ≡ unused (kind k) 1)
-
--- the keeper of a hub's history: which history it is, its entries, and the codes of the actors that have a hand
-pub record KeeperView : Type 0 where
-  pub history : TableId
-  pub log : List Entry
-  pub crew : List ℕ
-
--- an actor's hand: its history, the actor, and the receipts of the actor's entries
-pub record HandView : Type 0 where
-  pub history : TableId
-  pub actor : Actor
-  pub mine : List Receipt

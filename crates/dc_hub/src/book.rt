@@ -15,7 +15,6 @@ use crate::charter::{Charter, Whole};
 use crate::closed::Closed;
 use crate::entry::{Entry, Receipt};
 use crate::fault::HubFault;
-use crate::history::Keeper;
 use crate::seat::Seat;
 use dc_check::Certified;
 use dc_core::{State, StepFault};
@@ -27,8 +26,8 @@ use std::sync::ledger;
 use std::sync::ledger::Share;
 
 /// The entries so far, which are a run of the tables that keeps the budgets, each with the reply that the run calls
-/// for, and which the hub's history has; and the state of the concentrator after that run. Contracts see the certified
-/// tables, the trace limit and the entries.
+/// for; and the state of the concentrator after that run. Contracts see the certified tables, the trace limit and the
+/// entries.
 #[derive(Drop)]
 pub struct Book<L: Charter> {
     pub(crate) certified: Certified,
@@ -38,7 +37,6 @@ pub struct Book<L: Charter> {
     pub(crate) count: ledger::Book<L>,
     pub(crate) none: Share<L>,
     pub(crate) whole: Whole<L>,
-    pub(crate) keeper: Keeper,
 }
 
 impl<L: Charter> Model for Book<L> {
@@ -46,22 +44,20 @@ impl<L: Charter> Model for Book<L> {
 
     ghost view = { λ b. record { certified = b.certified; limit = b.limit; entries = b.entries.items } };
 
-    ghost invariant = { λ b. IsLegal (tables_of b.certified) b.entries.items × IsSized (tables_of b.certified) b.state × StandsFor (tables_of b.certified) b.state (events b.entries.items) × (b.count.total ≡ length b.entries.items) × (length b.entries.items ≤ b.limit) × (L.certified ≡ Some b.certified) × (L.limit ≡ b.limit) × (others L.certified < L.whole) × (b.none.parts ≡ 0) × (b.none.amount ≡ 0) × (L.history ≡ Some b.keeper.history) × (b.keeper.log ≡ b.entries.items) };
+    ghost invariant = { λ b. IsLegal (tables_of b.certified) b.entries.items × IsSized (tables_of b.certified) b.state × StandsFor (tables_of b.certified) b.state (events b.entries.items) × (b.count.total ≡ length b.entries.items) × (length b.entries.items ≤ b.limit) × (L.certified ≡ Some b.certified) × (L.limit ≡ b.limit) × (others L.certified < L.whole) × (b.none.parts ≡ 0) × (b.none.amount ≡ 0) };
 }
 
 impl<L: Charter> Book<L> {
-    /// A book without entries. `count` is the hub's count, and `keeper` keeps its history.
+    /// A book without entries. `count` is the hub's count.
     pub(crate) fn new(
         alloc: Global,
         certified: Certified,
         limit: usize,
         count: ledger::Book<L>,
         none: Share<L>,
-        keeper: Keeper,
     ) -> Result<Book<L>, AllocError>
         requires count { count.total ≡ 0 }
         requires none { (none.parts ≡ 0) × (none.amount ≡ 0) }
-        requires history { (L.history ≡ Some keeper.history) × (keeper.log ≡ []) }
         requires charter { (L.certified ≡ Some certified) × (L.limit ≡ limit) × (L.whole ≡ L.parts) × (others L.certified < L.whole) }
         ensures { IfOk result (λ b. b ≡ record { certified = certified; limit = limit; entries = [] }) }
     {
@@ -74,7 +70,6 @@ impl<L: Charter> Book<L> {
             count,
             none,
             whole: Whole::new(),
-            keeper,
         })
     }
 
@@ -97,7 +92,6 @@ impl<L: Charter> Book<L> {
             count: _,
             none: _,
             whole: _,
-            keeper: _,
         } = self;
         Closed { certified, entries }
     }
@@ -124,7 +118,6 @@ impl<L: Charter> Book<L> {
         ensures book { OnErr result (self.new ≡ self.old) }
         ensures seat { OnErr result (seat.new ≡ seat.old) }
         ensures kept { (self.new.certified ≡ self.old.certified) × (self.new.limit ≡ self.old.limit) × (seat.new.actor ≡ seat.old.actor) × (seat.new.parts ≡ seat.old.parts) }
-        ensures genuine { seat.new.genuine ≡ seat.old.genuine }
         ensures full { result ≡ Err TraceFull → self.old.limit ≤ length self.old.entries }
         ensures step { (f : StepFault) → result ≡ Err (Step f) → (length self.old.entries < self.old.limit) × (¬ MayFollow (tables_of self.old.certified) (events self.old.entries) event) × IsFault (tables_of self.old.certified) (events self.old.entries) event f }
         ensures legal { IsLegal (tables_of self.new.certified) self.new.entries }
@@ -149,11 +142,9 @@ impl<L: Charter> Book<L> {
             event,
             reply,
         };
-        let entry = receipt.entry();
-        self.entries.push_reserved(entry);
+        self.entries.push_reserved(receipt.entry());
         seat.receipts.push_reserved(receipt);
         self.count.add(&mut seat.share, 1);
-        self.keeper.record(&mut seat.hand, &entry);
         Ok(receipt)
     }
 }

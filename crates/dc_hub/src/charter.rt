@@ -1,7 +1,6 @@
 //! What the types of one hub know.
 
 ghost use Rattle.std.specs.Prelude.{◌≡◌, ℕ, Option, None};
-ghost use Rattle.atomic_table.specs.Seated.{TableId};
 ghost use Rattle.dc_check.specs.declared.certified.Certified.{Certified};
 
 use std::marker::{Brand, PhantomData};
@@ -18,9 +17,6 @@ pub trait Charter: Ledger {
 
     /// How many parts the count has.
     ghost whole: { ℕ };
-
-    /// The history; it is there.
-    ghost history: { Option TableId };
 }
 
 impl Charter for Brand {
@@ -29,8 +25,6 @@ impl Charter for Brand {
     ghost limit = { 0 };
 
     ghost whole = { 0 };
-
-    ghost history = { None };
 }
 
 /// That the charter knows all parts of its ledger.

@@ -1,9 +1,9 @@
 //! Whether seats are one for each actor, and whether their receipts are the book's entries.
 
-ghost use Rattle.std.specs.Prelude.{◌≡◌, ◌+◌, ◌<◌, ◌≤◌, true, false, None, Some, MatchOption, IfOk, IfErr, IsOk, length, slice_get};
+ghost use Rattle.std.specs.Prelude.{◌≡◌, ◌+◌, ◌<◌, ◌≤◌, true, false, None, Some, MatchOption, IfOk, IfErr, length, slice_get};
 ghost use Rattle.std.specs.List.{sum_by};
 ghost use Rattle.dc_check.specs.Lent.{tables_of};
-ghost use Rattle.dc_hub.specs.Closing.{is_by, receipts_of, DifferAt, all_seats, clock_seats, actor_at, actor_count, AreOneEach, Agrees, AllAgree, AllGenuine, AgreeOrForged, FirstDiffers, IsCloseFault, wires_seats};
+ghost use Rattle.dc_hub.specs.Closing.{is_by, receipts_of, DifferAt, all_seats, clock_seats, actor_at, actor_count, AreOneEach, AllAgree, FirstDiffers, IsCloseFault};
 ghost use Rattle.dc_hub.specs.Views.{WireView, parts_for, parts_needed, receipts_in};
 ghost use Rattle.dc_hub.specs.declared.limits.TheConstants.{MOST_ACTORS};
 
@@ -12,7 +12,6 @@ use crate::charter::Charter;
 use crate::closed::Closed;
 use crate::entry::{Entry, Receipt};
 use crate::fault::CloseFault;
-use crate::history::Keeper;
 use crate::seat::{ClockSeat, OutputSeat, RouterSeat, Seat, WireSeat};
 use crate::seats::Seats;
 use dc_check::Certified;
@@ -165,32 +164,23 @@ fn close_fault<L: Charter>(
     }
 }
 
-/// Merges a seat's share of the count, and its hand with the history.
-fn merge_seat<L: Charter>(all: &mut Share<L>, keeper: &mut Keeper, seat: Seat<L>)
-    requires { L.history ≡ Some keeper.old.history }
+/// Merges a seat's share of the count.
+fn merge_seat<L: Charter>(all: &mut Share<L>, seat: Seat<L>)
     ensures parts { all.new.parts ≡ all.old.parts + parts_for L.certified L.whole seat.actor }
     ensures amount { all.new.amount ≡ all.old.amount + length seat.receipts }
-    ensures keeper { keeper.new ≡ keeper.old }
-    ensures own { seat.genuine ≡ true → Agrees keeper.old.log seat }
 {
     let Seat {
         actor: _,
         receipts: _,
         share,
-        hand,
-        genuine: _,
     } = seat;
     all.merge(share);
-    keeper.compare(hand);
 }
 
-/// Merges the shares of wires, and their hands with the history.
-fn merge_wires<L: Charter>(all: &mut Share<L>, keeper: &mut Keeper, mut wires: Vec<WireSeat<L>>)
-    requires { L.history ≡ Some keeper.old.history }
+/// Merges the shares of wires.
+fn merge_wires<L: Charter>(all: &mut Share<L>, mut wires: Vec<WireSeat<L>>)
     ensures parts { all.new.parts ≡ all.old.parts + sum_by (λ (w : WireView). parts_for L.certified L.whole w.seat.actor) wires.items }
     ensures amount { all.new.amount ≡ all.old.amount + sum_by (λ (w : WireView). length w.seat.receipts) wires.items }
-    ensures keeper { keeper.new ≡ keeper.old }
-    ensures own { AgreeOrForged keeper.old.log (wires_seats wires.items) }
 {
     while let Some(wire) = wires.pop() {
         let WireSeat {
@@ -198,57 +188,40 @@ fn merge_wires<L: Charter>(all: &mut Share<L>, keeper: &mut Keeper, mut wires: V
             seat,
             marks: _,
         } = wire;
-        merge_seat(all, keeper, seat);
+        merge_seat(all, seat);
     }
 }
 
-/// Merges the shares of routers, and their hands with the history.
-fn merge_routers<L: Charter>(
-    all: &mut Share<L>,
-    keeper: &mut Keeper,
-    mut routers: Vec<RouterSeat<L>>,
-)
-    requires { L.history ≡ Some keeper.old.history }
+/// Merges the shares of routers.
+fn merge_routers<L: Charter>(all: &mut Share<L>, mut routers: Vec<RouterSeat<L>>)
     ensures parts { all.new.parts ≡ all.old.parts + parts_needed L.certified L.whole routers.items }
     ensures amount { all.new.amount ≡ all.old.amount + receipts_in routers.items }
-    ensures keeper { keeper.new ≡ keeper.old }
-    ensures own { AgreeOrForged keeper.old.log routers.items }
 {
     while let Some(router) = routers.pop() {
         let RouterSeat { router: _, seat } = router;
-        merge_seat(all, keeper, seat);
+        merge_seat(all, seat);
     }
 }
 
-/// Merges the shares of outputs, and their hands with the history.
-fn merge_outputs<L: Charter>(
-    all: &mut Share<L>,
-    keeper: &mut Keeper,
-    mut outputs: Vec<OutputSeat<L>>,
-)
-    requires { L.history ≡ Some keeper.old.history }
+/// Merges the shares of outputs.
+fn merge_outputs<L: Charter>(all: &mut Share<L>, mut outputs: Vec<OutputSeat<L>>)
     ensures parts { all.new.parts ≡ all.old.parts + parts_needed L.certified L.whole outputs.items }
     ensures amount { all.new.amount ≡ all.old.amount + receipts_in outputs.items }
-    ensures keeper { keeper.new ≡ keeper.old }
-    ensures own { AgreeOrForged keeper.old.log outputs.items }
 {
     while let Some(output) = outputs.pop() {
         let OutputSeat { output: _, seat } = output;
-        merge_seat(all, keeper, seat);
+        merge_seat(all, seat);
     }
 }
 
-/// Merges the share of the clock, and its hand with the history, where it is there.
-fn merge_clock<L: Charter>(all: &mut Share<L>, keeper: &mut Keeper, clock: Option<ClockSeat<L>>)
-    requires { L.history ≡ Some keeper.old.history }
+/// Merges the share of the clock, where it is there.
+fn merge_clock<L: Charter>(all: &mut Share<L>, clock: Option<ClockSeat<L>>)
     ensures parts { all.new.parts ≡ all.old.parts + parts_needed L.certified L.whole (clock_seats clock) }
     ensures amount { all.new.amount ≡ all.old.amount + receipts_in (clock_seats clock) }
-    ensures keeper { keeper.new ≡ keeper.old }
-    ensures own { AgreeOrForged keeper.old.log (clock_seats clock) }
 {
     if let Some(clock) = clock {
         let ClockSeat { seat } = clock;
-        merge_seat(all, keeper, seat);
+        merge_seat(all, seat);
     }
 }
 
@@ -257,11 +230,10 @@ impl<L: Charter> Book<L> {
     ///
     /// # Errors
     /// `SeatMissing` where the seats are not one for each actor; else `Mismatch` at the first seat whose receipts are
-    /// not its actor's entries. Neither where the seats are one for each actor and no test forged a receipt.
+    /// not its actor's entries.
     pub fn close(self, seats: Seats<L>) -> Result<Closed, CloseFault>
         ensures same { IfOk result (λ c. (c.certified ≡ self.certified) × (c.entries ≡ self.entries)) }
         ensures ok { IfOk result (λ c. AreOneEach (tables_of c.certified) (all_seats seats.wires.items seats.routers.items seats.outputs.items seats.clock) × AllAgree c.entries (all_seats seats.wires.items seats.routers.items seats.outputs.items seats.clock)) }
-        ensures honest { AreOneEach (tables_of self.certified) (all_seats seats.wires.items seats.routers.items seats.outputs.items seats.clock) → AllGenuine (all_seats seats.wires.items seats.routers.items seats.outputs.items seats.clock) → IsOk result }
         ensures err { IfErr result (λ fault. IsCloseFault (tables_of self.certified) self.entries (all_seats seats.wires.items seats.routers.items seats.outputs.items seats.clock) fault) }
         ensures as_many { AreOneEach (tables_of self.certified) (all_seats seats.wires.items seats.routers.items seats.outputs.items seats.clock) → length self.entries ≡ receipts_in (all_seats seats.wires.items seats.routers.items seats.outputs.items seats.clock) }
     {
@@ -274,10 +246,8 @@ impl<L: Charter> Book<L> {
     }
 
     /// Where the seats are one for each actor, there are as many entries as receipts: their shares are the whole count.
-    /// Receipts that no test forged are their actor's entries.
     fn counted(self, seats: Seats<L>) -> Book<L>
         ensures same { result ≡ self }
-        ensures own { AgreeOrForged self.entries (all_seats seats.wires.items seats.routers.items seats.outputs.items seats.clock) }
         ensures as_many { AreOneEach (tables_of self.certified) (all_seats seats.wires.items seats.routers.items seats.outputs.items seats.clock) → length self.entries ≡ receipts_in (all_seats seats.wires.items seats.routers.items seats.outputs.items seats.clock) }
     {
         let mut book = self;
@@ -289,10 +259,10 @@ impl<L: Charter> Book<L> {
             watch: _,
         } = seats;
         let mut all = book.none.empty();
-        merge_wires(&mut all, &mut book.keeper, wires);
-        merge_routers(&mut all, &mut book.keeper, routers);
-        merge_outputs(&mut all, &mut book.keeper, outputs);
-        merge_clock(&mut all, &mut book.keeper, clock);
+        merge_wires(&mut all, wires);
+        merge_routers(&mut all, routers);
+        merge_outputs(&mut all, outputs);
+        merge_clock(&mut all, clock);
         book.whole.known();
         book.count.audit(&mut all);
         book

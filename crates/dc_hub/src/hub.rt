@@ -1,14 +1,13 @@
 //! The book under its lock, and the board beside it.
 
-ghost use Rattle.std.specs.Prelude.{◌≡◌, ◌≢◌, ℕ, ◌+◌, ◌<◌, ◌≤◌, ◌++◌, ◌∷◌, [], List, IfOk, IfErr, OnErr, OnOk, Err, Some, IsOk, IsSome, IfSome, length, slice_index, slice_set, max};
+ghost use Rattle.std.specs.Prelude.{◌≡◌, ◌≢◌, ℕ, ◌+◌, ◌<◌, ◌≤◌, ◌++◌, ◌∷◌, [], List, IfOk, IfErr, OnErr, OnOk, Err, Some, IsSome, IfSome, length, slice_index, slice_set, max};
 ghost use Rattle.atomic_table.specs.Seated.{TableId};
 ghost use Rattle.dc_board.specs.Marks.{IsSeatOf, raised, fresh, stepped_once};
 ghost use Rattle.dc_check.specs.Lent.{tables_of};
-ghost use Rattle.dc_check.specs.declared.certified.Certified.{Certified};
 ghost use Rattle.dc_event.specs.declared.event.Actor.TheVariants.{Wire, Router, Output, Clock};
 ghost use Rattle.dc_event.specs.declared.event.Event.{Event};
 ghost use Rattle.dc_event.specs.declared.event.Event.TheVariants.{Tick, Arrive, Route, Send};
-ghost use Rattle.dc_hub.specs.Closing.{all_seats, AreOneEach, AllAgree, AllGenuine, IsCloseFault};
+ghost use Rattle.dc_hub.specs.Closing.{all_seats, AreOneEach, AllAgree, IsCloseFault};
 ghost use Rattle.dc_hub.specs.Entries.{actor_of, backlog_of, IsLegal};
 ghost use Rattle.dc_hub.specs.Opening.{IsCharterOf};
 ghost use Rattle.dc_hub.specs.Views.{BookView, IsBookOf, IsOfLast, IsRefusal, unused, board_caps, stepped, parts_for, parts_in, receipts_in, HasNoted, AreNewWires, AreNewSeats};
@@ -20,7 +19,6 @@ use crate::charter::Charter;
 use crate::closed::Closed;
 use crate::entry::Receipt;
 use crate::fault::{CloseFault, HubFault, OpenFault};
-use crate::history::History;
 use crate::opening::{board_of_marks, output_seats, router_seats, wire_seats};
 use crate::seat::{ClockSeat, OutputSeat, RouterSeat, Seat, Watch, WireSeat};
 use crate::seats::Seats;
@@ -50,31 +48,28 @@ impl<L: Charter> Model for Hub<L> {
 
 impl<L: Charter> Hub<L> {
     /// A hub, and the seats of the actors of certified tables, which were answered nothing. The blank has at least one
-    /// part for each actor; each wire, router and output has one of them, the clock all others. The history, the tables,
-    /// their certificate, the trace limit, 1 to [`LONGEST_TRACE`](crate::LONGEST_TRACE) entries, and the number of parts
-    /// are those of the hub's charter, and so of its book.
+    /// part for each actor; each wire, router and output has one of them, the clock all others. The tables, their
+    /// certificate, the trace limit, 1 to [`LONGEST_TRACE`](crate::LONGEST_TRACE) entries, and the number of parts are
+    /// those of the hub's charter, and so of its book.
     ///
     /// # Errors
     /// Out of memory.
     pub fn open(
         alloc: Global,
         blank: Blank,
-        history: History,
         certified: Certified,
         trace_limit: usize,
     ) -> Result<(Hub<L>, Seats<L>), OpenFault>
         requires blank { (blank.name ≡ L.name) × (blank.parts ≡ L.parts) }
-        requires history { L.history ≡ Some history }
         requires charter { IsCharterOf L.certified L.limit L.whole L.parts certified trace_limit }
         ensures each { IfOk result (λ r. AreOneEach (tables_of certified) (all_seats r.1.wires.items r.1.routers.items r.1.outputs.items r.1.clock) × (parts_in (all_seats r.1.wires.items r.1.routers.items r.1.outputs.items r.1.clock) ≡ L.parts) × (receipts_in (all_seats r.1.wires.items r.1.routers.items r.1.outputs.items r.1.clock) ≡ 0)) }
         ensures wires { IfOk result (λ r. AreNewWires r.0 r.1.wires.items (length (tables_of certified).buses)) }
         ensures routers { IfOk result (λ r. AreNewSeats Router r.1.routers.items (length (tables_of certified).routers)) }
         ensures outputs { IfOk result (λ r. AreNewSeats Output r.1.outputs.items (length (tables_of certified).outputs)) }
         ensures clock { IfOk result (λ r. r.1.clock ≡ Some (unused Clock (parts_for L.certified L.whole Clock))) }
-        ensures genuine { IfOk result (λ r. AllGenuine (all_seats r.1.wires.items r.1.routers.items r.1.outputs.items r.1.clock)) }
         ensures watch { IfOk result (λ r. IsSeatOf r.0 r.1.watch × (r.1.watch.1 ≡ stepped (length (tables_of certified).buses) (fresh board_caps))) }
     {
-        match Hub::opened(alloc, blank, history, certified, trace_limit) {
+        match Hub::opened(alloc, blank, certified, trace_limit) {
             Ok(opened) => Ok(opened),
             Err(AllocError) => Err(OpenFault::Memory),
         }
@@ -84,34 +79,28 @@ impl<L: Charter> Hub<L> {
     fn opened(
         alloc: Global,
         blank: Blank,
-        history: History,
         certified: Certified,
         limit: usize,
     ) -> Result<(Hub<L>, Seats<L>), AllocError>
         requires blank { (blank.name ≡ L.name) × (blank.parts ≡ L.parts) }
-        requires history { L.history ≡ Some history }
         requires charter { IsCharterOf L.certified L.limit L.whole L.parts certified limit }
         ensures each { IfOk result (λ r. AreOneEach (tables_of certified) (all_seats r.1.wires.items r.1.routers.items r.1.outputs.items r.1.clock) × (parts_in (all_seats r.1.wires.items r.1.routers.items r.1.outputs.items r.1.clock) ≡ L.parts) × (receipts_in (all_seats r.1.wires.items r.1.routers.items r.1.outputs.items r.1.clock) ≡ 0)) }
         ensures wires { IfOk result (λ r. AreNewWires r.0 r.1.wires.items (length (tables_of certified).buses)) }
         ensures routers { IfOk result (λ r. AreNewSeats Router r.1.routers.items (length (tables_of certified).routers)) }
         ensures outputs { IfOk result (λ r. AreNewSeats Output r.1.outputs.items (length (tables_of certified).outputs)) }
         ensures clock { IfOk result (λ r. r.1.clock ≡ Some (unused Clock (parts_for L.certified L.whole Clock))) }
-        ensures genuine { IfOk result (λ r. AllGenuine (all_seats r.1.wires.items r.1.routers.items r.1.outputs.items r.1.clock)) }
         ensures watch { IfOk result (λ r. IsSeatOf r.0 r.1.watch × (r.1.watch.1 ≡ stepped (length (tables_of certified).buses) (fresh board_caps))) }
     {
         let (board, mut marks) = board_of_marks(alloc)?;
         let (count, mut rest) = blank.open::<L>();
-        let History { mut keeper } = history;
         let tables = certified.tables();
         tables.valid();
-        let buses = tables.bus_count();
-        let wires = wire_seats(alloc, &board, &mut marks, &mut rest, &mut keeper, buses)?;
-        let routers = router_seats(alloc, &mut rest, &mut keeper, tables.router_count())?;
-        let outputs = output_seats(alloc, &mut rest, &mut keeper, tables.output_count())?;
+        let wires = wire_seats(alloc, &board, &mut marks, &mut rest, tables.bus_count())?;
+        let routers = router_seats(alloc, &mut rest, tables.router_count())?;
+        let outputs = output_seats(alloc, &mut rest, tables.output_count())?;
         let none = rest.empty();
-        let hand = keeper.hire(&Actor::Clock);
         let clock = ClockSeat {
-            seat: Seat::new(alloc, Actor::Clock, rest, hand),
+            seat: Seat::new(alloc, Actor::Clock, rest),
         };
         let seats = Seats {
             wires,
@@ -120,7 +109,7 @@ impl<L: Charter> Hub<L> {
             clock: Some(clock),
             watch: Watch { marks },
         };
-        let book = Book::new(alloc, certified, limit, count, none, keeper)?;
+        let book = Book::new(alloc, certified, limit, count, none)?;
         let hub = Hub {
             book: Mutex::new(book),
             board,
@@ -134,7 +123,6 @@ impl<L: Charter> Hub<L> {
         ensures receipt { IfOk result (λ r. (seat.new.receipts ≡ seat.old.receipts ++ r ∷ []) × (r.event ≡ event) × (backlog_of r.reply ≤ GREATEST_BACKLOG)) }
         ensures same { OnErr result (seat.new ≡ seat.old) }
         ensures kept { (seat.new.actor ≡ seat.old.actor) × (seat.new.parts ≡ seat.old.parts) }
-        ensures genuine { seat.new.genuine ≡ seat.old.genuine }
         ensures entry { IfOk result (λ r. IsOfLast L.certified L.limit (length seat.new.receipts) r) }
         ensures err { IfErr result (λ fault. IsRefusal L.certified L.limit (length seat.old.receipts) event fault) }
     {
@@ -156,7 +144,6 @@ impl<L: Charter> Hub<L> {
         ensures receipt { IfOk result (λ r. (seat.new.seat.receipts ≡ seat.old.seat.receipts ++ r ∷ []) × ((bus : ℕ) → seat.old.seat.actor ≡ Wire bus → r.event ≡ Arrive word bus)) }
         ensures same { OnErr result (seat.new ≡ seat.old) }
         ensures kept { (seat.new.seat.actor ≡ seat.old.seat.actor) × (seat.new.seat.parts ≡ seat.old.seat.parts) }
-        ensures genuine { seat.new.seat.genuine ≡ seat.old.seat.genuine }
         ensures board { IsSeatOf self.now seat.new.marks }
         ensures noted { HasNoted seat.new }
         ensures entry { IfOk result (λ r. IsOfLast L.certified L.limit (length seat.new.seat.receipts) r) }
@@ -176,7 +163,6 @@ impl<L: Charter> Hub<L> {
         ensures receipt { IfOk result (λ r. (seat.new.receipts ≡ seat.old.receipts ++ r ∷ []) × (actor_of r.event ≡ seat.old.actor)) }
         ensures same { OnErr result (seat.new ≡ seat.old) }
         ensures kept { (seat.new.actor ≡ seat.old.actor) × (seat.new.parts ≡ seat.old.parts) }
-        ensures genuine { seat.new.genuine ≡ seat.old.genuine }
         ensures entry { IfOk result (λ r. IsOfLast L.certified L.limit (length seat.new.receipts) r) }
         ensures err { IfErr result (λ fault. (event : Event) × (actor_of event ≡ seat.old.actor) × IsRefusal L.certified L.limit (length seat.old.receipts) event fault) }
     {
@@ -192,7 +178,6 @@ impl<L: Charter> Hub<L> {
         ensures receipt { IfOk result (λ r. (seat.new.receipts ≡ seat.old.receipts ++ r ∷ []) × (actor_of r.event ≡ seat.old.actor)) }
         ensures same { OnErr result (seat.new ≡ seat.old) }
         ensures kept { (seat.new.actor ≡ seat.old.actor) × (seat.new.parts ≡ seat.old.parts) }
-        ensures genuine { seat.new.genuine ≡ seat.old.genuine }
         ensures entry { IfOk result (λ r. IsOfLast L.certified L.limit (length seat.new.receipts) r) }
         ensures err { IfErr result (λ fault. (event : Event) × (actor_of event ≡ seat.old.actor) × IsRefusal L.certified L.limit (length seat.old.receipts) event fault) }
     {
@@ -208,7 +193,6 @@ impl<L: Charter> Hub<L> {
         ensures receipt { IfOk result (λ r. (seat.new.receipts ≡ seat.old.receipts ++ r ∷ []) × (r.event ≡ Tick)) }
         ensures same { OnErr result (seat.new ≡ seat.old) }
         ensures kept { (seat.new.actor ≡ seat.old.actor) × (seat.new.parts ≡ seat.old.parts) }
-        ensures genuine { seat.new.genuine ≡ seat.old.genuine }
         ensures entry { IfOk result (λ r. IsOfLast L.certified L.limit (length seat.new.receipts) r) }
         ensures err { IfErr result (λ fault. (event : Event) × (actor_of event ≡ seat.old.actor) × IsRefusal L.certified L.limit (length seat.old.receipts) event fault) }
     {
@@ -250,12 +234,11 @@ impl<L: Charter> Hub<L> {
     /// # Errors
     /// As of [`Book::close`](crate::Book::close), of a book of this hub: it has the tables, the certificate and the
     /// trace limit that the hub was opened with, and where the seats are one for each actor, as many entries as they
-    /// have receipts. No error where the seats are one for each actor and no test forged a receipt.
+    /// have receipts.
     pub fn close(self, seats: Seats<L>) -> Result<Closed, CloseFault>
         ensures ok { IfOk result (λ c. AreOneEach (tables_of c.certified) (all_seats seats.wires.items seats.routers.items seats.outputs.items seats.clock) × AllAgree c.entries (all_seats seats.wires.items seats.routers.items seats.outputs.items seats.clock)) }
         ensures same { IfOk result (λ c. (L.certified ≡ Some c.certified) × (length c.entries ≤ L.limit)) }
         ensures as_many { IfOk result (λ c. length c.entries ≡ receipts_in (all_seats seats.wires.items seats.routers.items seats.outputs.items seats.clock)) }
-        ensures honest { (c : Certified) → L.certified ≡ Some c → AreOneEach (tables_of c) (all_seats seats.wires.items seats.routers.items seats.outputs.items seats.clock) → AllGenuine (all_seats seats.wires.items seats.routers.items seats.outputs.items seats.clock) → IsOk result }
         ensures err { IfErr result (λ fault. (book : BookView) × IsBookOf L.certified L.limit book × (AreOneEach (tables_of book.certified) (all_seats seats.wires.items seats.routers.items seats.outputs.items seats.clock) → length book.entries ≡ receipts_in (all_seats seats.wires.items seats.routers.items seats.outputs.items seats.clock)) × IsCloseFault (tables_of book.certified) book.entries (all_seats seats.wires.items seats.routers.items seats.outputs.items seats.clock) fault) }
     {
         let Hub { book, board: _ } = self;

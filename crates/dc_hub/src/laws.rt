@@ -1,6 +1,6 @@
 //! What is sure of a hub that has closed; and a forged receipt, for tests.
 
-ghost use Rattle.std.specs.Prelude.{◌≡◌, false, ◌-◌, ◌≤◌, length, slice_set};
+ghost use Rattle.std.specs.Prelude.{◌≡◌, ◌-◌, ◌≤◌, length, slice_set};
 ghost use Rattle.dc_cert.specs.Bounds.{numbers_of};
 ghost use Rattle.dc_cert.specs.NamedRows.{named_rows};
 ghost use Rattle.dc_check.specs.Lent.{tables_of, certificate_of};
@@ -26,10 +26,8 @@ pub fn keeps_the_claims(closed: &Closed)
 pub fn forge<L: Charter>(seat: &mut ClockSeat<L>, receipt: Receipt)
     requires { 1 ≤ length seat.old.receipts }
     ensures actor { (seat.new.actor ≡ seat.old.actor) × (seat.new.parts ≡ seat.old.parts) }
-    ensures genuine { seat.new.genuine ≡ false }
     ensures replaced { seat.new.receipts ≡ slice_set seat.old.receipts (length seat.old.receipts - 1) receipt }
 {
     let last = seat.seat.receipts.len() - 1;
     seat.seat.receipts[last] = receipt;
-    seat.seat.genuine = false;
 }

@@ -1,14 +1,12 @@
 //! The concentrator in threads: a book under one lock, seats of the actors, and a board of marks beside the lock.
 #![tactic(auto)]
 
-mod account;
 mod book;
 mod charter;
 mod closed;
 mod closing;
 mod entry;
 mod fault;
-mod history;
 mod hub;
 pub mod laws;
 mod limits;
@@ -22,7 +20,6 @@ pub use closed::Closed;
 pub use closing::makes;
 pub use entry::{Entry, Receipt};
 pub use fault::{CloseFault, HubFault, OpenFault};
-pub use history::History;
 pub use hub::Hub;
 pub use limits::{GREATEST_BACKLOG, LONGEST_TRACE, MOST_ACTORS};
 pub use seat::{ClockSeat, OutputSeat, RouterSeat, Seat, Watch, WireSeat};

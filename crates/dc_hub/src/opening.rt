@@ -1,14 +1,12 @@
 //! The seats of a hub that opens.
 
-ghost use Rattle.std.specs.Prelude.{◌≡◌, ◌+◌, ◌<◌, ◌≤◌, Some, [], IfOk, OnOk};
+ghost use Rattle.std.specs.Prelude.{◌≡◌, ◌+◌, ◌<◌, ◌≤◌, IfOk, OnOk};
 ghost use Rattle.dc_board.specs.Marks.{IsSeatOf, fresh};
-ghost use Rattle.dc_event.specs.declared.event.Actor.TheVariants.{Wire, Router, Output, Clock};
-ghost use Rattle.dc_hub.specs.Histories.{In, NoneFrom, code};
+ghost use Rattle.dc_event.specs.declared.event.Actor.TheVariants.{Wire, Router, Output};
 ghost use Rattle.dc_hub.specs.Views.{board_caps, AreNewWires, AreNewSeats, stepped};
 ghost use Rattle.dc_board.specs.declared.limits.TheConstants.{MOST_WORDS};
 
 use crate::charter::Charter;
-use crate::history::Keeper;
 use crate::limits::GREATEST_BACKLOG;
 use crate::seat::{OutputSeat, RouterSeat, Seat, WireSeat};
 use dc_board::{Board, BoardSeat, MOST_WORDS};
@@ -30,26 +28,20 @@ pub fn wire_seats<L: Charter>(
     board: &Board,
     watch: &mut BoardSeat,
     rest: &mut Share<L>,
-    keeper: &mut Keeper,
     count: usize,
 ) -> Result<Vec<WireSeat<L>>, AllocError>
     requires watch { IsSeatOf board.now watch.old }
     requires few { count ≤ MOST_WORDS }
     requires parts { count < rest.old.parts }
     requires amount { rest.old.amount ≡ 0 }
-    requires history { (L.history ≡ Some keeper.old.history) × (keeper.old.log ≡ []) }
-    requires free { keeper.old.crew ≡ [] }
     ensures wires { IfOk result (λ v. AreNewWires board.now v.items count) }
     ensures watch { OnOk result (IsSeatOf board.now watch.new × (watch.new.1 ≡ stepped count watch.old.1)) }
     ensures rest { OnOk result ((rest.new.parts + count ≡ rest.old.parts) × (rest.new.amount ≡ 0)) }
-    ensures keeper { OnOk result ((keeper.new.history ≡ keeper.old.history) × (keeper.new.log ≡ []) × NoneFrom Router 0 keeper.new.crew × NoneFrom Output 0 keeper.new.crew × ¬ In (code Clock) keeper.new.crew) }
 {
     let mut wires = Vec::new(alloc);
     for bus in 0..count {
         let marks = board.split(watch);
-        let actor = Actor::Wire(bus);
-        let hand = keeper.hire(&actor);
-        let seat = Seat::new(alloc, actor, rest.split_off(1, 0), hand);
+        let seat = Seat::new(alloc, Actor::Wire(bus), rest.split_off(1, 0));
         wires.push(WireSeat { bus, seat, marks })?;
     }
     Ok(wires)
@@ -59,22 +51,16 @@ pub fn wire_seats<L: Charter>(
 pub fn router_seats<L: Charter>(
     alloc: Global,
     rest: &mut Share<L>,
-    keeper: &mut Keeper,
     count: usize,
 ) -> Result<Vec<RouterSeat<L>>, AllocError>
     requires parts { count < rest.old.parts }
     requires amount { rest.old.amount ≡ 0 }
-    requires history { (L.history ≡ Some keeper.old.history) × (keeper.old.log ≡ []) }
-    requires free { NoneFrom Router 0 keeper.old.crew × NoneFrom Output 0 keeper.old.crew × ¬ In (code Clock) keeper.old.crew }
     ensures seats { IfOk result (λ v. AreNewSeats Router v.items count) }
     ensures rest { OnOk result ((rest.new.parts + count ≡ rest.old.parts) × (rest.new.amount ≡ 0)) }
-    ensures keeper { OnOk result ((keeper.new.history ≡ keeper.old.history) × (keeper.new.log ≡ []) × NoneFrom Output 0 keeper.new.crew × ¬ In (code Clock) keeper.new.crew) }
 {
     let mut seats = Vec::new(alloc);
     for router in 0..count {
-        let actor = Actor::Router(router);
-        let hand = keeper.hire(&actor);
-        let seat = Seat::new(alloc, actor, rest.split_off(1, 0), hand);
+        let seat = Seat::new(alloc, Actor::Router(router), rest.split_off(1, 0));
         seats.push(RouterSeat { router, seat })?;
     }
     Ok(seats)
@@ -84,22 +70,16 @@ pub fn router_seats<L: Charter>(
 pub fn output_seats<L: Charter>(
     alloc: Global,
     rest: &mut Share<L>,
-    keeper: &mut Keeper,
     count: usize,
 ) -> Result<Vec<OutputSeat<L>>, AllocError>
     requires parts { count < rest.old.parts }
     requires amount { rest.old.amount ≡ 0 }
-    requires history { (L.history ≡ Some keeper.old.history) × (keeper.old.log ≡ []) }
-    requires free { NoneFrom Output 0 keeper.old.crew × ¬ In (code Clock) keeper.old.crew }
     ensures seats { IfOk result (λ v. AreNewSeats Output v.items count) }
     ensures rest { OnOk result ((rest.new.parts + count ≡ rest.old.parts) × (rest.new.amount ≡ 0)) }
-    ensures keeper { OnOk result ((keeper.new.history ≡ keeper.old.history) × (keeper.new.log ≡ []) × ¬ In (code Clock) keeper.new.crew) }
 {
     let mut seats = Vec::new(alloc);
     for output in 0..count {
-        let actor = Actor::Output(output);
-        let hand = keeper.hire(&actor);
-        let seat = Seat::new(alloc, actor, rest.split_off(1, 0), hand);
+        let seat = Seat::new(alloc, Actor::Output(output), rest.split_off(1, 0));
         seats.push(OutputSeat { output, seat })?;
     }
     Ok(seats)

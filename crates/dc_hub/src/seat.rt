@@ -1,6 +1,6 @@
 //! The seats of actors, each with what it was answered.
 
-ghost use Rattle.std.specs.Prelude.{◌≡◌, ℕ, ◌+◌, ◌<◌, true, Some, [], length, slice_index};
+ghost use Rattle.std.specs.Prelude.{◌≡◌, ℕ, ◌+◌, ◌<◌, [], length, slice_index};
 ghost use Rattle.atomic_table.specs.Seated.{TableId};
 ghost use Rattle.dc_board.specs.declared.view.View.{View};
 ghost use Rattle.dc_event.specs.declared.event.Actor.TheVariants.{Wire, Router, Output, Clock};
@@ -9,46 +9,39 @@ ghost use Rattle.dc_board.specs.declared.limits.TheConstants.{MOST_WORDS};
 
 use crate::charter::Charter;
 use crate::entry::Receipt;
-use crate::history::Hand;
 use dc_board::BoardSeat;
 use dc_event::Actor;
 use std::alloc::Global;
 use std::marker::Model;
 use std::sync::ledger::Share;
 
-/// What one actor was answered, with its share of the hub's count, which is the number of its receipts, and its hand in the
-/// hub's history, which has the same receipts where no test forged one.
+/// What one actor was answered, with its share of the hub's count, which is the number of its receipts.
 #[derive(Drop)]
 pub struct Seat<L: Charter> {
     pub(crate) actor: Actor,
     pub(crate) receipts: Vec<Receipt>,
     pub(crate) share: Share<L>,
-    pub(crate) hand: Hand,
-    pub(crate) genuine: bool,
 }
 
 impl<L: Charter> Model for Seat<L> {
     ghost Value = { SeatView };
 
-    ghost view = { λ s. record { actor = s.actor; receipts = s.receipts.items; parts = s.share.parts; genuine = s.genuine } };
+    ghost view = { λ s. record { actor = s.actor; receipts = s.receipts.items; parts = s.share.parts } };
 
-    ghost invariant = { λ s. (s.share.amount ≡ length s.receipts.items) × (s.share.parts ≡ parts_for L.certified L.whole s.actor) × (0 < s.share.parts) × (L.history ≡ Some s.hand.history) × (s.hand.actor ≡ s.actor) × (s.genuine ≡ true → s.hand.mine ≡ s.receipts.items) };
+    ghost invariant = { λ s. (s.share.amount ≡ length s.receipts.items) × (s.share.parts ≡ parts_for L.certified L.whole s.actor) × (0 < s.share.parts) };
 }
 
 impl<L: Charter> Seat<L> {
     /// A seat that was answered nothing.
-    pub(crate) fn new(alloc: Global, actor: Actor, share: Share<L>, hand: Hand) -> Seat<L>
+    pub(crate) fn new(alloc: Global, actor: Actor, share: Share<L>) -> Seat<L>
         requires amount { share.amount ≡ 0 }
         requires parts { (share.parts ≡ parts_for L.certified L.whole actor) × (0 < share.parts) }
-        requires hand { (L.history ≡ Some hand.history) × (hand.actor ≡ actor) × (hand.mine ≡ []) }
         ensures { result ≡ unused actor share.parts }
     {
         Seat {
             actor,
             receipts: Vec::new(alloc),
             share,
-            hand,
-            genuine: true,
         }
     }
 

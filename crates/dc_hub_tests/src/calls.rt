@@ -1,6 +1,6 @@
 //! Calls of one thread.
 
-ghost use Rattle.std.specs.Prelude.{◌≡◌, Some};
+ghost use Rattle.std.specs.Prelude.{◌≡◌};
 ghost use Rattle.dc_hub.specs.Opening.{IsCharterOf};
 
 use crate::fixture::small_certified;
@@ -8,7 +8,7 @@ use crate::runs::{End, Summary, answers, arrive, opened};
 use dc_check::Certified;
 use dc_core::StepFault;
 use dc_event::{Event, Reply};
-use dc_hub::{Charter, CloseFault, History, HubFault, MOST_ACTORS};
+use dc_hub::{Charter, CloseFault, HubFault, MOST_ACTORS};
 use dc_word::{Label, Word};
 use std::alloc::Global;
 use std::marker::Brand;
@@ -140,14 +140,12 @@ fn two_words<L: Charter, R: Wait + Abort>(
     rt: &R,
     alloc: Global,
     blank: Blank,
-    history: History,
     certified: Certified,
 ) -> Result<(), Fail>
     requires blank { (blank.name ≡ L.name) × (blank.parts ≡ L.parts) }
-    requires history { L.history ≡ Some history }
     requires charter { IsCharterOf L.certified L.limit L.whole L.parts certified 16 }
 {
-    let (hub, mut seats) = opened::<L>(alloc, blank, history, certified, 16)?;
+    let (hub, mut seats) = opened::<L>(alloc, blank, certified, 16)?;
     let mut early = hub.split(&mut seats.watch);
     assert!(rt; hub.read(&mut seats.watch, 0) == 0);
     assert!(rt; arrive(rt, &hub, &mut seats.wires, 0, FIRST).is_ok());
@@ -162,6 +160,5 @@ fn two_words<L: Charter, R: Wait + Abort>(
 fn two_words_wait(rt: HostRuntime) -> Result<(), Fail> {
     let certified = small_certified(rt.alloc()).ok_or("no tables")?;
     certified.tables().valid();
-    let (blank, history) = (Blank::new(MOST_ACTORS), History::new(rt.alloc())?);
-    two_words::<Brand, HostRuntime>(&rt, rt.alloc(), blank, history, certified)
+    two_words::<Brand, HostRuntime>(&rt, rt.alloc(), Blank::new(MOST_ACTORS), certified)
 }

@@ -1,6 +1,6 @@
 //! Calls that are made again where memory was refused. What each says is a line of the output.
 
-ghost use Rattle.std.specs.Prelude.{◌≡◌, Some};
+ghost use Rattle.std.specs.Prelude.{◌≡◌};
 ghost use Rattle.dc_board.specs.Marks.{IsSeatOf};
 ghost use Rattle.dc_hub.specs.Opening.{IsCharterOf};
 ghost use Rattle.dc_hub_tests.specs.OfBoard.{AreOfBoard};
@@ -8,7 +8,7 @@ ghost use Rattle.dc_hub_tests.specs.OfBoard.{AreOfBoard};
 use crate::fixture::small_certified;
 use dc_board::Board;
 use dc_check::Certified;
-use dc_hub::{Charter, CloseFault, History, Hub, HubFault, MOST_ACTORS, OpenFault, Seats, Watch, WireSeat};
+use dc_hub::{Charter, CloseFault, Hub, HubFault, MOST_ACTORS, OpenFault, Seats, Watch, WireSeat};
 use dc_word::Word;
 use std::alloc::Global;
 use std::io;
@@ -89,14 +89,12 @@ fn hub_once<L: Charter, R: Wait + Print>(
     rt: &R,
     alloc: Global,
     blank: Blank,
-    history: History,
     certified: Certified,
 ) -> io::Result<bool>
     requires blank { (blank.name ≡ L.name) × (blank.parts ≡ L.parts) }
-    requires history { L.history ≡ Some history }
     requires charter { IsCharterOf L.certified L.limit L.whole L.parts certified 16 }
 {
-    match Hub::<L>::open(alloc, blank, history, certified, 16) {
+    match Hub::<L>::open(alloc, blank, certified, 16) {
         Ok((hub, seats)) => {
             println!(rt; "open: ok")?;
             arrive_and_close(rt, hub, seats)?;
@@ -116,11 +114,7 @@ fn hub_of_a_blank<R: Wait + Print>(rt: &R, alloc: Global) -> io::Result<bool> {
         return Ok(false);
     };
     certified.tables().valid();
-    let Ok(history) = History::new(alloc) else {
-        println!(rt; "history: memory")?;
-        return Ok(false);
-    };
-    hub_once::<Brand, R>(rt, alloc, Blank::new(MOST_ACTORS), history, certified)
+    hub_once::<Brand, R>(rt, alloc, Blank::new(MOST_ACTORS), certified)
 }
 
 /// Opens a hub, and once more where memory was refused.

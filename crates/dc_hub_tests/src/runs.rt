@@ -1,6 +1,6 @@
 //! A hub over the small tables, whose calls are compared one by one.
 
-ghost use Rattle.std.specs.Prelude.{◌≡◌, ◌≤◌, IfOk, Some};
+ghost use Rattle.std.specs.Prelude.{◌≡◌, ◌≤◌, IfOk};
 ghost use Rattle.dc_board.specs.Marks.{IsSeatOf};
 ghost use Rattle.dc_hub.specs.Opening.{IsCharterOf};
 ghost use Rattle.dc_hub.specs.declared.limits.TheConstants.{LONGEST_TRACE};
@@ -11,7 +11,7 @@ use dc_check::Certified;
 use dc_event::{Event, Reply};
 use dc_hub::laws::forge;
 use dc_hub::{
-    Charter, ClockSeat, CloseFault, History, Hub, HubFault, MOST_ACTORS, OutputSeat, Receipt, RouterSeat,
+    Charter, ClockSeat, CloseFault, Hub, HubFault, MOST_ACTORS, OutputSeat, Receipt, RouterSeat,
     Seats, WireSeat,
 };
 use dc_word::Word;
@@ -46,17 +46,15 @@ pub struct Summary {
 pub fn opened<L: Charter>(
     alloc: Global,
     blank: Blank,
-    history: History,
     certified: Certified,
     limit: usize,
 ) -> Result<(Hub<L>, Seats<L>), Fail>
     requires blank { (blank.name ≡ L.name) × (blank.parts ≡ L.parts) }
-    requires history { L.history ≡ Some history }
     requires charter { IsCharterOf L.certified L.limit L.whole L.parts certified limit }
     ensures wires { IfOk result (λ r. AreOfBoard r.0 r.1.wires.items) }
     ensures watch { IfOk result (λ r. IsSeatOf r.0 r.1.watch) }
 {
-    match Hub::<L>::open(alloc, blank, history, certified, limit) {
+    match Hub::<L>::open(alloc, blank, certified, limit) {
         Ok(opened) => Ok(opened),
         Err(_) => Err("no hub".into()),
     }
@@ -214,18 +212,16 @@ fn closed<L: Charter>(hub: Hub<L>, seats: Seats<L>) -> Result<Summary, CloseFaul
 fn answers_by<L: Charter, R: Wait + Abort>(
     rt: &R,
     alloc: Global,
-    fresh: (Blank, History),
+    blank: Blank,
     certified: Certified,
     limit: usize,
     steps: &[(Event, Result<Reply, HubFault>)],
     ending: (End, Result<Summary, CloseFault>),
 ) -> Result<(), Fail>
-    requires blank { (fresh.0.name ≡ L.name) × (fresh.0.parts ≡ L.parts) }
-    requires history { L.history ≡ Some fresh.1 }
+    requires blank { (blank.name ≡ L.name) × (blank.parts ≡ L.parts) }
     requires charter { IsCharterOf L.certified L.limit L.whole L.parts certified limit }
 {
-    let (blank, history) = fresh;
-    let (hub, mut seats) = opened::<L>(alloc, blank, history, certified, limit)?;
+    let (hub, mut seats) = opened::<L>(alloc, blank, certified, limit)?;
     compare(rt, &hub, &mut seats, steps);
     spoil(&mut seats.clock, ending.0);
     assert!(rt; closed(hub, seats) == ending.1);
@@ -244,6 +240,6 @@ pub fn answers<R: Wait + Abort>(
 {
     let certified = small_certified(alloc).ok_or("no tables")?;
     certified.tables().valid();
-    let fresh = (Blank::new(MOST_ACTORS), History::new(alloc)?);
-    answers_by::<Brand, R>(rt, alloc, fresh, certified, limit, steps, ending)
+    let blank = Blank::new(MOST_ACTORS);
+    answers_by::<Brand, R>(rt, alloc, blank, certified, limit, steps, ending)
 }

@@ -1,6 +1,6 @@
 //! Wires, routers, outputs and a clock in threads of their own, and a monitor beside them.
 
-ghost use Rattle.std.specs.Prelude.{◌≡◌, Some};
+ghost use Rattle.std.specs.Prelude.{◌≡◌};
 ghost use Rattle.dc_board.specs.Marks.{IsSeatOf};
 ghost use Rattle.dc_hub.specs.Opening.{IsCharterOf};
 ghost use Rattle.dc_hub_tests.specs.OfBoard.{AreOfBoard};
@@ -10,7 +10,7 @@ use crate::runs::{opened, tick};
 use dc_check::Certified;
 use dc_event::{Event, Reply};
 use dc_hub::{
-    Charter, ClockSeat, CloseFault, Closed, Entry, History, Hub, MOST_ACTORS, OutputSeat, RouterSeat, Seats,
+    Charter, ClockSeat, CloseFault, Closed, Entry, Hub, MOST_ACTORS, OutputSeat, RouterSeat, Seats,
     Watch, WireSeat,
 };
 use dc_oracle::{keeps_budgets, outputs};
@@ -292,14 +292,12 @@ fn run_all<L: Charter + Send + Sync, R: Threads + Wait + Abort + Sync>(
     rt: &R,
     alloc: Global,
     blank: Blank,
-    history: History,
     certified: Certified,
 ) -> Result<(), Fail>
     requires blank { (blank.name ≡ L.name) × (blank.parts ≡ L.parts) }
-    requires history { L.history ≡ Some history }
     requires charter { IsCharterOf L.certified L.limit L.whole L.parts certified 1000000 }
 {
-    let (hub, seats) = opened::<L>(alloc, blank, history, certified, 1_000_000)?;
+    let (hub, seats) = opened::<L>(alloc, blank, certified, 1_000_000)?;
     let (seats, fell) = run_seats(rt, &hub, seats);
     assert!(rt; !fell);
     judge_closed(rt, alloc, hub.close(seats?))
@@ -309,6 +307,5 @@ fn run_all<L: Charter + Send + Sync, R: Threads + Wait + Abort + Sync>(
 fn actors_run_in_threads(rt: HostRuntime) -> Result<(), Fail> {
     let certified = wide_certified(rt.alloc()).ok_or("no tables")?;
     certified.tables().valid();
-    let (blank, history) = (Blank::new(MOST_ACTORS), History::new(rt.alloc())?);
-    run_all::<Brand, HostRuntime>(&rt, rt.alloc(), blank, history, certified)
+    run_all::<Brand, HostRuntime>(&rt, rt.alloc(), Blank::new(MOST_ACTORS), certified)
 }

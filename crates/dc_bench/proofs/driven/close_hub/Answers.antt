@@ -1,6 +1,6 @@
 use Rattle.std.proofs.Common.{◌≤◌, IfSome, length, sym, subst}
 use Rattle.dc_answer.specs.Judging.{Judged}
-use Rattle.dc_bench.proofs.Roles.{closed_driven}
+use Rattle.dc_bench.proofs.Roles.{closed_driven, unclosed}
 use Rattle.dc_bench.specs.Bench.{AnswersRun}
 use Rattle.dc_hub.specs.Closing.{all_seats}
 use Rattle.dc_bench.proofs.driven.close_hub.Goals as goal
@@ -15,3 +15,8 @@ judge_book-requires-clause-driven g c =
 
 pub returns-in-Ok-clause-answer : goal.returns-in-Ok-clause-answer
 returns-in-Ok-clause-answer g c = subst (λ o. IfSome o (λ x. Judged (AnswersRun x c.args.ticks) c.judge_book.new.text.items c.judge_book.result)) (sym c.in-Ok.ensures.same.0) c.judge_book.ensures.answer
+
+pub refuse_hub-requires : goal.refuse_hub-requires
+refuse_hub-requires g c =
+    unclosed g.L.Charter.certified g.L.Charter.limit c.args.ticks c.in-Err.ensures.err.0 (all_seats c.args.seats.wires.items c.args.seats.routers.items c.args.seats.outputs.items c.args.seats.clock) _
+    c.requires.limit c.in-Err.ensures.err.1 c.in-Err.ensures.err.3

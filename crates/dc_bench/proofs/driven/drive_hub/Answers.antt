@@ -1,21 +1,11 @@
 use Rattle.std.proofs.Common.{◌≡◌, Err, sym, ap, subst, ◌∙◌}
-use Rattle.dc_bench.proofs.Roles.{never_stuck, of_known, of_tables, still_each, still_genuine}
+use Rattle.dc_bench.proofs.Roles.{never_stuck, of_known}
 use Rattle.dc_bench.specs.Bench.{WentAstray}
 use Rattle.dc_drive.specs.Played.{HaveRoles}
 use Rattle.dc_drive.specs.declared.fault.DriveFault.{DriveFault}
-use Rattle.dc_hub.specs.Closing.{all_seats, AreOneEach}
+use Rattle.dc_hub.specs.Closing.{all_seats}
 use Rattle.dc_script.specs.Script.{bench_script}
 use Rattle.dc_bench.proofs.driven.drive_hub.Goals as goal
-
-pub close_hub-requires-clause-each : goal.close_hub-requires-clause-each
-close_hub-requires-clause-each g c =
-    of_tables (λ t. AreOneEach t (all_seats c.drive.new.seats.wires.items c.drive.new.seats.routers.items c.drive.new.seats.outputs.items c.drive.new.seats.clock)) g.L.Charter.certified c.args.tables.now c.requires.tables
-    (still_each c.args.tables.now (all_seats c.args.seats.wires.items c.args.seats.routers.items c.args.seats.outputs.items c.args.seats.clock)
-    (all_seats c.drive.new.seats.wires.items c.drive.new.seats.routers.items c.drive.new.seats.outputs.items c.drive.new.seats.clock) c.drive.ensures.same c.requires.each)
-
-pub close_hub-requires-clause-genuine : goal.close_hub-requires-clause-genuine
-close_hub-requires-clause-genuine g c = still_genuine (all_seats c.args.seats.wires.items c.args.seats.routers.items c.args.seats.outputs.items c.args.seats.clock)
-    (all_seats c.drive.new.seats.wires.items c.drive.new.seats.routers.items c.drive.new.seats.outputs.items c.drive.new.seats.clock) c.drive.ensures.same c.requires.genuine
 
 pub close_hub-requires-clause-roles : goal.close_hub-requires-clause-roles
 close_hub-requires-clause-roles g c =

@@ -1,7 +1,7 @@
 use Rattle.std.proofs.Common.{rules, length, ap, arith}
 use Rattle.dc_drive.specs.Played.{AllPlayed, itself, seat_of_wire}
 use Rattle.dc_drive.proofs.Roles.{of-all}
-use Rattle.dc_drive.proofs.Same.{counted, same-all}
+use Rattle.dc_drive.proofs.Same.{counted}
 use Rattle.dc_drive.proofs.driving.drive.Goals as goal
 
 pub all_have_played-requires-clause-wires : goal.all_have_played-requires-clause-wires
@@ -22,23 +22,3 @@ returns-then-all_have_played-clause-fresh g c = λ none.
     c.args.seats.now.clock c.play.new.seats.clock = search rules in
     of-all c.args.tables.now c.args.script.now c.args.seats.now.wires.items c.play.new.seats.wires.items c.args.seats.now.routers.items c.play.new.seats.routers.items c.args.seats.now.outputs.items c.play.new.seats.outputs.items
     c.args.seats.now.clock c.play.new.seats.clock c.play.ensures.wires c.play.ensures.routers c.play.ensures.outputs c.play.ensures.clock played none
-
-pub returns-in-Err-clause-same : goal.returns-in-Err-clause-same
-returns-in-Err-clause-same g c =
-    same-all c.args.seats.now.wires.items c.play.new.seats.wires.items c.args.seats.now.routers.items c.play.new.seats.routers.items c.args.seats.now.outputs.items c.play.new.seats.outputs.items c.args.seats.now.clock c.play.new.seats.clock
-    c.play.ensures.wires c.play.ensures.routers c.play.ensures.outputs c.play.ensures.clock
-
-pub returns-in_default-steady-clause-same : goal.returns-in_default-steady-clause-same
-returns-in_default-steady-clause-same g c =
-    same-all c.args.seats.now.wires.items c.play.new.seats.wires.items c.args.seats.now.routers.items c.play.new.seats.routers.items c.args.seats.now.outputs.items c.play.new.seats.outputs.items c.args.seats.now.clock c.play.new.seats.clock
-    c.play.ensures.wires c.play.ensures.routers c.play.ensures.outputs c.play.ensures.clock
-
-pub returns-then-all_have_played-clause-same : goal.returns-then-all_have_played-clause-same
-returns-then-all_have_played-clause-same g c =
-    same-all c.args.seats.now.wires.items c.play.new.seats.wires.items c.args.seats.now.routers.items c.play.new.seats.routers.items c.args.seats.now.outputs.items c.play.new.seats.outputs.items c.args.seats.now.clock c.play.new.seats.clock
-    c.play.ensures.wires c.play.ensures.routers c.play.ensures.outputs c.play.ensures.clock
-
-pub returns-clause-same : goal.returns-clause-same
-returns-clause-same g c =
-    same-all c.args.seats.now.wires.items c.play.new.seats.wires.items c.args.seats.now.routers.items c.play.new.seats.routers.items c.args.seats.now.outputs.items c.play.new.seats.outputs.items c.args.seats.now.clock c.play.new.seats.clock
-    c.play.ensures.wires c.play.ensures.routers c.play.ensures.outputs c.play.ensures.clock

@@ -5,4 +5,4 @@ abbrev pub ghosts-open_once-L-Ledger : goal.ghosts-open_once-L-Ledger
 ghosts-open_once-L-Ledger g a = record { name = a.blank.name; parts = a.blank.parts }
 
 abbrev pub ghosts-open_once-L-Charter : goal.ghosts-open_once-L-Charter
-ghosts-open_once-L-Charter g a = record { certified = Some a.certified; limit = 1000; whole = a.blank.parts; history = Some a.history }
+ghosts-open_once-L-Charter g a = record { certified = Some a.certified; limit = 1000; whole = a.blank.parts }

@@ -5,4 +5,4 @@ abbrev pub ghosts-two_words-L-Ledger : goal.ghosts-two_words-L-Ledger
 ghosts-two_words-L-Ledger g a = record { name = a.blank.name; parts = a.blank.parts }
 
 abbrev pub ghosts-two_words-L-Charter : goal.ghosts-two_words-L-Charter
-ghosts-two_words-L-Charter g a = record { certified = Some a.certified; limit = 16; whole = a.blank.parts; history = Some a.history }
+ghosts-two_words-L-Charter g a = record { certified = Some a.certified; limit = 16; whole = a.blank.parts }

@@ -27,13 +27,11 @@ invariant_of-self-2 g c =
     let count : c.add.new.self.total ≡ length (c.self.inside.entries.items ++ entry c.args.event c.in-Ok.reply ∷ []) = search (rules, length-append) in
     let room : length c.self.inside.entries.items < c.self.inside.limit = search rules in
     let fits : length (c.self.inside.entries.items ++ entry c.args.event c.in-Ok.reply ∷ []) ≤ c.self.inside.limit = omega (arith, room, length-append c.self.inside.entries.items (entry c.args.event c.in-Ok.reply ∷ [])) in
-    let history : g.L.Charter.history ≡ Some c.record.new.self.history = search rules in
-    let log : c.record.new.self.log ≡ c.self.inside.entries.items ++ entry c.args.event c.in-Ok.reply ∷ [] = search rules in
     subst
     (λ es. IsLegal (tables_of c.self.inside.certified) es × IsSized (tables_of c.self.inside.certified) c.step.new.state × StandsFor (tables_of c.self.inside.certified) c.step.new.state (events es) × (c.add.new.self.total ≡ length es)
-    × (length es ≤ c.self.inside.limit) × (g.L.Charter.certified ≡ Some c.self.inside.certified) × (g.L.Charter.limit ≡ c.self.inside.limit) × (others g.L.Charter.certified < g.L.Charter.whole) × (c.self.inside.none.parts ≡ 0) × (c.self.inside.none.amount ≡ 0) × (g.L.Charter.history ≡ Some c.record.new.self.history) × (c.record.new.self.log ≡ es))
+    × (length es ≤ c.self.inside.limit) × (g.L.Charter.certified ≡ Some c.self.inside.certified) × (g.L.Charter.limit ≡ c.self.inside.limit) × (others g.L.Charter.certified < g.L.Charter.whole) × (c.self.inside.none.parts ≡ 0) × (c.self.inside.none.amount ≡ 0))
     (sym items)
-    (legal, c.in-Ok.ensures.sized, stands, count, fits, i.5, i.6, i.7, i.8, i.9, history, log)
+    (legal, c.in-Ok.ensures.sized, stands, count, fits, i.5, i.6, i.7, i.8, i.9)
 
 pub returns-clause-legal : goal.returns-clause-legal
 returns-clause-legal g c =

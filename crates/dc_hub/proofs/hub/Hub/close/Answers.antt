@@ -1,10 +1,7 @@
-use Rattle.std.proofs.Common.{List, subst, sym, ◌∙◌}
-use Rattle.dc_check.specs.Lent.{tables_of}
-use Rattle.dc_check.specs.declared.certified.Certified.{Certified}
-use Rattle.dc_hub.specs.Closing.{all_seats, AreOneEach}
+use Rattle.std.proofs.Common.{List}
+use Rattle.dc_hub.specs.Closing.{all_seats}
 use Rattle.dc_hub.specs.Views.{SeatView}
 use Rattle.dc_hub.proofs.Closes.{closed_of, counted_of, fault_of}
-use Rattle.dc_hub.proofs.Opens.{some-same}
 use Rattle.dc_hub.proofs.hub.Hub.close.Goals as goal
 
 pub returns-clause-same : goal.returns-clause-same
@@ -21,11 +18,3 @@ returns-clause-err g c =
     let s = c.args.seats in
     let seats : List SeatView = all_seats s.wires.items s.routers.items s.outputs.items s.clock in
     fault_of g.L.Charter.certified g.L.Charter.limit c.into_inner-book.result seats c.close.result c.of_hub.ensures c.close.ensures.as_many c.close.ensures.err
-
-pub returns-clause-honest : goal.returns-clause-honest
-returns-clause-honest g c = λ certified is each genuine.
-    let s = c.args.seats in
-    let seats : List SeatView = all_seats s.wires.items s.routers.items s.outputs.items s.clock in
-    c.close.ensures.honest
-    (subst (λ (x : Certified). AreOneEach (tables_of x) seats) (some-same certified c.into_inner-book.result.certified (sym is ∙ c.of_hub.ensures.certified_is)) each)
-    genuine
