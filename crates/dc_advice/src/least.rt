@@ -1,15 +1,15 @@
 //! `margins` without a certificate: the least one is taken.
 
-ghost use Rattle.std.specs.Prelude.{◌≡◌, ◌≢◌, ℕ, List, ◌++◌, ◌+◌, ◌^◌, ◌<◌, ◌≤◌, IfErr, IfOk, Some};
+ghost use Rattle.std.specs.Prelude.{◌≡◌, ◌≢◌, ℕ, List, ◌++◌, ◌+◌, ◌<◌, ◌≤◌, IfErr, IfOk, Some};
 ghost use Rattle.dc_cert.specs.Bounds.{certificate_rows};
 ghost use Rattle.dc_check.specs.Verdict.{IsSized, job_count};
 ghost use Rattle.dc_find.specs.Least.{NoneAccepted};
 ghost use Rattle.dc_find.specs.Ways.{IsFirstInTheWay};
 ghost use Rattle.dc_answer.specs.Answer.{Any, LeavesSink, Raises, Reported};
 ghost use Rattle.dc_answer.specs.Judging.{Judged};
-ghost use Rattle.dc_device.specs.Device.{AsksUpTo};
 ghost use Rattle.dc_parts.specs.declared.limits.TheConstants.{TEXT_LIMIT};
 ghost use Rattle.dc_advice.specs.Margins.{AnswersReached, AnswersRows, AnswersTablesAlone, ReportsLeast, fed, lines_of_first};
+ghost use Rattle.dc_device.specs.States.{AsksUpTo, CanFail, IsCountable};
 
 use crate::margins::{append_lines, judge};
 use dc_answer::{Exit, Failure, Outcome, Unloaded, load, report, say};
@@ -79,10 +79,10 @@ fn judge_alone<T: Source>(
     tables: &mut T,
     text: &mut Vec<u8>,
 ) -> Result<Outcome, Failure>
-    requires { T.failed tables.old + 1 < 2 ^ 64 }
-    ensures answer { (rows : List ℕ) → T.remaining tables.old ≡ Some rows → Judged (AnswersTablesAlone rows) text.new.items result }
-    ensures source { Raises (T.failed tables.old) (T.failed tables.new) result }
-    ensures asks { AsksUpTo TEXT_LIMIT (T.asked tables.old) (T.asked tables.new) (T.dry tables.old) (T.dry tables.new) }
+    requires { IsCountable (T.state tables.old) }
+    ensures answer { (rows : List ℕ) → (T.state tables.old).remaining ≡ Some rows → Judged (AnswersTablesAlone rows) text.new.items result }
+    ensures source { Raises (T.state tables.old).failed (T.state tables.new).failed result }
+    ensures asks { AsksUpTo TEXT_LIMIT (T.state tables.old) (T.state tables.new) }
     ensures sink { IfErr result (λ e. e ≢ Failure.Sink) }
 {
     match load(alloc, tables) {
@@ -102,16 +102,16 @@ fn judge_alone<T: Source>(
 /// behind whole lines of a front of the answer; where a push or flush failed, a front of one of these or of the answer.
 /// That call is the last of the sink, and at most one pull of the source gives no byte.
 pub fn run_margins_least<T: Source, K: Sink>(alloc: Global, tables: &mut T, sink: &mut K) -> Exit
-    requires tables { T.failed tables.old + 1 < 2 ^ 64 }
-    requires sink { K.failed sink.old + 1 < 2 ^ 64 }
-    ensures reports { (rows : List ℕ) → T.remaining tables.old ≡ Some rows
-        → ReportsLeast rows (K.contents sink.old) (K.contents sink.new) (T.failed tables.old) (T.failed tables.new)
-        (K.failed sink.old) (K.failed sink.new) result }
-    ensures reported { Reported Any (K.contents sink.old) (K.contents sink.new) (T.failed tables.old) (T.failed tables.new)
-        (K.failed sink.old) (K.failed sink.new) result }
-    ensures asks { AsksUpTo TEXT_LIMIT (T.asked tables.old) (T.asked tables.new) (T.dry tables.old) (T.dry tables.new) }
-    ensures left { LeavesSink (K.failed sink.old) (K.failed sink.new) (K.last_failed sink.new) (K.hidden sink.new) }
-    ensures quiet { result ≢ Exit.Failed → T.failed tables.new + K.failed sink.new ≡ T.failed tables.old + K.failed sink.old }
+    requires tables { IsCountable (T.state tables.old) }
+    requires sink { CanFail (K.state sink.old) }
+    ensures reports { (rows : List ℕ) → (T.state tables.old).remaining ≡ Some rows
+        → ReportsLeast rows (K.state sink.old).contents (K.state sink.new).contents (T.state tables.old).failed (T.state tables.new).failed
+        (K.state sink.old).failed (K.state sink.new).failed result }
+    ensures reported { Reported Any (K.state sink.old).contents (K.state sink.new).contents (T.state tables.old).failed (T.state tables.new).failed
+        (K.state sink.old).failed (K.state sink.new).failed result }
+    ensures asks { AsksUpTo TEXT_LIMIT (T.state tables.old) (T.state tables.new) }
+    ensures left { LeavesSink (K.state sink.old).failed (K.state sink.new).failed (K.state sink.new).last_failed (K.state sink.new).hidden }
+    ensures quiet { result ≢ Exit.Failed → (T.state tables.new).failed + (K.state sink.new).failed ≡ (T.state tables.old).failed + (K.state sink.old).failed }
 {
     let mut text = Vec::new(alloc);
     let judged = judge_alone(alloc, tables, &mut text);

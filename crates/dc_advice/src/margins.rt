@@ -1,6 +1,6 @@
 //! `margins`: the verdict on a certificate, and a line for each of its conditions.
 
-ghost use Rattle.std.specs.Prelude.{◌≡◌, ◌≢◌, ℕ, List, ◌∷◌, ◌++◌, ◌+◌, ◌^◌, ◌<◌, IfErr, IfOk, IfSome, None, Some, Ok, codes, map};
+ghost use Rattle.std.specs.Prelude.{◌≡◌, ◌≢◌, ℕ, List, ◌∷◌, ◌++◌, ◌+◌, ◌<◌, IfErr, IfOk, IfSome, None, Some, Ok, codes, map};
 ghost use Rattle.std.specs.List.{All};
 ghost use Rattle.dc_answer.specs.Answer.{Any, LeavesSink, Raises, Reported, unreadable};
 ghost use Rattle.dc_answer.specs.Inputs.{OnlyBehind};
@@ -10,12 +10,12 @@ ghost use Rattle.dc_cert.specs.NamedRows.{named_rows};
 ghost use Rattle.dc_cert.specs.Reading.{certificate_of};
 ghost use Rattle.dc_check.specs.Placed.{IsPlaced};
 ghost use Rattle.dc_check.specs.Verdict.{IsSized, misnaming, verdict_of};
-ghost use Rattle.dc_device.specs.Device.{AsksUpTo};
 ghost use Rattle.dc_margin.specs.Lines.{IsLinePlaced};
 ghost use Rattle.dc_toml.specs.Reading.{tables_of};
 ghost use Rattle.dc_parts.specs.declared.limits.TheConstants.{TEXT_LIMIT};
 ghost use Rattle.dc_advice.specs.Lines.{margin_text};
 ghost use Rattle.dc_advice.specs.Margins.{Answers, AnswersMargins, ReportsMargins, answer_claims, answer_margins, fed, verdict_line, verdict_outcome};
+ghost use Rattle.dc_device.specs.States.{AsksUpTo, CanFail, IsCountable};
 
 use crate::lines::print_margin;
 use dc_answer::{Exit, Failure, Outcome, Unloaded, load, load_certificate, report, say};
@@ -164,10 +164,10 @@ fn judge_source<C: Source>(
     certificate: &mut C,
     text: &mut Vec<u8>,
 ) -> Result<Outcome, Failure>
-    requires { C.failed certificate.old + 1 < 2 ^ 64 }
-    ensures answer { IfSome (C.remaining certificate.old) (λ given. Answers (answer_claims tables.now (certificate_of given)) text.new.items result) }
-    ensures source { Raises (C.failed certificate.old) (C.failed certificate.new) result }
-    ensures asks { AsksUpTo TEXT_LIMIT (C.asked certificate.old) (C.asked certificate.new) (C.dry certificate.old) (C.dry certificate.new) }
+    requires { IsCountable (C.state certificate.old) }
+    ensures answer { IfSome (C.state certificate.old).remaining (λ given. Answers (answer_claims tables.now (certificate_of given)) text.new.items result) }
+    ensures source { Raises (C.state certificate.old).failed (C.state certificate.new).failed result }
+    ensures asks { AsksUpTo TEXT_LIMIT (C.state certificate.old) (C.state certificate.new) }
     ensures sink { IfErr result (λ e. e ≢ Failure.Sink) }
 {
     match load_certificate(alloc, certificate) {
@@ -188,14 +188,14 @@ fn judge_sources<T: Source, C: Source>(
     certificate: &mut C,
     text: &mut Vec<u8>,
 ) -> Result<Outcome, Failure>
-    requires tables { T.failed tables.old + 1 < 2 ^ 64 }
-    requires certificate { C.failed certificate.old + 1 < 2 ^ 64 }
-    ensures answer { (rows claims : List ℕ) → T.remaining tables.old ≡ Some rows → C.remaining certificate.old ≡ Some claims
+    requires tables { IsCountable (T.state tables.old) }
+    requires certificate { IsCountable (C.state certificate.old) }
+    ensures answer { (rows claims : List ℕ) → (T.state tables.old).remaining ≡ Some rows → (C.state certificate.old).remaining ≡ Some claims
         → Judged (AnswersMargins rows claims) text.new.items result }
-    ensures source { Raises (T.failed tables.old + C.failed certificate.old) (T.failed tables.new + C.failed certificate.new) result }
-    ensures asks_tables { AsksUpTo TEXT_LIMIT (T.asked tables.old) (T.asked tables.new) (T.dry tables.old) (T.dry tables.new) }
-    ensures asks_certificate { AsksUpTo TEXT_LIMIT (C.asked certificate.old) (C.asked certificate.new) (C.dry certificate.old) (C.dry certificate.new) }
-    ensures order { IfSome (T.remaining tables.old) (λ rows. OnlyBehind (tables_of rows) (certificate.new ≡ certificate.old)) }
+    ensures source { Raises ((T.state tables.old).failed + (C.state certificate.old).failed) ((T.state tables.new).failed + (C.state certificate.new).failed) result }
+    ensures asks_tables { AsksUpTo TEXT_LIMIT (T.state tables.old) (T.state tables.new) }
+    ensures asks_certificate { AsksUpTo TEXT_LIMIT (C.state certificate.old) (C.state certificate.new) }
+    ensures order { IfSome (T.state tables.old).remaining (λ rows. OnlyBehind (tables_of rows) (certificate.new ≡ certificate.old)) }
     ensures sink { IfErr result (λ e. e ≢ Failure.Sink) }
 {
     match load(alloc, tables) {
@@ -223,22 +223,22 @@ pub fn run_margins<T: Source, C: Source, K: Sink>(
     certificate: &mut C,
     sink: &mut K,
 ) -> Exit
-    requires tables { T.failed tables.old + 1 < 2 ^ 64 }
-    requires certificate { C.failed certificate.old + 1 < 2 ^ 64 }
-    requires sink { K.failed sink.old + 1 < 2 ^ 64 }
-    ensures reports { (rows claims : List ℕ) → T.remaining tables.old ≡ Some rows → C.remaining certificate.old ≡ Some claims
-        → ReportsMargins rows claims (K.contents sink.old) (K.contents sink.new)
-        (T.failed tables.old + C.failed certificate.old) (T.failed tables.new + C.failed certificate.new)
-        (K.failed sink.old) (K.failed sink.new) result }
-    ensures reported { Reported Any (K.contents sink.old) (K.contents sink.new)
-        (T.failed tables.old + C.failed certificate.old) (T.failed tables.new + C.failed certificate.new)
-        (K.failed sink.old) (K.failed sink.new) result }
-    ensures asks_tables { AsksUpTo TEXT_LIMIT (T.asked tables.old) (T.asked tables.new) (T.dry tables.old) (T.dry tables.new) }
-    ensures asks_certificate { AsksUpTo TEXT_LIMIT (C.asked certificate.old) (C.asked certificate.new) (C.dry certificate.old) (C.dry certificate.new) }
-    ensures order { IfSome (T.remaining tables.old) (λ rows. OnlyBehind (tables_of rows) (certificate.new ≡ certificate.old)) }
-    ensures left { LeavesSink (K.failed sink.old) (K.failed sink.new) (K.last_failed sink.new) (K.hidden sink.new) }
-    ensures quiet { result ≢ Exit.Failed → T.failed tables.new + C.failed certificate.new + K.failed sink.new
-        ≡ T.failed tables.old + C.failed certificate.old + K.failed sink.old }
+    requires tables { IsCountable (T.state tables.old) }
+    requires certificate { IsCountable (C.state certificate.old) }
+    requires sink { CanFail (K.state sink.old) }
+    ensures reports { (rows claims : List ℕ) → (T.state tables.old).remaining ≡ Some rows → (C.state certificate.old).remaining ≡ Some claims
+        → ReportsMargins rows claims (K.state sink.old).contents (K.state sink.new).contents
+        ((T.state tables.old).failed + (C.state certificate.old).failed) ((T.state tables.new).failed + (C.state certificate.new).failed)
+        (K.state sink.old).failed (K.state sink.new).failed result }
+    ensures reported { Reported Any (K.state sink.old).contents (K.state sink.new).contents
+        ((T.state tables.old).failed + (C.state certificate.old).failed) ((T.state tables.new).failed + (C.state certificate.new).failed)
+        (K.state sink.old).failed (K.state sink.new).failed result }
+    ensures asks_tables { AsksUpTo TEXT_LIMIT (T.state tables.old) (T.state tables.new) }
+    ensures asks_certificate { AsksUpTo TEXT_LIMIT (C.state certificate.old) (C.state certificate.new) }
+    ensures order { IfSome (T.state tables.old).remaining (λ rows. OnlyBehind (tables_of rows) (certificate.new ≡ certificate.old)) }
+    ensures left { LeavesSink (K.state sink.old).failed (K.state sink.new).failed (K.state sink.new).last_failed (K.state sink.new).hidden }
+    ensures quiet { result ≢ Exit.Failed → (T.state tables.new).failed + (C.state certificate.new).failed + (K.state sink.new).failed
+        ≡ (T.state tables.old).failed + (C.state certificate.old).failed + (K.state sink.old).failed }
 {
     let mut text = Vec::new(alloc);
     let judged = judge_sources(alloc, tables, certificate, &mut text);

@@ -1,7 +1,8 @@
 //! What every engine does alike: it ends with a fault, with a failure, or asks for more.
-ghost use Rattle.std.specs.Prelude.{◌≡◌, ◌≢◌, ℕ, List, Option, [], ◌∷◌, ◌++◌, ◌+◌, ◌-◌, ◌^◌, ◌<◌, ◌≤◌, length, IfErr, IfOk, Err, Ok, false};
+ghost use Rattle.std.specs.Prelude.{◌≡◌, ◌≢◌, ℕ, List, Option, [], ◌∷◌, ◌++◌, ◌+◌, ◌-◌, ◌<◌, ◌≤◌, length, IfErr, IfOk, Err, Ok, false};
 ghost use Rattle.dc_device.specs.Bytes.{Writes};
 ghost use Rattle.dc_device.specs.Device.{Settles, failures_of};
+ghost use Rattle.dc_device.specs.States.{CanFail, IsCountable};
 ghost use Rattle.dc_answer.specs.Answer.{Asks, Causes, Ends, LeavesSink, ReportsBy, SeesAll, SettlesBy, dry_in, fault, fault_text, judged_answer, sink_failures_of};
 ghost use Rattle.dc_answer.specs.Exits.{exit_of};
 
@@ -37,13 +38,13 @@ pub fn print_fault(text: &mut Text, code: &[u8], number: u64)
 /// # Errors
 /// `Broken` where the sink failed: that call is its last.
 pub fn end_with<K: Sink>(writer: &mut LineWriter, sink: &mut K, line: &[u8]) -> Result<(), Broken>
-    requires { K.failed sink.old + 1 < 2 ^ 64 }
-    ensures bytes { Writes (K.contents sink.old) (K.contents sink.new)
+    requires { CanFail (K.state sink.old) }
+    ensures bytes { Writes (K.state sink.old).contents (K.state sink.new).contents
         (writer.old ++ (line.now ++ 10 ∷ [])) result }
     ensures empty { writer.new ≡ [] }
-    ensures count { K.failed sink.new ≡ K.failed sink.old + failures_of result }
-    ensures settled { Settles result (K.last_failed sink.new) (K.hidden sink.new) }
-    ensures answered { K.answered sink.new ≡ K.answered sink.old }
+    ensures count { (K.state sink.new).failed ≡ (K.state sink.old).failed + failures_of result }
+    ensures settled { Settles result (K.state sink.new).last_failed (K.state sink.new).hidden }
+    ensures answered { (K.state sink.new).answered ≡ (K.state sink.old).answered }
 {
     writer.line(sink, line)?;
     writer.flush(sink)
@@ -61,13 +62,13 @@ pub fn end_at<K: Sink>(
     number: u64,
 ) -> Result<Outcome, Failure>
     requires short { length code.now ≤ 8 }
-    requires countable { K.failed sink.old + 1 < 2 ^ 64 }
-    ensures bytes { Ends (K.contents sink.old) writer.old (K.contents sink.new) (fault code.now number) result }
+    requires countable { CanFail (K.state sink.old) }
+    ensures bytes { Ends (K.state sink.old).contents writer.old (K.state sink.new).contents (fault code.now number) result }
     ensures empty { writer.new ≡ [] }
-    ensures count { K.failed sink.new ≡ K.failed sink.old + failures_of result }
+    ensures count { (K.state sink.new).failed ≡ (K.state sink.old).failed + failures_of result }
     ensures sink { IfErr result (λ e. e ≡ Failure.Sink) }
-    ensures settled { SettlesBy result (K.last_failed sink.new) (K.hidden sink.new) }
-    ensures answered { K.answered sink.new ≡ K.answered sink.old }
+    ensures settled { SettlesBy result (K.state sink.new).last_failed (K.state sink.new).hidden }
+    ensures answered { (K.state sink.new).answered ≡ (K.state sink.old).answered }
     ensures outcome { IfOk result (λ outcome. outcome ≡ Outcome.Unreadable) }
 {
     let mut text = Text::new();
@@ -89,18 +90,18 @@ pub fn ask<S: Source, K: Sink>(
     sink: &mut K,
 ) -> Result<bool, Failure>
     requires read { reader.old.bytes ≡ [] }
-    requires source { S.failed source.old + 1 < 2 ^ 64 }
-    requires sink { K.failed sink.old + 1 < 2 ^ 64 }
-    ensures bytes { Asks (S.remaining source.old) (S.remaining source.new) reader.new.bytes
-        (K.contents sink.old) (K.contents sink.new) writer.old result }
+    requires source { IsCountable (S.state source.old) }
+    requires sink { CanFail (K.state sink.old) }
+    ensures bytes { Asks (S.state source.old).remaining (S.state source.new).remaining reader.new.bytes
+        (K.state sink.old).contents (K.state sink.new).contents writer.old result }
     ensures empty { writer.new ≡ [] }
     ensures room { reader.new.room ≡ reader.old.room }
-    ensures cause { Causes (S.failed source.old) (S.failed source.new) (K.failed sink.old)
-        (K.failed sink.new) result }
-    ensures settled { SettlesBy result (K.last_failed sink.new) (K.hidden sink.new) }
-    ensures answered { SeesAll (K.contents sink.new) (K.answered sink.new) result }
-    ensures pulls { S.asked source.new ≤ S.asked source.old + 1 }
-    ensures dry_pulls { S.dry source.new ≤ S.dry source.old + dry_in result }
+    ensures cause { Causes (S.state source.old).failed (S.state source.new).failed (K.state sink.old).failed
+        (K.state sink.new).failed result }
+    ensures settled { SettlesBy result (K.state sink.new).last_failed (K.state sink.new).hidden }
+    ensures answered { SeesAll (K.state sink.new).contents (K.state sink.new).answered result }
+    ensures pulls { (S.state source.new).asked ≤ (S.state source.old).asked + 1 }
+    ensures dry_pulls { (S.state source.new).dry ≤ (S.state source.old).dry + dry_in result }
 {
     match writer.flush(sink) {
         Err(_) => Err(Failure::Sink),
@@ -122,15 +123,15 @@ pub fn say<K: Sink>(
     sink: &mut K,
 ) -> Result<Outcome, Failure>
     requires new { writer.old ≡ [] }
-    requires countable { K.failed sink.old + 1 < 2 ^ 64 }
+    requires countable { CanFail (K.state sink.old) }
     requires sink { IfErr judged (λ e. e ≢ Failure.Sink) }
-    ensures bytes { Ends (K.contents sink.old) [] (K.contents sink.new) (judged_answer line.now judged) result }
+    ensures bytes { Ends (K.state sink.old).contents [] (K.state sink.new).contents (judged_answer line.now judged) result }
     ensures empty { writer.new ≡ [] }
-    ensures count { K.failed sink.new ≡ K.failed sink.old + sink_failures_of result }
+    ensures count { (K.state sink.new).failed ≡ (K.state sink.old).failed + sink_failures_of result }
     ensures same { IfOk result (λ outcome. judged ≡ Ok outcome) }
     ensures failure { IfErr result (λ e. e ≢ Failure.Sink → judged ≡ Err e) }
-    ensures settled { SettlesBy result (K.last_failed sink.new) (K.hidden sink.new) }
-    ensures answered { K.answered sink.new ≡ K.answered sink.old }
+    ensures settled { SettlesBy result (K.state sink.new).last_failed (K.state sink.new).hidden }
+    ensures answered { (K.state sink.new).answered ≡ (K.state sink.old).answered }
 {
     match judged {
         Ok(outcome) => match end_with(writer, sink, line) {
@@ -149,15 +150,15 @@ pub fn report<K: Sink>(
     sink: &mut K,
 ) -> Exit
     requires seen { writer.old ≡ [] }
-    requires countable { ended ≢ Err Failure.Sink → K.failed sink.old + 1 < 2 ^ 64 }
-    ensures reports { ReportsBy ended (K.contents sink.old) (K.contents sink.new) (K.failed sink.old) (K.failed sink.new) result }
+    requires countable { ended ≢ Err Failure.Sink → CanFail (K.state sink.old) }
+    ensures reports { ReportsBy ended (K.state sink.old).contents (K.state sink.new).contents (K.state sink.old).failed (K.state sink.new).failed result }
     ensures exit { result ≡ exit_of ended }
-    ensures rise { K.failed sink.old ≤ K.failed sink.new }
-    ensures answered { K.answered sink.new ≡ K.answered sink.old }
-    ensures quiet { IfOk ended (λ outcome. K.failed sink.new ≡ K.failed sink.old) }
+    ensures rise { (K.state sink.old).failed ≤ (K.state sink.new).failed }
+    ensures answered { (K.state sink.new).answered ≡ (K.state sink.old).answered }
+    ensures quiet { IfOk ended (λ outcome. (K.state sink.new).failed ≡ (K.state sink.old).failed) }
     ensures silent { ended ≡ Err Failure.Sink → sink.new ≡ sink.old }
-    ensures left { (before : ℕ) → K.failed sink.old ≡ before + sink_failures_of ended → SettlesBy ended (K.last_failed sink.old) (K.hidden sink.old)
-        → LeavesSink before (K.failed sink.new) (K.last_failed sink.new) (K.hidden sink.new) }
+    ensures left { (before : ℕ) → (K.state sink.old).failed ≡ before + sink_failures_of ended → SettlesBy ended (K.state sink.old).last_failed (K.state sink.old).hidden
+        → LeavesSink before (K.state sink.new).failed (K.state sink.new).last_failed (K.state sink.new).hidden }
 {
     match ended {
         Ok(outcome) => outcome.exit(),

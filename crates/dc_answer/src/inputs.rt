@@ -1,10 +1,10 @@
 //! Tables and certificates from a source.
-ghost use Rattle.std.specs.Prelude.{◌≡◌, ◌≢◌, ◌+◌, ◌^◌, ◌<◌, IfErr, IfSome};
+ghost use Rattle.std.specs.Prelude.{◌≡◌, ◌≢◌, ◌+◌, ◌<◌, IfErr, IfSome};
 ghost use Rattle.dc_cert.specs.Reading.{certificate_of};
-ghost use Rattle.dc_device.specs.Device.{AsksUpTo};
 ghost use Rattle.dc_toml.specs.Reading.{tables_of};
 ghost use Rattle.dc_parts.specs.declared.limits.TheConstants.{TEXT_LIMIT};
 ghost use Rattle.dc_answer.specs.Inputs.{Loads, LoadsCertificate, ReadsText, failed_in};
+ghost use Rattle.dc_device.specs.States.{AsksUpTo, IsCountable};
 
 use crate::answer::Failure;
 use dc_cert::{CertFault, CertRule, Certificate, Fault, TextPlace, read_cert};
@@ -29,10 +29,10 @@ fn read_text<S: Source, F: Copy>(
     source: &mut S,
     too_long: F,
 ) -> Result<Vec<u8>, Unloaded<F>>
-    requires { S.failed source.old + 1 < 2 ^ 64 }
-    ensures text { IfSome (S.remaining source.old) (λ text. ReadsText too_long text result) }
-    ensures count { S.failed source.new ≡ S.failed source.old + failed_in result }
-    ensures asks { AsksUpTo TEXT_LIMIT (S.asked source.old) (S.asked source.new) (S.dry source.old) (S.dry source.new) }
+    requires { IsCountable (S.state source.old) }
+    ensures text { IfSome (S.state source.old).remaining (λ text. ReadsText too_long text result) }
+    ensures count { (S.state source.new).failed ≡ (S.state source.old).failed + failed_in result }
+    ensures asks { AsksUpTo TEXT_LIMIT (S.state source.old) (S.state source.new) }
     ensures sink { IfErr result (λ e. e ≢ Unloaded.Failed Failure.Sink) }
 {
     match read_at_most(alloc, source, TEXT_LIMIT) {
@@ -61,10 +61,10 @@ fn build(alloc: Global, text: &[u8]) -> Result<Tables, Unloaded<TableFault>>
 /// # Errors
 /// `Refused` with the text's first fault; `Failed` where the source failed or memory was refused.
 pub fn load<S: Source>(alloc: Global, source: &mut S) -> Result<Tables, Unloaded<TableFault>>
-    requires { S.failed source.old + 1 < 2 ^ 64 }
-    ensures tables { IfSome (S.remaining source.old) (λ text. Loads (tables_of text) result) }
-    ensures count { S.failed source.new ≡ S.failed source.old + failed_in result }
-    ensures asks { AsksUpTo TEXT_LIMIT (S.asked source.old) (S.asked source.new) (S.dry source.old) (S.dry source.new) }
+    requires { IsCountable (S.state source.old) }
+    ensures tables { IfSome (S.state source.old).remaining (λ text. Loads (tables_of text) result) }
+    ensures count { (S.state source.new).failed ≡ (S.state source.old).failed + failed_in result }
+    ensures asks { AsksUpTo TEXT_LIMIT (S.state source.old) (S.state source.new) }
     ensures sink { IfErr result (λ e. e ≢ Unloaded.Failed Failure.Sink) }
 {
     let too_long = TableFault {
@@ -99,10 +99,10 @@ pub fn load_certificate<S: Source>(
     alloc: Global,
     source: &mut S,
 ) -> Result<Certificate, Unloaded<Fault>>
-    requires { S.failed source.old + 1 < 2 ^ 64 }
-    ensures certificate { IfSome (S.remaining source.old) (λ text. LoadsCertificate (certificate_of text) result) }
-    ensures count { S.failed source.new ≡ S.failed source.old + failed_in result }
-    ensures asks { AsksUpTo TEXT_LIMIT (S.asked source.old) (S.asked source.new) (S.dry source.old) (S.dry source.new) }
+    requires { IsCountable (S.state source.old) }
+    ensures certificate { IfSome (S.state source.old).remaining (λ text. LoadsCertificate (certificate_of text) result) }
+    ensures count { (S.state source.new).failed ≡ (S.state source.old).failed + failed_in result }
+    ensures asks { AsksUpTo TEXT_LIMIT (S.state source.old) (S.state source.new) }
     ensures sink { IfErr result (λ e. e ≢ Unloaded.Failed Failure.Sink) }
 {
     let too_long = Fault {

@@ -1,11 +1,11 @@
 //! `audit`: a recorded run judged by the definitions, against a certificate.
-ghost use Rattle.std.specs.Prelude.{◌≡◌, ◌≢◌, ℕ, List, [], ◌∷◌, ◌++◌, ◌⊎◌, ◌+◌, ◌-◌, ◌^◌, ◌<◌, ◌≤◌, IfErr, IfOk, IfSome, Some, Ok, length};
+ghost use Rattle.std.specs.Prelude.{◌≡◌, ◌≢◌, ℕ, List, [], ◌∷◌, ◌++◌, ◌⊎◌, ◌+◌, ◌-◌, ◌<◌, ◌≤◌, IfErr, IfOk, IfSome, Some, Ok, length};
 ghost use Rattle.arrayvec.specs.ArrayVec.{array_vec_len};
 ghost use Rattle.dc_cert.specs.Bounds.{certificate_rows};
 ghost use Rattle.dc_cert.specs.NamedRows.{named_rows};
 ghost use Rattle.dc_cert.specs.Reading.{certificate_of};
-ghost use Rattle.dc_device.specs.Device.{AsksUpTo};
 ghost use Rattle.dc_device.specs.Lines.{spelled};
+ghost use Rattle.dc_device.specs.States.{AsksUpTo, CanFail, IsCountable};
 ghost use Rattle.dc_event.specs.Admissible.{IsRun};
 ghost use Rattle.dc_toml.specs.Reading.{tables_of};
 ghost use Rattle.dc_event.specs.declared.trace_reader.TheConstants.{TRACE_LIMIT};
@@ -148,10 +148,10 @@ fn audit_trace<S: Source>(
     trace: &mut S,
     text: &mut Text,
 ) -> Result<Outcome, Failure>
-    requires { S.failed trace.old + 1 < 2 ^ 64 }
-    ensures answer { IfSome (S.remaining trace.old) (λ events. Judged (λ answer. AnswersRun tables.now (certificate_rows certificate.now).ages answer (run_of tables.now events)) text.new.items result) }
-    ensures source { Raises (S.failed trace.old) (S.failed trace.new) result }
-    ensures asks { AsksUpTo TRACE_LIMIT (S.asked trace.old) (S.asked trace.new) (S.dry trace.old) (S.dry trace.new) }
+    requires { IsCountable (S.state trace.old) }
+    ensures answer { IfSome (S.state trace.old).remaining (λ events. Judged (λ answer. AnswersRun tables.now (certificate_rows certificate.now).ages answer (run_of tables.now events)) text.new.items result) }
+    ensures source { Raises (S.state trace.old).failed (S.state trace.new).failed result }
+    ensures asks { AsksUpTo TRACE_LIMIT (S.state trace.old) (S.state trace.new) }
     ensures sink { IfErr result (λ e. e ≢ Failure.Sink) }
 {
     tables.named();
@@ -191,10 +191,10 @@ fn audit_certificate<S: Source>(
     trace: &mut S,
     text: &mut Text,
 ) -> Result<Outcome, Failure>
-    requires { S.failed trace.old + 1 < 2 ^ 64 }
-    ensures answer { IfSome (S.remaining trace.old) (λ events. Judged (λ answer. AnswersClaims tables.now events answer (Ok (named_rows certificate.now))) text.new.items result) }
-    ensures source { Raises (S.failed trace.old) (S.failed trace.new) result }
-    ensures asks { AsksUpTo TRACE_LIMIT (S.asked trace.old) (S.asked trace.new) (S.dry trace.old) (S.dry trace.new) }
+    requires { IsCountable (S.state trace.old) }
+    ensures answer { IfSome (S.state trace.old).remaining (λ events. Judged (λ answer. AnswersClaims tables.now events answer (Ok (named_rows certificate.now))) text.new.items result) }
+    ensures source { Raises (S.state trace.old).failed (S.state trace.new).failed result }
+    ensures asks { AsksUpTo TRACE_LIMIT (S.state trace.old) (S.state trace.new) }
     ensures order { Certifies tables.now (Ok (named_rows certificate.now)) ⊎ (trace.new ≡ trace.old) }
     ensures sink { IfErr result (λ e. e ≢ Failure.Sink) }
 {
@@ -212,14 +212,14 @@ fn audit_source<C: Source, S: Source>(
     trace: &mut S,
     text: &mut Text,
 ) -> Result<Outcome, Failure>
-    requires certificate { C.failed certificate.old + 1 < 2 ^ 64 }
-    requires trace { S.failed trace.old + 1 < 2 ^ 64 }
-    ensures answer { IfSome (C.remaining certificate.old) (λ claims. IfSome (S.remaining trace.old) (λ events.
+    requires certificate { IsCountable (C.state certificate.old) }
+    requires trace { IsCountable (S.state trace.old) }
+    ensures answer { IfSome (C.state certificate.old).remaining (λ claims. IfSome (S.state trace.old).remaining (λ events.
         Judged (λ answer. AnswersClaims tables.now events answer (certificate_of claims)) text.new.items result)) }
-    ensures source { Raises (C.failed certificate.old + S.failed trace.old) (C.failed certificate.new + S.failed trace.new) result }
-    ensures asks_certificate { AsksUpTo TEXT_LIMIT (C.asked certificate.old) (C.asked certificate.new) (C.dry certificate.old) (C.dry certificate.new) }
-    ensures asks_trace { AsksUpTo TRACE_LIMIT (S.asked trace.old) (S.asked trace.new) (S.dry trace.old) (S.dry trace.new) }
-    ensures order { IfSome (C.remaining certificate.old) (λ claims. Certifies tables.now (certificate_of claims) ⊎ (trace.new ≡ trace.old)) }
+    ensures source { Raises ((C.state certificate.old).failed + (S.state trace.old).failed) ((C.state certificate.new).failed + (S.state trace.new).failed) result }
+    ensures asks_certificate { AsksUpTo TEXT_LIMIT (C.state certificate.old) (C.state certificate.new) }
+    ensures asks_trace { AsksUpTo TRACE_LIMIT (S.state trace.old) (S.state trace.new) }
+    ensures order { IfSome (C.state certificate.old).remaining (λ claims. Certifies tables.now (certificate_of claims) ⊎ (trace.new ≡ trace.old)) }
     ensures sink { IfErr result (λ e. e ≢ Failure.Sink) }
 {
     match load_certificate(alloc, certificate) {
@@ -240,17 +240,17 @@ fn audit_sources<T: Source, C: Source, S: Source>(
     trace: &mut S,
     text: &mut Text,
 ) -> Result<Outcome, Failure>
-    requires tables { T.failed tables.old + 1 < 2 ^ 64 }
-    requires certificate { C.failed certificate.old + 1 < 2 ^ 64 }
-    requires trace { S.failed trace.old + 1 < 2 ^ 64 }
-    ensures answer { (rows claims events : List ℕ) → T.remaining tables.old ≡ Some rows → C.remaining certificate.old ≡ Some claims → S.remaining trace.old ≡ Some events
+    requires tables { IsCountable (T.state tables.old) }
+    requires certificate { IsCountable (C.state certificate.old) }
+    requires trace { IsCountable (S.state trace.old) }
+    ensures answer { (rows claims events : List ℕ) → (T.state tables.old).remaining ≡ Some rows → (C.state certificate.old).remaining ≡ Some claims → (S.state trace.old).remaining ≡ Some events
         → Judged (AnswersAudit rows claims events) text.new.items result }
-    ensures source { Raises (T.failed tables.old + (C.failed certificate.old + S.failed trace.old)) (T.failed tables.new + (C.failed certificate.new + S.failed trace.new)) result }
-    ensures asks_tables { AsksUpTo TEXT_LIMIT (T.asked tables.old) (T.asked tables.new) (T.dry tables.old) (T.dry tables.new) }
-    ensures asks_certificate { AsksUpTo TEXT_LIMIT (C.asked certificate.old) (C.asked certificate.new) (C.dry certificate.old) (C.dry certificate.new) }
-    ensures asks_trace { AsksUpTo TRACE_LIMIT (S.asked trace.old) (S.asked trace.new) (S.dry trace.old) (S.dry trace.new) }
-    ensures order_certificate { IfSome (T.remaining tables.old) (λ rows. OnlyBehind (tables_of rows) (certificate.new ≡ certificate.old)) }
-    ensures order_trace { IfSome (T.remaining tables.old) (λ rows. IfSome (C.remaining certificate.old) (λ claims. OnlyCertified rows claims (trace.new ≡ trace.old))) }
+    ensures source { Raises ((T.state tables.old).failed + ((C.state certificate.old).failed + (S.state trace.old).failed)) ((T.state tables.new).failed + ((C.state certificate.new).failed + (S.state trace.new).failed)) result }
+    ensures asks_tables { AsksUpTo TEXT_LIMIT (T.state tables.old) (T.state tables.new) }
+    ensures asks_certificate { AsksUpTo TEXT_LIMIT (C.state certificate.old) (C.state certificate.new) }
+    ensures asks_trace { AsksUpTo TRACE_LIMIT (S.state trace.old) (S.state trace.new) }
+    ensures order_certificate { IfSome (T.state tables.old).remaining (λ rows. OnlyBehind (tables_of rows) (certificate.new ≡ certificate.old)) }
+    ensures order_trace { IfSome (T.state tables.old).remaining (λ rows. IfSome (C.state certificate.old).remaining (λ claims. OnlyCertified rows claims (trace.new ≡ trace.old))) }
     ensures sink { IfErr result (λ e. e ≢ Failure.Sink) }
 {
     match load(alloc, tables) {
@@ -280,25 +280,25 @@ pub fn run_audit<T: Source, C: Source, S: Source, K: Sink>(
     trace: &mut S,
     sink: &mut K,
 ) -> Exit
-    requires tables { T.failed tables.old + 1 < 2 ^ 64 }
-    requires certificate { C.failed certificate.old + 1 < 2 ^ 64 }
-    requires trace { S.failed trace.old + 1 < 2 ^ 64 }
-    requires sink { K.failed sink.old + 1 < 2 ^ 64 }
-    ensures reports { (rows claims events : List ℕ) → T.remaining tables.old ≡ Some rows → C.remaining certificate.old ≡ Some claims → S.remaining trace.old ≡ Some events
-        → ReportsAudit rows claims events (K.contents sink.old) (K.contents sink.new)
-        (T.failed tables.old + (C.failed certificate.old + S.failed trace.old)) (T.failed tables.new + (C.failed certificate.new + S.failed trace.new))
-        (K.failed sink.old) (K.failed sink.new) result }
-    ensures reported { Reported Any (K.contents sink.old) (K.contents sink.new)
-        (T.failed tables.old + (C.failed certificate.old + S.failed trace.old)) (T.failed tables.new + (C.failed certificate.new + S.failed trace.new))
-        (K.failed sink.old) (K.failed sink.new) result }
-    ensures asks_tables { AsksUpTo TEXT_LIMIT (T.asked tables.old) (T.asked tables.new) (T.dry tables.old) (T.dry tables.new) }
-    ensures asks_certificate { AsksUpTo TEXT_LIMIT (C.asked certificate.old) (C.asked certificate.new) (C.dry certificate.old) (C.dry certificate.new) }
-    ensures asks_trace { AsksUpTo TRACE_LIMIT (S.asked trace.old) (S.asked trace.new) (S.dry trace.old) (S.dry trace.new) }
-    ensures order_certificate { IfSome (T.remaining tables.old) (λ rows. OnlyBehind (tables_of rows) (certificate.new ≡ certificate.old)) }
-    ensures order_trace { IfSome (T.remaining tables.old) (λ rows. IfSome (C.remaining certificate.old) (λ claims. OnlyCertified rows claims (trace.new ≡ trace.old))) }
-    ensures left { LeavesSink (K.failed sink.old) (K.failed sink.new) (K.last_failed sink.new) (K.hidden sink.new) }
-    ensures quiet { result ≢ Exit.Failed → (T.failed tables.new + (C.failed certificate.new + S.failed trace.new)) + K.failed sink.new
-        ≡ (T.failed tables.old + (C.failed certificate.old + S.failed trace.old)) + K.failed sink.old }
+    requires tables { IsCountable (T.state tables.old) }
+    requires certificate { IsCountable (C.state certificate.old) }
+    requires trace { IsCountable (S.state trace.old) }
+    requires sink { CanFail (K.state sink.old) }
+    ensures reports { (rows claims events : List ℕ) → (T.state tables.old).remaining ≡ Some rows → (C.state certificate.old).remaining ≡ Some claims → (S.state trace.old).remaining ≡ Some events
+        → ReportsAudit rows claims events (K.state sink.old).contents (K.state sink.new).contents
+        ((T.state tables.old).failed + ((C.state certificate.old).failed + (S.state trace.old).failed)) ((T.state tables.new).failed + ((C.state certificate.new).failed + (S.state trace.new).failed))
+        (K.state sink.old).failed (K.state sink.new).failed result }
+    ensures reported { Reported Any (K.state sink.old).contents (K.state sink.new).contents
+        ((T.state tables.old).failed + ((C.state certificate.old).failed + (S.state trace.old).failed)) ((T.state tables.new).failed + ((C.state certificate.new).failed + (S.state trace.new).failed))
+        (K.state sink.old).failed (K.state sink.new).failed result }
+    ensures asks_tables { AsksUpTo TEXT_LIMIT (T.state tables.old) (T.state tables.new) }
+    ensures asks_certificate { AsksUpTo TEXT_LIMIT (C.state certificate.old) (C.state certificate.new) }
+    ensures asks_trace { AsksUpTo TRACE_LIMIT (S.state trace.old) (S.state trace.new) }
+    ensures order_certificate { IfSome (T.state tables.old).remaining (λ rows. OnlyBehind (tables_of rows) (certificate.new ≡ certificate.old)) }
+    ensures order_trace { IfSome (T.state tables.old).remaining (λ rows. IfSome (C.state certificate.old).remaining (λ claims. OnlyCertified rows claims (trace.new ≡ trace.old))) }
+    ensures left { LeavesSink (K.state sink.old).failed (K.state sink.new).failed (K.state sink.new).last_failed (K.state sink.new).hidden }
+    ensures quiet { result ≢ Exit.Failed → ((T.state tables.new).failed + ((C.state certificate.new).failed + (S.state trace.new).failed)) + (K.state sink.new).failed
+        ≡ ((T.state tables.old).failed + ((C.state certificate.old).failed + (S.state trace.old).failed)) + (K.state sink.old).failed }
 {
     let mut text = Text::new();
     let judged = audit_sources(alloc, tables, certificate, trace, &mut text);

@@ -1,7 +1,8 @@
 //! `decode`: words in, their lines out.
-ghost use Rattle.std.specs.Prelude.{◌≡◌, ◌≢◌, [], ◌∷◌, ◌++◌, ◌+◌, ◌-◌, ◌^◌, ◌<◌, ◌≤◌, IfErr, IfOk, IfSome, false, true};
+ghost use Rattle.std.specs.Prelude.{◌≡◌, ◌≢◌, [], ◌∷◌, ◌++◌, ◌+◌, ◌-◌, ◌<◌, ◌≤◌, IfErr, IfOk, IfSome, false, true};
 ghost use Rattle.dc_device.specs.Bytes.{Gathers};
-ghost use Rattle.dc_device.specs.Device.{AsksUpTo, failures_of};
+ghost use Rattle.dc_device.specs.Device.{failures_of};
+ghost use Rattle.dc_device.specs.States.{AsksUpTo, CanFail, IsCountable};
 ghost use Rattle.dc_app.specs.declared.decode.TheConstants.{STREAM_LIMIT};
 ghost use Rattle.dc_answer.specs.Answer.{Causes, Ends, LeavesSink, Reports, SettlesBy};
 ghost use Rattle.dc_app.specs.Decode.{IsPrompt, answer_end, decode_text};
@@ -26,14 +27,14 @@ fn end_inside<K: Sink>(
     sink: &mut K,
 ) -> Result<Outcome, Failure>
     requires seen { writer.old ≡ [] }
-    requires shown { K.hidden sink.old ≡ false }
-    requires countable { K.failed sink.old + 1 < 2 ^ 64 }
-    ensures bytes { Ends (K.contents sink.old) [] (K.contents sink.new) (answer_end number line.now) result }
+    requires shown { (K.state sink.old).hidden ≡ false }
+    requires countable { CanFail (K.state sink.old) }
+    ensures bytes { Ends (K.state sink.old).contents [] (K.state sink.new).contents (answer_end number line.now) result }
     ensures empty { writer.new ≡ [] }
-    ensures count { K.failed sink.new ≡ K.failed sink.old + failures_of result }
+    ensures count { (K.state sink.new).failed ≡ (K.state sink.old).failed + failures_of result }
     ensures sink { IfErr result (λ e. e ≡ Failure.Sink) }
-    ensures settled { SettlesBy result (K.last_failed sink.new) (K.hidden sink.new) }
-    ensures answered { K.answered sink.new ≡ K.answered sink.old }
+    ensures settled { SettlesBy result (K.state sink.new).last_failed (K.state sink.new).hidden }
+    ensures answered { (K.state sink.new).answered ≡ (K.state sink.old).answered }
 {
     match line {
         [] => Ok(Outcome::Done),
@@ -48,12 +49,12 @@ fn write_word<K: Sink>(
     format: Format,
     word: Word,
 ) -> Result<(), Failure>
-    requires { K.failed sink.old + 1 < 2 ^ 64 }
-    ensures bytes { Gathers (K.contents sink.old) writer.old (K.contents sink.new) writer.new
+    requires { CanFail (K.state sink.old) }
+    ensures bytes { Gathers (K.state sink.old).contents writer.old (K.state sink.new).contents writer.new
         (line_of format word ++ 10 ∷ []) result }
-    ensures count { K.failed sink.new ≡ K.failed sink.old + failures_of result }
+    ensures count { (K.state sink.new).failed ≡ (K.state sink.old).failed + failures_of result }
     ensures sink { IfErr result (λ e. e ≡ Failure.Sink) }
-    ensures last { IfErr result (λ e. K.last_failed sink.new ≡ true) }
+    ensures last { IfErr result (λ e. (K.state sink.new).last_failed ≡ true) }
 {
     let mut text = Text::new();
     print_word(&mut text, format, word);
@@ -71,18 +72,18 @@ fn answer<S: Source, K: Sink>(
     sink: &mut K,
 ) -> Result<Outcome, Failure>
     requires new { writer.old ≡ [] }
-    requires source { S.failed source.old + 1 < 2 ^ 64 }
-    requires sink { K.failed sink.old + 1 < 2 ^ 64 }
-    ensures answer { IfSome (S.remaining source.old) (λ text.
-        Ends (K.contents sink.old) [] (K.contents sink.new) (decode_text format text) result) }
+    requires source { IsCountable (S.state source.old) }
+    requires sink { CanFail (K.state sink.old) }
+    ensures answer { IfSome (S.state source.old).remaining (λ text.
+        Ends (K.state sink.old).contents [] (K.state sink.new).contents (decode_text format text) result) }
     ensures empty { writer.new ≡ [] }
-    ensures cause { Causes (S.failed source.old) (S.failed source.new) (K.failed sink.old)
-        (K.failed sink.new) result }
+    ensures cause { Causes (S.state source.old).failed (S.state source.new).failed (K.state sink.old).failed
+        (K.state sink.new).failed result }
     ensures device { IfErr result (λ e. e ≢ Failure.Memory) }
-    ensures settled { SettlesBy result (K.last_failed sink.new) (K.hidden sink.new) }
-    ensures prompt { S.dry source.old < S.dry source.new → S.failed source.new ≡ S.failed source.old
-        → IfSome (S.remaining source.old) (λ text. IsPrompt format text (K.contents sink.old) (K.answered sink.new)) }
-    ensures asks { AsksUpTo STREAM_LIMIT (S.asked source.old) (S.asked source.new) (S.dry source.old) (S.dry source.new) }
+    ensures settled { SettlesBy result (K.state sink.new).last_failed (K.state sink.new).hidden }
+    ensures prompt { (S.state source.old).dry < (S.state source.new).dry → (S.state source.new).failed ≡ (S.state source.old).failed
+        → IfSome (S.state source.old).remaining (λ text. IsPrompt format text (K.state sink.old).contents (K.state sink.new).answered) }
+    ensures asks { AsksUpTo STREAM_LIMIT (S.state source.old) (S.state source.new) }
 {
     let mut reader = LineReader::new(STREAM_LIMIT);
     let mut line = Line::new();
@@ -123,19 +124,19 @@ fn answer<S: Source, K: Sink>(
 /// the source gives no byte. Where a pull found the end of the text, the lines of all its whole lines had been seen
 /// before it.
 pub fn run_decode<S: Source, K: Sink>(format: Format, source: &mut S, sink: &mut K) -> Exit
-    requires source { S.failed source.old + 1 < 2 ^ 64 }
-    requires sink { K.failed sink.old + 1 < 2 ^ 64 }
-    ensures reports { IfSome (S.remaining source.old) (λ text.
-        Reports (K.contents sink.old) (K.contents sink.new) Failure.Source (K.failed sink.new - K.failed sink.old)
+    requires source { IsCountable (S.state source.old) }
+    requires sink { CanFail (K.state sink.old) }
+    ensures reports { IfSome (S.state source.old).remaining (λ text.
+        Reports (K.state sink.old).contents (K.state sink.new).contents Failure.Source ((K.state sink.new).failed - (K.state sink.old).failed)
         (decode_text format text) result) }
     ensures cause { result ≡ Exit.Failed
-        → S.failed source.old + K.failed sink.old < S.failed source.new + K.failed sink.new }
+        → (S.state source.old).failed + (K.state sink.old).failed < (S.state source.new).failed + (K.state sink.new).failed }
     ensures quiet { result ≢ Exit.Failed
-        → (S.failed source.new ≡ S.failed source.old) × (K.failed sink.new ≡ K.failed sink.old) }
-    ensures prompt { S.dry source.old < S.dry source.new → S.failed source.new ≡ S.failed source.old
-        → IfSome (S.remaining source.old) (λ text. IsPrompt format text (K.contents sink.old) (K.answered sink.new)) }
-    ensures asks { AsksUpTo STREAM_LIMIT (S.asked source.old) (S.asked source.new) (S.dry source.old) (S.dry source.new) }
-    ensures left { LeavesSink (K.failed sink.old) (K.failed sink.new) (K.last_failed sink.new) (K.hidden sink.new) }
+        → ((S.state source.new).failed ≡ (S.state source.old).failed) × ((K.state sink.new).failed ≡ (K.state sink.old).failed) }
+    ensures prompt { (S.state source.old).dry < (S.state source.new).dry → (S.state source.new).failed ≡ (S.state source.old).failed
+        → IfSome (S.state source.old).remaining (λ text. IsPrompt format text (K.state sink.old).contents (K.state sink.new).answered) }
+    ensures asks { AsksUpTo STREAM_LIMIT (S.state source.old) (S.state source.new) }
+    ensures left { LeavesSink (K.state sink.old).failed (K.state sink.new).failed (K.state sink.new).last_failed (K.state sink.new).hidden }
 {
     let mut writer = LineWriter::new();
     let ended = answer(format, source, &mut writer, sink);

@@ -1,9 +1,9 @@
 //! The run that a recorded trace tells.
-ghost use Rattle.std.specs.Prelude.{◌≡◌, ◌≢◌, ◌+◌, ◌^◌, ◌<◌, IfErr, IfSome};
-ghost use Rattle.dc_device.specs.Device.{AsksUpTo};
+ghost use Rattle.std.specs.Prelude.{◌≡◌, ◌≢◌, ◌+◌, ◌<◌, IfErr, IfSome};
 ghost use Rattle.dc_event.specs.declared.trace_reader.TheConstants.{TRACE_LIMIT};
 ghost use Rattle.dc_app.specs.Audit.{LoadsRun, run_of};
 ghost use Rattle.dc_answer.specs.Inputs.{failed_in};
+ghost use Rattle.dc_device.specs.States.{AsksUpTo, IsCountable};
 
 use dc_answer::{Failure, Unloaded};
 use dc_device::{LineWriter, Nowhere, Source};
@@ -24,10 +24,10 @@ pub fn load_run<S: Source>(
     tables: &Tables,
     trace: &mut S,
 ) -> Result<Vec<Event>, Unloaded<TraceFault>>
-    requires { S.failed trace.old + 1 < 2 ^ 64 }
-    ensures run { IfSome (S.remaining trace.old) (λ text. LoadsRun (run_of tables.now text) result) }
-    ensures count { S.failed trace.new ≡ S.failed trace.old + failed_in result }
-    ensures asks { AsksUpTo TRACE_LIMIT (S.asked trace.old) (S.asked trace.new) (S.dry trace.old) (S.dry trace.new) }
+    requires { IsCountable (S.state trace.old) }
+    ensures run { IfSome (S.state trace.old).remaining (λ text. LoadsRun (run_of tables.now text) result) }
+    ensures count { (S.state trace.new).failed ≡ (S.state trace.old).failed + failed_in result }
+    ensures asks { AsksUpTo TRACE_LIMIT (S.state trace.old) (S.state trace.new) }
     ensures sink { IfErr result (λ e. e ≢ Unloaded.Failed Failure.Sink) }
 {
     let mut run: Vec<Event> = Vec::new(alloc);

@@ -1,10 +1,10 @@
 //! `replay`: a recorded trace through the concentrator.
-ghost use Rattle.std.specs.Prelude.{◌≡◌, ◌≢◌, [], ◌∷◌, ◌++◌, ◌+◌, ◌-◌, ◌^◌, ◌<◌, ◌≤◌, ◌||◌, cond, length, IfErr, IfOk, IfSome, Err, true};
-ghost use Rattle.dc_device.specs.Device.{AsksUpTo};
+ghost use Rattle.std.specs.Prelude.{◌≡◌, ◌≢◌, [], ◌∷◌, ◌++◌, ◌+◌, ◌-◌, ◌<◌, ◌≤◌, ◌||◌, cond, length, IfErr, IfOk, IfSome, Err, true};
 ghost use Rattle.dc_toml.specs.Reading.{tables_of};
 ghost use Rattle.dc_device.specs.Bytes.{Gathers};
 ghost use Rattle.dc_device.specs.Device.{failures_of};
 ghost use Rattle.dc_device.specs.Lines.{spelled};
+ghost use Rattle.dc_device.specs.States.{AsksUpTo, CanFail, IsCountable};
 ghost use Rattle.dc_core.specs.CoreSteps.{rows_of};
 ghost use Rattle.dc_event.specs.ReplyText.{is_reported, reply_line};
 ghost use Rattle.dc_event.specs.TraceFaults.{line_rule_code};
@@ -42,13 +42,13 @@ fn end_by<K: Sink>(
     writer: &mut LineWriter,
     sink: &mut K,
 ) -> Result<Outcome, Failure>
-    requires { K.failed sink.old + 1 < 2 ^ 64 }
-    ensures bytes { Ends (K.contents sink.old) writer.old (K.contents sink.new) (stop_end stop) result }
+    requires { CanFail (K.state sink.old) }
+    ensures bytes { Ends (K.state sink.old).contents writer.old (K.state sink.new).contents (stop_end stop) result }
     ensures empty { writer.new ≡ [] }
-    ensures count { K.failed sink.new ≡ K.failed sink.old + sink_failures_of result }
+    ensures count { (K.state sink.new).failed ≡ (K.state sink.old).failed + sink_failures_of result }
     ensures stops { StopsBy stop result }
-    ensures settled { SettlesBy result (K.last_failed sink.new) (K.hidden sink.new) }
-    ensures answered { K.answered sink.new ≡ K.answered sink.old }
+    ensures settled { SettlesBy result (K.state sink.new).last_failed (K.state sink.new).hidden }
+    ensures answered { (K.state sink.new).answered ≡ (K.state sink.old).answered }
 {
     if let TraceStop::Fault(fault) = stop {
         return end_at(writer, sink, code_of(fault.rule), fault.line);
@@ -69,13 +69,13 @@ fn end_refused<K: Sink>(
     writer: &mut LineWriter,
     sink: &mut K,
 ) -> Result<Outcome, Failure>
-    requires { K.failed sink.old + 1 < 2 ^ 64 }
-    ensures bytes { Ends (K.contents sink.old) writer.old (K.contents sink.new) (refused tables.now refusal.event refusal.fault refusal.number) result }
+    requires { CanFail (K.state sink.old) }
+    ensures bytes { Ends (K.state sink.old).contents writer.old (K.state sink.new).contents (refused tables.now refusal.event refusal.fault refusal.number) result }
     ensures empty { writer.new ≡ [] }
-    ensures count { K.failed sink.new ≡ K.failed sink.old + failures_of result }
+    ensures count { (K.state sink.new).failed ≡ (K.state sink.old).failed + failures_of result }
     ensures sink { IfErr result (λ e. e ≡ Failure.Sink) }
-    ensures settled { SettlesBy result (K.last_failed sink.new) (K.hidden sink.new) }
-    ensures answered { K.answered sink.new ≡ K.answered sink.old }
+    ensures settled { SettlesBy result (K.state sink.new).last_failed (K.state sink.new).hidden }
+    ensures answered { (K.state sink.new).answered ≡ (K.state sink.old).answered }
 {
     let mut text = Text::new();
     print_refused(&mut text, tables, refusal);
@@ -91,12 +91,12 @@ fn end_unloaded<K: Sink>(
     writer: &mut LineWriter,
     sink: &mut K,
 ) -> Result<Outcome, Failure>
-    requires { K.failed sink.old + 1 < 2 ^ 64 }
-    ensures bytes { Ends (K.contents sink.old) writer.old (K.contents sink.new) (tables_end fault) result }
+    requires { CanFail (K.state sink.old) }
+    ensures bytes { Ends (K.state sink.old).contents writer.old (K.state sink.new).contents (tables_end fault) result }
     ensures empty { writer.new ≡ [] }
-    ensures count { K.failed sink.new ≡ K.failed sink.old + failures_of result }
+    ensures count { (K.state sink.new).failed ≡ (K.state sink.old).failed + failures_of result }
     ensures sink { IfErr result (λ e. e ≡ Failure.Sink) }
-    ensures settled { SettlesBy result (K.last_failed sink.new) (K.hidden sink.new) }
+    ensures settled { SettlesBy result (K.state sink.new).last_failed (K.state sink.new).hidden }
 {
     let mut text = Text::new();
     print_table_fault(&mut text, fault);
@@ -114,13 +114,13 @@ fn say<K: Sink>(
     all: bool,
     step: Step,
 ) -> Result<(), Failure>
-    requires { K.failed sink.old + 1 < 2 ^ 64 }
-    ensures bytes { Gathers (K.contents sink.old) writer.old (K.contents sink.new) writer.new
+    requires { CanFail (K.state sink.old) }
+    ensures bytes { Gathers (K.state sink.old).contents writer.old (K.state sink.new).contents writer.new
         (spelled (cond (all || is_reported step.reply) (reply_line tables.now step.tick step.event step.reply ∷ []) [])) result }
-    ensures count { K.failed sink.new ≡ K.failed sink.old + failures_of result }
+    ensures count { (K.state sink.new).failed ≡ (K.state sink.old).failed + failures_of result }
     ensures sink { IfErr result (λ e. e ≡ Failure.Sink) }
-    ensures last { IfErr result (λ e. K.last_failed sink.new ≡ true) }
-    ensures answered { K.answered sink.new ≡ K.answered sink.old }
+    ensures last { IfErr result (λ e. (K.state sink.new).last_failed ≡ true) }
+    ensures answered { (K.state sink.new).answered ≡ (K.state sink.old).answered }
 {
     if !is_printed(all, step.reply) {
         return Ok(());
@@ -145,19 +145,19 @@ fn answer<S: Source, K: Sink>(
     requires new { writer.old ≡ [] }
     requires rows { rows_of progress.old.core ≡ tables.now }
     requires stands { StandsAt progress.old [] }
-    requires source { S.failed trace.old + 1 < 2 ^ 64 }
-    requires sink { K.failed sink.old + 1 < 2 ^ 64 }
-    ensures answer { IfSome (S.remaining trace.old) (λ text.
-        WritesTrace tables.now all text (K.contents sink.old) (K.contents sink.new) result) }
-    ensures some { EndsSome (K.contents sink.old) (K.contents sink.new) result }
-    ensures settled { SettlesBy result (K.last_failed sink.new) (K.hidden sink.new) }
-    ensures prompt { S.dry trace.old < S.dry trace.new → S.failed trace.new ≡ S.failed trace.old
-        → IfSome (S.remaining trace.old) (λ text. ShowsTrace tables.now all text (K.contents sink.old) (K.answered sink.new)) }
-    ensures asks { AsksUpTo TRACE_LIMIT (S.asked trace.old) (S.asked trace.new) (S.dry trace.old) (S.dry trace.new) }
+    requires source { IsCountable (S.state trace.old) }
+    requires sink { CanFail (K.state sink.old) }
+    ensures answer { IfSome (S.state trace.old).remaining (λ text.
+        WritesTrace tables.now all text (K.state sink.old).contents (K.state sink.new).contents result) }
+    ensures some { EndsSome (K.state sink.old).contents (K.state sink.new).contents result }
+    ensures settled { SettlesBy result (K.state sink.new).last_failed (K.state sink.new).hidden }
+    ensures prompt { (S.state trace.old).dry < (S.state trace.new).dry → (S.state trace.new).failed ≡ (S.state trace.old).failed
+        → IfSome (S.state trace.old).remaining (λ text. ShowsTrace tables.now all text (K.state sink.old).contents (K.state sink.new).answered) }
+    ensures asks { AsksUpTo TRACE_LIMIT (S.state trace.old) (S.state trace.new) }
     ensures device { IfErr result (λ e. e ≢ Failure.Memory) }
     ensures empty { writer.new ≡ [] }
-    ensures source { Raises (S.failed trace.old) (S.failed trace.new) result }
-    ensures sink { K.failed sink.new ≡ K.failed sink.old + sink_failures_of result }
+    ensures source { Raises (S.state trace.old).failed (S.state trace.new).failed result }
+    ensures sink { (K.state sink.new).failed ≡ (K.state sink.old).failed + sink_failures_of result }
 {
     let mut lines = TraceLines::new(tables, TRACE_LIMIT);
     loop {
@@ -188,19 +188,19 @@ fn answer_on<S: Source, K: Sink>(
     sink: &mut K,
 ) -> Result<Outcome, Failure>
     requires new { writer.old ≡ [] }
-    requires source { S.failed trace.old + 1 < 2 ^ 64 }
-    requires sink { K.failed sink.old + 1 < 2 ^ 64 }
-    ensures answer { IfSome (S.remaining trace.old) (λ text.
-        WritesTrace tables all text (K.contents sink.old) (K.contents sink.new) result) }
-    ensures some { EndsSome (K.contents sink.old) (K.contents sink.new) result }
-    ensures settled { SettlesBy result (K.last_failed sink.new) (K.hidden sink.new) }
-    ensures prompt { S.dry trace.old < S.dry trace.new → S.failed trace.new ≡ S.failed trace.old
-        → IfSome (S.remaining trace.old) (λ text. ShowsTrace tables all text (K.contents sink.old) (K.answered sink.new)) }
-    ensures asks { AsksUpTo TRACE_LIMIT (S.asked trace.old) (S.asked trace.new) (S.dry trace.old) (S.dry trace.new) }
+    requires source { IsCountable (S.state trace.old) }
+    requires sink { CanFail (K.state sink.old) }
+    ensures answer { IfSome (S.state trace.old).remaining (λ text.
+        WritesTrace tables all text (K.state sink.old).contents (K.state sink.new).contents result) }
+    ensures some { EndsSome (K.state sink.old).contents (K.state sink.new).contents result }
+    ensures settled { SettlesBy result (K.state sink.new).last_failed (K.state sink.new).hidden }
+    ensures prompt { (S.state trace.old).dry < (S.state trace.new).dry → (S.state trace.new).failed ≡ (S.state trace.old).failed
+        → IfSome (S.state trace.old).remaining (λ text. ShowsTrace tables all text (K.state sink.old).contents (K.state sink.new).answered) }
+    ensures asks { AsksUpTo TRACE_LIMIT (S.state trace.old) (S.state trace.new) }
     ensures memory { result ≡ Err Failure.Memory → sink.new ≡ sink.old }
     ensures empty { writer.new ≡ [] }
-    ensures source { Raises (S.failed trace.old) (S.failed trace.new) result }
-    ensures sink { K.failed sink.new ≡ K.failed sink.old + sink_failures_of result }
+    ensures source { Raises (S.state trace.old).failed (S.state trace.new).failed result }
+    ensures sink { (K.state sink.new).failed ≡ (K.state sink.old).failed + sink_failures_of result }
 {
     let Ok(tables) = Arc::new(alloc, tables) else {
         return Err(Failure::Memory);
@@ -229,23 +229,23 @@ fn replay<T: Source, S: Source, K: Sink>(
     sink: &mut K,
 ) -> Result<Outcome, Failure>
     requires new { writer.old ≡ [] }
-    requires tables { T.failed tables.old + 1 < 2 ^ 64 }
-    requires source { S.failed trace.old + 1 < 2 ^ 64 }
-    requires sink { K.failed sink.old + 1 < 2 ^ 64 }
-    ensures answer { IfSome (T.remaining tables.old) (λ rows. IfSome (S.remaining trace.old) (λ text.
-        WritesReplay all rows text (K.contents sink.old) (K.contents sink.new) result)) }
-    ensures some { EndsSome (K.contents sink.old) (K.contents sink.new) result }
-    ensures settled { SettlesBy result (K.last_failed sink.new) (K.hidden sink.new) }
-    ensures prompt { S.dry trace.old < S.dry trace.new → S.failed trace.new ≡ S.failed trace.old
-        → IfSome (T.remaining tables.old) (λ rows. IfSome (S.remaining trace.old) (λ text.
-        IsPrompt all rows text (K.contents sink.old) (K.answered sink.new))) }
-    ensures asks_tables { AsksUpTo TEXT_LIMIT (T.asked tables.old) (T.asked tables.new) (T.dry tables.old) (T.dry tables.new) }
-    ensures asks_trace { AsksUpTo TRACE_LIMIT (S.asked trace.old) (S.asked trace.new) (S.dry trace.old) (S.dry trace.new) }
-    ensures order { IfSome (T.remaining tables.old) (λ rows. OnlyBehind (tables_of rows) (trace.new ≡ trace.old)) }
+    requires tables { IsCountable (T.state tables.old) }
+    requires source { IsCountable (S.state trace.old) }
+    requires sink { CanFail (K.state sink.old) }
+    ensures answer { IfSome (T.state tables.old).remaining (λ rows. IfSome (S.state trace.old).remaining (λ text.
+        WritesReplay all rows text (K.state sink.old).contents (K.state sink.new).contents result)) }
+    ensures some { EndsSome (K.state sink.old).contents (K.state sink.new).contents result }
+    ensures settled { SettlesBy result (K.state sink.new).last_failed (K.state sink.new).hidden }
+    ensures prompt { (S.state trace.old).dry < (S.state trace.new).dry → (S.state trace.new).failed ≡ (S.state trace.old).failed
+        → IfSome (T.state tables.old).remaining (λ rows. IfSome (S.state trace.old).remaining (λ text.
+        IsPrompt all rows text (K.state sink.old).contents (K.state sink.new).answered)) }
+    ensures asks_tables { AsksUpTo TEXT_LIMIT (T.state tables.old) (T.state tables.new) }
+    ensures asks_trace { AsksUpTo TRACE_LIMIT (S.state trace.old) (S.state trace.new) }
+    ensures order { IfSome (T.state tables.old).remaining (λ rows. OnlyBehind (tables_of rows) (trace.new ≡ trace.old)) }
     ensures memory { result ≡ Err Failure.Memory → sink.new ≡ sink.old }
     ensures empty { writer.new ≡ [] }
-    ensures source { Raises (T.failed tables.old + S.failed trace.old) (T.failed tables.new + S.failed trace.new) result }
-    ensures sink { K.failed sink.new ≡ K.failed sink.old + sink_failures_of result }
+    ensures source { Raises ((T.state tables.old).failed + (S.state trace.old).failed) ((T.state tables.new).failed + (S.state trace.new).failed) result }
+    ensures sink { (K.state sink.new).failed ≡ (K.state sink.old).failed + sink_failures_of result }
 {
     let tables = match load(alloc, tables) {
         Ok(tables) => tables,
@@ -272,25 +272,25 @@ pub fn run_replay<T: Source, S: Source, K: Sink>(
     trace: &mut S,
     sink: &mut K,
 ) -> Exit
-    requires tables { T.failed tables.old + 1 < 2 ^ 64 }
-    requires source { S.failed trace.old + 1 < 2 ^ 64 }
-    requires sink { K.failed sink.old + 1 < 2 ^ 64 }
-    ensures reports { IfSome (T.remaining tables.old) (λ rows. IfSome (S.remaining trace.old) (λ text.
-        ReportsReplay all rows text (K.contents sink.old) (K.contents sink.new)
-        (T.failed tables.old + S.failed trace.old) (T.failed tables.new + S.failed trace.new)
-        (K.failed sink.old) (K.failed sink.new) result)) }
-    ensures reported { Reported Any (K.contents sink.old) (K.contents sink.new)
-        (T.failed tables.old + S.failed trace.old) (T.failed tables.new + S.failed trace.new)
-        (K.failed sink.old) (K.failed sink.new) result }
-    ensures prompt { S.dry trace.old < S.dry trace.new → S.failed trace.new ≡ S.failed trace.old
-        → IfSome (T.remaining tables.old) (λ rows. IfSome (S.remaining trace.old) (λ text.
-        IsPrompt all rows text (K.contents sink.old) (K.answered sink.new))) }
-    ensures asks_tables { AsksUpTo TEXT_LIMIT (T.asked tables.old) (T.asked tables.new) (T.dry tables.old) (T.dry tables.new) }
-    ensures asks_trace { AsksUpTo TRACE_LIMIT (S.asked trace.old) (S.asked trace.new) (S.dry trace.old) (S.dry trace.new) }
-    ensures order { IfSome (T.remaining tables.old) (λ rows. OnlyBehind (tables_of rows) (trace.new ≡ trace.old)) }
-    ensures left { LeavesSink (K.failed sink.old) (K.failed sink.new) (K.last_failed sink.new) (K.hidden sink.new) }
-    ensures quiet { result ≢ Exit.Failed → T.failed tables.new + S.failed trace.new + K.failed sink.new
-        ≡ T.failed tables.old + S.failed trace.old + K.failed sink.old }
+    requires tables { IsCountable (T.state tables.old) }
+    requires source { IsCountable (S.state trace.old) }
+    requires sink { CanFail (K.state sink.old) }
+    ensures reports { IfSome (T.state tables.old).remaining (λ rows. IfSome (S.state trace.old).remaining (λ text.
+        ReportsReplay all rows text (K.state sink.old).contents (K.state sink.new).contents
+        ((T.state tables.old).failed + (S.state trace.old).failed) ((T.state tables.new).failed + (S.state trace.new).failed)
+        (K.state sink.old).failed (K.state sink.new).failed result)) }
+    ensures reported { Reported Any (K.state sink.old).contents (K.state sink.new).contents
+        ((T.state tables.old).failed + (S.state trace.old).failed) ((T.state tables.new).failed + (S.state trace.new).failed)
+        (K.state sink.old).failed (K.state sink.new).failed result }
+    ensures prompt { (S.state trace.old).dry < (S.state trace.new).dry → (S.state trace.new).failed ≡ (S.state trace.old).failed
+        → IfSome (T.state tables.old).remaining (λ rows. IfSome (S.state trace.old).remaining (λ text.
+        IsPrompt all rows text (K.state sink.old).contents (K.state sink.new).answered)) }
+    ensures asks_tables { AsksUpTo TEXT_LIMIT (T.state tables.old) (T.state tables.new) }
+    ensures asks_trace { AsksUpTo TRACE_LIMIT (S.state trace.old) (S.state trace.new) }
+    ensures order { IfSome (T.state tables.old).remaining (λ rows. OnlyBehind (tables_of rows) (trace.new ≡ trace.old)) }
+    ensures left { LeavesSink (K.state sink.old).failed (K.state sink.new).failed (K.state sink.new).last_failed (K.state sink.new).hidden }
+    ensures quiet { result ≢ Exit.Failed → (T.state tables.new).failed + (S.state trace.new).failed + (K.state sink.new).failed
+        ≡ (T.state tables.old).failed + (S.state trace.old).failed + (K.state sink.old).failed }
 {
     let mut writer = LineWriter::new();
     let ended = replay(alloc, all, tables, trace, &mut writer, sink);

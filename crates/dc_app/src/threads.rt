@@ -1,5 +1,5 @@
 //! What the engines that start threads do alike: a certificate is judged for tables that threads share.
-ghost use Rattle.std.specs.Prelude.{◌≡◌, ◌≢◌, ◌⊎◌, ℕ, List, [], ◌+◌, ◌^◌, ◌<◌, IfErr, IfOk, IfSome, MatchResult, Some};
+ghost use Rattle.std.specs.Prelude.{◌≡◌, ◌≢◌, ◌⊎◌, ℕ, List, [], ◌+◌, ◌<◌, IfErr, IfOk, IfSome, MatchResult, Some};
 ghost use Rattle.std.specs.Thread.{IsSync};
 ghost use Rattle.std.specs.Arc.{arc_value};
 ghost use Rattle.dc_answer.specs.Answer.{Answer, Any, LeavesSink, Raises, Reported, WholeOrNone};
@@ -10,10 +10,10 @@ ghost use Rattle.dc_app.specs.Texts.{AnswersClaims, AnswersTexts};
 ghost use Rattle.dc_app.specs.Threads.{ReportsThreads};
 ghost use Rattle.dc_cert.specs.NamedRows.{NamedRows, named_rows};
 ghost use Rattle.dc_cert.specs.Reading.{certificate_of};
-ghost use Rattle.dc_device.specs.Device.{AsksUpTo};
 ghost use Rattle.dc_tables.specs.TableRows.{TableRows};
 ghost use Rattle.dc_toml.specs.Reading.{tables_of};
 ghost use Rattle.dc_parts.specs.declared.limits.TheConstants.{TEXT_LIMIT};
+ghost use Rattle.dc_device.specs.States.{AsksUpTo, CanFail, IsCountable};
 
 use dc_answer::{Exit, Failure, Outcome, Unloaded, end_with, load, load_certificate, report, say};
 use dc_cert::Certificate;
@@ -65,10 +65,10 @@ fn judge_source<J: Judge, C: Source, R: Threads + Wait + Sync>(
     text: &mut Text,
 ) -> Result<Result<Outcome, Failure>, NoThread>
     requires may { J.may_judge judge.now }
-    requires certificate { C.failed certificate.old + 1 < 2 ^ 64 }
-    ensures answer { IfOk result (λ judged. IfSome (C.remaining certificate.old) (λ claims. Judged (AnswersClaims (J.answers judge.now) (arc_value tables.now) (certificate_of claims)) text.new.items judged)) }
-    ensures source { MatchResult result (Raises (C.failed certificate.old) (C.failed certificate.new)) (λ _. C.failed certificate.new ≡ C.failed certificate.old) }
-    ensures asks { AsksUpTo TEXT_LIMIT (C.asked certificate.old) (C.asked certificate.new) (C.dry certificate.old) (C.dry certificate.new) }
+    requires certificate { IsCountable (C.state certificate.old) }
+    ensures answer { IfOk result (λ judged. IfSome (C.state certificate.old).remaining (λ claims. Judged (AnswersClaims (J.answers judge.now) (arc_value tables.now) (certificate_of claims)) text.new.items judged)) }
+    ensures source { MatchResult result (Raises (C.state certificate.old).failed (C.state certificate.new).failed) (λ _. (C.state certificate.new).failed ≡ (C.state certificate.old).failed) }
+    ensures asks { AsksUpTo TEXT_LIMIT (C.state certificate.old) (C.state certificate.new) }
     ensures sink { IfOk result (λ judged. IfErr judged (λ e. e ≢ Failure.Sink)) }
 {
     match load_certificate(alloc, certificate) {
@@ -91,10 +91,10 @@ fn judge_for<J: Judge, C: Source, R: Threads + Wait + Sync>(
     text: &mut Text,
 ) -> Result<Result<Outcome, Failure>, NoThread>
     requires may { J.may_judge judge.now }
-    requires certificate { C.failed certificate.old + 1 < 2 ^ 64 }
-    ensures answer { IfOk result (λ judged. IfSome (C.remaining certificate.old) (λ claims. Judged (AnswersClaims (J.answers judge.now) tables (certificate_of claims)) text.new.items judged)) }
-    ensures source { MatchResult result (Raises (C.failed certificate.old) (C.failed certificate.new)) (λ _. C.failed certificate.new ≡ C.failed certificate.old) }
-    ensures asks { AsksUpTo TEXT_LIMIT (C.asked certificate.old) (C.asked certificate.new) (C.dry certificate.old) (C.dry certificate.new) }
+    requires certificate { IsCountable (C.state certificate.old) }
+    ensures answer { IfOk result (λ judged. IfSome (C.state certificate.old).remaining (λ claims. Judged (AnswersClaims (J.answers judge.now) tables (certificate_of claims)) text.new.items judged)) }
+    ensures source { MatchResult result (Raises (C.state certificate.old).failed (C.state certificate.new).failed) (λ _. (C.state certificate.new).failed ≡ (C.state certificate.old).failed) }
+    ensures asks { AsksUpTo TEXT_LIMIT (C.state certificate.old) (C.state certificate.new) }
     ensures sink { IfOk result (λ judged. IfErr judged (λ e. e ≢ Failure.Sink)) }
 {
     match Arc::new(alloc, tables) {
@@ -113,15 +113,15 @@ fn judge_sources<J: Judge, T: Source, C: Source, R: Threads + Wait + Sync>(
     text: &mut Text,
 ) -> Result<Result<Outcome, Failure>, NoThread>
     requires may { J.may_judge judge.now }
-    requires tables { T.failed tables.old + 1 < 2 ^ 64 }
-    requires certificate { C.failed certificate.old + 1 < 2 ^ 64 }
-    ensures answer { IfOk result (λ judged. (rows claims : List ℕ) → T.remaining tables.old ≡ Some rows → C.remaining certificate.old ≡ Some claims
+    requires tables { IsCountable (T.state tables.old) }
+    requires certificate { IsCountable (C.state certificate.old) }
+    ensures answer { IfOk result (λ judged. (rows claims : List ℕ) → (T.state tables.old).remaining ≡ Some rows → (C.state certificate.old).remaining ≡ Some claims
         → Judged (AnswersTexts (J.answers judge.now) rows claims) text.new.items judged) }
-    ensures source { MatchResult result (Raises (T.failed tables.old + C.failed certificate.old) (T.failed tables.new + C.failed certificate.new))
-        (λ _. T.failed tables.new + C.failed certificate.new ≡ T.failed tables.old + C.failed certificate.old) }
-    ensures asks_tables { AsksUpTo TEXT_LIMIT (T.asked tables.old) (T.asked tables.new) (T.dry tables.old) (T.dry tables.new) }
-    ensures asks_certificate { AsksUpTo TEXT_LIMIT (C.asked certificate.old) (C.asked certificate.new) (C.dry certificate.old) (C.dry certificate.new) }
-    ensures order { IfSome (T.remaining tables.old) (λ rows. OnlyBehind (tables_of rows) (certificate.new ≡ certificate.old)) }
+    ensures source { MatchResult result (Raises ((T.state tables.old).failed + (C.state certificate.old).failed) ((T.state tables.new).failed + (C.state certificate.new).failed))
+        (λ _. (T.state tables.new).failed + (C.state certificate.new).failed ≡ (T.state tables.old).failed + (C.state certificate.old).failed) }
+    ensures asks_tables { AsksUpTo TEXT_LIMIT (T.state tables.old) (T.state tables.new) }
+    ensures asks_certificate { AsksUpTo TEXT_LIMIT (C.state certificate.old) (C.state certificate.new) }
+    ensures order { IfSome (T.state tables.old).remaining (λ rows. OnlyBehind (tables_of rows) (certificate.new ≡ certificate.old)) }
     ensures sink { IfOk result (λ judged. IfErr judged (λ e. e ≢ Failure.Sink)) }
 {
     match load(alloc, tables) {
@@ -137,10 +137,10 @@ fn judge_sources<J: Judge, T: Source, C: Source, R: Threads + Wait + Sync>(
 // Writes that a thread could not be started.
 fn end_without_thread<K: Sink>(writer: &mut LineWriter, sink: &mut K) -> Exit
     requires new { writer.old ≡ [] }
-    requires sink { K.failed sink.old + 1 < 2 ^ 64 }
+    requires sink { CanFail (K.state sink.old) }
     ensures reports { (sources sources' : ℕ) → sources' ≡ sources
-        → ReportsThreads (K.contents sink.old) (K.contents sink.new) sources sources' (K.failed sink.old) (K.failed sink.new) result }
-    ensures left { LeavesSink (K.failed sink.old) (K.failed sink.new) (K.last_failed sink.new) (K.hidden sink.new) }
+        → ReportsThreads (K.state sink.old).contents (K.state sink.new).contents sources sources' (K.state sink.old).failed (K.state sink.new).failed result }
+    ensures left { LeavesSink (K.state sink.old).failed (K.state sink.new).failed (K.state sink.new).last_failed (K.state sink.new).hidden }
     ensures exit { result ≡ Exit.Failed }
 {
     let _ = end_with(writer, sink, b"failed threads");
@@ -165,28 +165,28 @@ pub fn run_in_threads<J: Judge, T: Source, C: Source, K: Sink, R: Threads + Wait
     sink: &mut K,
 ) -> Exit
     requires may { J.may_judge judge.now }
-    requires tables { T.failed tables.old + 1 < 2 ^ 64 }
-    requires certificate { C.failed certificate.old + 1 < 2 ^ 64 }
-    requires sink { K.failed sink.old + 1 < 2 ^ 64 }
-    ensures reports { (rows claims : List ℕ) → T.remaining tables.old ≡ Some rows → C.remaining certificate.old ≡ Some claims
-        → Reported (WholeOrNone (AnswersTexts (J.answers judge.now) rows claims) (is_answered result)) (K.contents sink.old) (K.contents sink.new)
-        (T.failed tables.old + C.failed certificate.old) (T.failed tables.new + C.failed certificate.new)
-        (K.failed sink.old) (K.failed sink.new) result
-        ⊎ ReportsThreads (K.contents sink.old) (K.contents sink.new)
-        (T.failed tables.old + C.failed certificate.old) (T.failed tables.new + C.failed certificate.new)
-        (K.failed sink.old) (K.failed sink.new) result }
-    ensures reported { Reported Any (K.contents sink.old) (K.contents sink.new)
-        (T.failed tables.old + C.failed certificate.old) (T.failed tables.new + C.failed certificate.new)
-        (K.failed sink.old) (K.failed sink.new) result
-        ⊎ ReportsThreads (K.contents sink.old) (K.contents sink.new)
-        (T.failed tables.old + C.failed certificate.old) (T.failed tables.new + C.failed certificate.new)
-        (K.failed sink.old) (K.failed sink.new) result }
-    ensures asks_tables { AsksUpTo TEXT_LIMIT (T.asked tables.old) (T.asked tables.new) (T.dry tables.old) (T.dry tables.new) }
-    ensures asks_certificate { AsksUpTo TEXT_LIMIT (C.asked certificate.old) (C.asked certificate.new) (C.dry certificate.old) (C.dry certificate.new) }
-    ensures order { IfSome (T.remaining tables.old) (λ rows. OnlyBehind (tables_of rows) (certificate.new ≡ certificate.old)) }
-    ensures left { LeavesSink (K.failed sink.old) (K.failed sink.new) (K.last_failed sink.new) (K.hidden sink.new) }
-    ensures quiet { result ≢ Exit.Failed → T.failed tables.new + C.failed certificate.new + K.failed sink.new
-        ≡ T.failed tables.old + C.failed certificate.old + K.failed sink.old }
+    requires tables { IsCountable (T.state tables.old) }
+    requires certificate { IsCountable (C.state certificate.old) }
+    requires sink { CanFail (K.state sink.old) }
+    ensures reports { (rows claims : List ℕ) → (T.state tables.old).remaining ≡ Some rows → (C.state certificate.old).remaining ≡ Some claims
+        → Reported (WholeOrNone (AnswersTexts (J.answers judge.now) rows claims) (is_answered result)) (K.state sink.old).contents (K.state sink.new).contents
+        ((T.state tables.old).failed + (C.state certificate.old).failed) ((T.state tables.new).failed + (C.state certificate.new).failed)
+        (K.state sink.old).failed (K.state sink.new).failed result
+        ⊎ ReportsThreads (K.state sink.old).contents (K.state sink.new).contents
+        ((T.state tables.old).failed + (C.state certificate.old).failed) ((T.state tables.new).failed + (C.state certificate.new).failed)
+        (K.state sink.old).failed (K.state sink.new).failed result }
+    ensures reported { Reported Any (K.state sink.old).contents (K.state sink.new).contents
+        ((T.state tables.old).failed + (C.state certificate.old).failed) ((T.state tables.new).failed + (C.state certificate.new).failed)
+        (K.state sink.old).failed (K.state sink.new).failed result
+        ⊎ ReportsThreads (K.state sink.old).contents (K.state sink.new).contents
+        ((T.state tables.old).failed + (C.state certificate.old).failed) ((T.state tables.new).failed + (C.state certificate.new).failed)
+        (K.state sink.old).failed (K.state sink.new).failed result }
+    ensures asks_tables { AsksUpTo TEXT_LIMIT (T.state tables.old) (T.state tables.new) }
+    ensures asks_certificate { AsksUpTo TEXT_LIMIT (C.state certificate.old) (C.state certificate.new) }
+    ensures order { IfSome (T.state tables.old).remaining (λ rows. OnlyBehind (tables_of rows) (certificate.new ≡ certificate.old)) }
+    ensures left { LeavesSink (K.state sink.old).failed (K.state sink.new).failed (K.state sink.new).last_failed (K.state sink.new).hidden }
+    ensures quiet { result ≢ Exit.Failed → (T.state tables.new).failed + (C.state certificate.new).failed + (K.state sink.new).failed
+        ≡ (T.state tables.old).failed + (C.state certificate.old).failed + (K.state sink.old).failed }
 {
     let mut text = Text::new();
     let mut writer = LineWriter::new();

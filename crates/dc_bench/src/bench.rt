@@ -1,5 +1,5 @@
 //! `bench`: a hub over certified tables is seen running.
-ghost use Rattle.std.specs.Prelude.{◌≡◌, ◌≢◌, ◌⊎◌, ℕ, List, ◌+◌, ◌^◌, ◌<◌, ◌≤◌, IfErr, IfOk, IfSome, Some};
+ghost use Rattle.std.specs.Prelude.{◌≡◌, ◌≢◌, ◌⊎◌, ℕ, List, ◌+◌, ◌<◌, ◌≤◌, IfErr, IfOk, IfSome, Some};
 ghost use Rattle.std.specs.Arc.{arc_value};
 ghost use Rattle.dc_answer.specs.Answer.{Any, LeavesSink, Reported};
 ghost use Rattle.dc_answer.specs.Inputs.{OnlyBehind};
@@ -7,10 +7,10 @@ ghost use Rattle.dc_answer.specs.Judging.{Judged};
 ghost use Rattle.dc_app.specs.Threads.{ReportsThreads};
 ghost use Rattle.dc_bench.specs.Bench.{AnswersCertificate, ReportsBench};
 ghost use Rattle.dc_cert.specs.NamedRows.{named_rows};
-ghost use Rattle.dc_device.specs.Device.{AsksUpTo};
 ghost use Rattle.dc_toml.specs.Reading.{tables_of};
 ghost use Rattle.dc_script.specs.declared.limits.TheConstants.{LONGEST_SCRIPT};
 ghost use Rattle.dc_parts.specs.declared.limits.TheConstants.{TEXT_LIMIT};
+ghost use Rattle.dc_device.specs.States.{AsksUpTo, CanFail, IsCountable};
 
 use crate::driven::run_certified;
 use dc_answer::{Exit, Failure, Outcome};
@@ -94,28 +94,28 @@ pub fn run_bench<T: Source, C: Source, K: Sink, R: Threads + Wait + Sync>(
     sink: &mut K,
 ) -> Exit
     requires ticks { (1 ≤ ticks) × (ticks ≤ LONGEST_SCRIPT) }
-    requires tables { T.failed tables.old + 1 < 2 ^ 64 }
-    requires certificate { C.failed certificate.old + 1 < 2 ^ 64 }
-    requires sink { K.failed sink.old + 1 < 2 ^ 64 }
-    ensures reports { (rows claims : List ℕ) → T.remaining tables.old ≡ Some rows → C.remaining certificate.old ≡ Some claims
-        → ReportsBench rows claims ticks (K.contents sink.old) (K.contents sink.new)
-        (T.failed tables.old + C.failed certificate.old) (T.failed tables.new + C.failed certificate.new)
-        (K.failed sink.old) (K.failed sink.new) result
-        ⊎ ReportsThreads (K.contents sink.old) (K.contents sink.new)
-        (T.failed tables.old + C.failed certificate.old) (T.failed tables.new + C.failed certificate.new)
-        (K.failed sink.old) (K.failed sink.new) result }
-    ensures reported { Reported Any (K.contents sink.old) (K.contents sink.new)
-        (T.failed tables.old + C.failed certificate.old) (T.failed tables.new + C.failed certificate.new)
-        (K.failed sink.old) (K.failed sink.new) result
-        ⊎ ReportsThreads (K.contents sink.old) (K.contents sink.new)
-        (T.failed tables.old + C.failed certificate.old) (T.failed tables.new + C.failed certificate.new)
-        (K.failed sink.old) (K.failed sink.new) result }
-    ensures asks_tables { AsksUpTo TEXT_LIMIT (T.asked tables.old) (T.asked tables.new) (T.dry tables.old) (T.dry tables.new) }
-    ensures asks_certificate { AsksUpTo TEXT_LIMIT (C.asked certificate.old) (C.asked certificate.new) (C.dry certificate.old) (C.dry certificate.new) }
-    ensures order { IfSome (T.remaining tables.old) (λ rows. OnlyBehind (tables_of rows) (certificate.new ≡ certificate.old)) }
-    ensures left { LeavesSink (K.failed sink.old) (K.failed sink.new) (K.last_failed sink.new) (K.hidden sink.new) }
-    ensures quiet { result ≢ Exit.Failed → T.failed tables.new + C.failed certificate.new + K.failed sink.new
-        ≡ T.failed tables.old + C.failed certificate.old + K.failed sink.old }
+    requires tables { IsCountable (T.state tables.old) }
+    requires certificate { IsCountable (C.state certificate.old) }
+    requires sink { CanFail (K.state sink.old) }
+    ensures reports { (rows claims : List ℕ) → (T.state tables.old).remaining ≡ Some rows → (C.state certificate.old).remaining ≡ Some claims
+        → ReportsBench rows claims ticks (K.state sink.old).contents (K.state sink.new).contents
+        ((T.state tables.old).failed + (C.state certificate.old).failed) ((T.state tables.new).failed + (C.state certificate.new).failed)
+        (K.state sink.old).failed (K.state sink.new).failed result
+        ⊎ ReportsThreads (K.state sink.old).contents (K.state sink.new).contents
+        ((T.state tables.old).failed + (C.state certificate.old).failed) ((T.state tables.new).failed + (C.state certificate.new).failed)
+        (K.state sink.old).failed (K.state sink.new).failed result }
+    ensures reported { Reported Any (K.state sink.old).contents (K.state sink.new).contents
+        ((T.state tables.old).failed + (C.state certificate.old).failed) ((T.state tables.new).failed + (C.state certificate.new).failed)
+        (K.state sink.old).failed (K.state sink.new).failed result
+        ⊎ ReportsThreads (K.state sink.old).contents (K.state sink.new).contents
+        ((T.state tables.old).failed + (C.state certificate.old).failed) ((T.state tables.new).failed + (C.state certificate.new).failed)
+        (K.state sink.old).failed (K.state sink.new).failed result }
+    ensures asks_tables { AsksUpTo TEXT_LIMIT (T.state tables.old) (T.state tables.new) }
+    ensures asks_certificate { AsksUpTo TEXT_LIMIT (C.state certificate.old) (C.state certificate.new) }
+    ensures order { IfSome (T.state tables.old).remaining (λ rows. OnlyBehind (tables_of rows) (certificate.new ≡ certificate.old)) }
+    ensures left { LeavesSink (K.state sink.old).failed (K.state sink.new).failed (K.state sink.new).last_failed (K.state sink.new).hidden }
+    ensures quiet { result ≢ Exit.Failed → (T.state tables.new).failed + (C.state certificate.new).failed + (K.state sink.new).failed
+        ≡ (T.state tables.old).failed + (C.state certificate.old).failed + (K.state sink.old).failed }
 {
     let bench = Bench { ticks };
     run_in_threads(rt, alloc, &bench, tables, certificate, sink)

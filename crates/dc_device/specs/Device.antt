@@ -47,7 +47,3 @@ abbrev pub stops_in : {E : Type 0} → Result Bool E → ℕ
 stops_in (Ok true) = 0
 stops_in (Ok false) = 1
 stops_in (Err e) = 1
-
--- A source that may give so many bytes was pulled at most once more than that, and at most one pull gave none.
-abbrev pub AsksUpTo : ℕ → ℕ → ℕ → ℕ → ℕ → Type 0
-AsksUpTo limit asked asked' dry dry' = (asked' ≤ asked + limit + 1) × (dry' ≤ dry + 1)

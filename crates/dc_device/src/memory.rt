@@ -42,13 +42,7 @@ impl<'a> MemSource<'a> {
 }
 
 impl<'a> Source for MemSource<'a> {
-    ghost remaining = { λ s. Some s.rest.now };
-
-    ghost failed = { λ s. s.failures };
-
-    ghost asked = { λ s. s.pulls };
-
-    ghost dry = { λ s. s.dry_pulls };
+    ghost state = { λ s. record { remaining = Some s.rest.now; failed = s.failures; asked = s.pulls; dry = s.dry_pulls } };
 
     fn pull(&mut self, buf: &mut [u8]) -> Result<usize, Broken>
         requires { self.old.failures + 1 < 2 ^ 64 }
@@ -166,17 +160,15 @@ impl MemSink {
 }
 
 impl Sink for MemSink {
-    ghost contents = { λ s. Some s.bytes.items };
-
-    ghost failed = { λ s. s.failures };
-
-    ghost last_failed = { λ s. s.has_failed };
+    ghost state = { λ s. record {
+      contents = Some s.bytes.items;
+      failed = s.failures;
+      last_failed = s.has_failed;
+      hidden = nat_lt s.shown (length s.bytes.items);
+      answered = Some (take s.answered s.bytes.items);
+    } };
 
     ghost has_readers = { true };
-
-    ghost hidden = { λ s. nat_lt s.shown (length s.bytes.items) };
-
-    ghost answered = { λ s. Some (take s.answered s.bytes.items) };
 
     fn push(&mut self, bytes: &[u8]) -> Result<usize, Broken>
         requires { self.old.failures + 1 < 2 ^ 64 }

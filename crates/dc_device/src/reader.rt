@@ -1,8 +1,9 @@
 //! The lines of a source, through one fixed buffer.
-ghost use Rattle.std.specs.Prelude.{◌≡◌, ◌∷◌, [], ◌+◌, ◌^◌, ◌<◌, ◌≤◌, MatchOption, drop, false, length, take};
+ghost use Rattle.std.specs.Prelude.{◌≡◌, ◌∷◌, [], ◌+◌, ◌<◌, ◌≤◌, MatchOption, drop, false, length, take};
 ghost use Rattle.dc_device.specs.Device.{IsSnapshot, count_on, failures_of, stops_in};
 ghost use Rattle.dc_device.specs.Lines.{Fills, HasNoLine, HoldsLine, NoFeed, ReadsOn};
 ghost use Rattle.dc_device.specs.declared.reader.TheConstants.{LINE_LIMIT};
+ghost use Rattle.dc_device.specs.States.{IsCountable};
 
 use crate::device::{Broken, Sink, Source};
 use crate::writer::LineWriter;
@@ -152,18 +153,18 @@ impl LineReader {
     ) -> Result<bool, Broken>
         requires empty { self.old.bytes ≡ [] }
         requires seen { written.now ≡ [] }
-        requires shown { K.hidden sink.old ≡ false }
-        requires countable { S.failed source.old + 1 < 2 ^ 64 }
-        ensures bytes { Fills (S.remaining source.old) (S.remaining source.new) self.new.bytes result }
+        requires shown { (K.state sink.old).hidden ≡ false }
+        requires countable { IsCountable (S.state source.old) }
+        ensures bytes { Fills (S.state source.old).remaining (S.state source.new).remaining self.new.bytes result }
         ensures room { self.new.room ≡ self.old.room }
-        ensures count { S.failed source.new ≡ S.failed source.old + failures_of result }
-        ensures pulls { S.asked source.new ≡ count_on (S.asked source.old) }
-        ensures dry_pulls { S.dry source.new ≤ S.dry source.old + stops_in result }
-        ensures answered { IsSnapshot (K.contents sink.old) (K.answered sink.new) }
-        ensures kept { K.contents sink.new ≡ K.contents sink.old }
-        ensures sink { K.failed sink.new ≡ K.failed sink.old }
-        ensures last { K.last_failed sink.new ≡ K.last_failed sink.old }
-        ensures seen { K.hidden sink.new ≡ false }
+        ensures count { (S.state source.new).failed ≡ (S.state source.old).failed + failures_of result }
+        ensures pulls { (S.state source.new).asked ≡ count_on (S.state source.old).asked }
+        ensures dry_pulls { (S.state source.new).dry ≤ (S.state source.old).dry + stops_in result }
+        ensures answered { IsSnapshot (K.state sink.old).contents (K.state sink.new).answered }
+        ensures kept { (K.state sink.new).contents ≡ (K.state sink.old).contents }
+        ensures sink { (K.state sink.new).failed ≡ (K.state sink.old).failed }
+        ensures last { (K.state sink.new).last_failed ≡ (K.state sink.old).last_failed }
+        ensures seen { (K.state sink.new).hidden ≡ false }
     {
         sink.note_ask();
         self.at = 0;

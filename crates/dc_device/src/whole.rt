@@ -1,7 +1,7 @@
 //! A text read whole.
-ghost use Rattle.std.specs.Prelude.{◌≡◌, ◌+◌, ◌^◌, ◌<◌, ◌≤◌, ◌↔◌, length, IfOk, IfSome};
-ghost use Rattle.dc_device.specs.Device.{AsksUpTo};
+ghost use Rattle.std.specs.Prelude.{◌≡◌, ◌+◌, ◌<◌, ◌≤◌, ◌↔◌, length, IfOk, IfSome};
 ghost use Rattle.dc_device.specs.Whole.{ReadsWhole, failed_in};
+ghost use Rattle.dc_device.specs.States.{AsksUpTo, IsCountable};
 
 use crate::device::Source;
 use crate::reader::BLOCK;
@@ -28,10 +28,10 @@ pub fn read_at_most<S: Source>(
     source: &mut S,
     limit: usize,
 ) -> Result<Vec<u8>, Unread>
-    requires { S.failed source.old + 1 < 2 ^ 64 }
-    ensures bytes { IfSome (S.remaining source.old) (λ text. ReadsWhole text limit result) }
-    ensures count { S.failed source.new ≡ S.failed source.old + failed_in result }
-    ensures asks { AsksUpTo limit (S.asked source.old) (S.asked source.new) (S.dry source.old) (S.dry source.new) }
+    requires { IsCountable (S.state source.old) }
+    ensures bytes { IfSome (S.state source.old).remaining (λ text. ReadsWhole text limit result) }
+    ensures count { (S.state source.new).failed ≡ (S.state source.old).failed + failed_in result }
+    ensures asks { AsksUpTo limit (S.state source.old) (S.state source.new) }
     ensures within { IfOk result (λ bytes. length bytes.items ≤ limit) }
 {
     let mut text = Vec::new(alloc);

@@ -31,13 +31,7 @@ impl<R: Drop> ReadSource<R> {
 }
 
 impl<R: Read + Drop> Source for ReadSource<R> {
-    ghost remaining = { λ s. R.remaining s.reader };
-
-    ghost failed = { λ s. s.failures };
-
-    ghost asked = { λ s. s.pulls };
-
-    ghost dry = { λ s. s.dry_pulls };
+    ghost state = { λ s. record { remaining = R.remaining s.reader; failed = s.failures; asked = s.pulls; dry = s.dry_pulls } };
 
     fn pull(&mut self, buf: &mut [u8]) -> Result<usize, Broken> {
         self.pulls = self.pulls.saturating_add(1);
@@ -95,17 +89,15 @@ impl<W: Drop> WriteSink<W> {
 }
 
 impl<W: Write + Drop> Sink for WriteSink<W> {
-    ghost contents = { λ s. W.contents s.writer };
-
-    ghost failed = { λ s. s.failures };
-
-    ghost last_failed = { λ s. s.has_failed };
+    ghost state = { λ s. record {
+      contents = W.contents s.writer;
+      failed = s.failures;
+      last_failed = s.has_failed;
+      hidden = s.hides;
+      answered = None;
+    } };
 
     ghost has_readers = { true };
-
-    ghost hidden = { λ s. s.hides };
-
-    ghost answered = { λ s. None };
 
     fn push(&mut self, bytes: &[u8]) -> Result<usize, Broken> {
         self.has_failed = true;
@@ -157,17 +149,9 @@ impl<W: Write + Drop> Sink for WriteSink<W> {
 pub struct Nowhere;
 
 impl Sink for Nowhere {
-    ghost contents = { λ s. None };
-
-    ghost failed = { λ s. 0 };
-
-    ghost last_failed = { λ s. false };
+    ghost state = { λ s. record { contents = None; failed = 0; last_failed = false; hidden = false; answered = None } };
 
     ghost has_readers = { false };
-
-    ghost hidden = { λ s. false };
-
-    ghost answered = { λ s. None };
 
     fn push(&mut self, bytes: &[u8]) -> Result<usize, Broken> {
         Ok(bytes.len())

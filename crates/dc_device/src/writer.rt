@@ -1,7 +1,8 @@
 //! Lines to a sink, through one fixed buffer.
-ghost use Rattle.std.specs.Prelude.{◌≡◌, ◌∷◌, [], ◌++◌, ◌+◌, ◌^◌, ◌<◌, MatchBool, IfErr, true};
+ghost use Rattle.std.specs.Prelude.{◌≡◌, ◌∷◌, [], ◌++◌, ◌+◌, ◌<◌, MatchBool, IfErr, true};
 ghost use Rattle.dc_device.specs.Bytes.{Gathers, Writes};
 ghost use Rattle.dc_device.specs.Device.{Settles, failures_of};
+ghost use Rattle.dc_device.specs.States.{CanFail};
 
 use crate::device::{Broken, Sink};
 use crate::reader::BLOCK;
@@ -27,11 +28,11 @@ impl Model for LineWriter {
 // small.
 #[inline(never)]
 fn push_all<K: Sink>(sink: &mut K, bytes: &[u8]) -> Result<(), Broken>
-    requires { K.failed sink.old + 1 < 2 ^ 64 }
-    ensures bytes { Writes (K.contents sink.old) (K.contents sink.new) bytes.now result }
-    ensures count { K.failed sink.new ≡ K.failed sink.old + failures_of result }
-    ensures last { IfErr result (λ _. K.last_failed sink.new ≡ true) }
-    ensures answered { K.answered sink.new ≡ K.answered sink.old }
+    requires { CanFail (K.state sink.old) }
+    ensures bytes { Writes (K.state sink.old).contents (K.state sink.new).contents bytes.now result }
+    ensures count { (K.state sink.new).failed ≡ (K.state sink.old).failed + failures_of result }
+    ensures last { IfErr result (λ _. (K.state sink.new).last_failed ≡ true) }
+    ensures answered { (K.state sink.new).answered ≡ (K.state sink.old).answered }
 {
     let mut rest = bytes;
     while !rest.is_empty() {
@@ -58,12 +59,12 @@ impl LineWriter {
     /// `Broken` where the sink failed: what was left is given up, and the sink is called no more.
     #[inline(never)]
     pub fn flush<K: Sink>(&mut self, sink: &mut K) -> Result<(), Broken>
-        requires { K.failed sink.old + 1 < 2 ^ 64 }
-        ensures bytes { Writes (K.contents sink.old) (K.contents sink.new) self.old result }
+        requires { CanFail (K.state sink.old) }
+        ensures bytes { Writes (K.state sink.old).contents (K.state sink.new).contents self.old result }
         ensures empty { self.new ≡ [] }
-        ensures count { K.failed sink.new ≡ K.failed sink.old + failures_of result }
-        ensures settled { Settles result (K.last_failed sink.new) (K.hidden sink.new) }
-        ensures answered { K.answered sink.new ≡ K.answered sink.old }
+        ensures count { (K.state sink.new).failed ≡ (K.state sink.old).failed + failures_of result }
+        ensures settled { Settles result (K.state sink.new).last_failed (K.state sink.new).hidden }
+        ensures answered { (K.state sink.new).answered ≡ (K.state sink.old).answered }
     {
         if self.waiting.is_empty() && !sink.hides() {
             return Ok(());
@@ -84,12 +85,12 @@ impl LineWriter {
     // Puts the bytes after those that wait, which first go out where there is no room. It is called twice a line.
     #[inline]
     fn put<K: Sink>(&mut self, sink: &mut K, bytes: &[u8]) -> Result<(), Broken>
-        requires { K.failed sink.old + 1 < 2 ^ 64 }
-        ensures bytes { Gathers (K.contents sink.old) self.old (K.contents sink.new) self.new
+        requires { CanFail (K.state sink.old) }
+        ensures bytes { Gathers (K.state sink.old).contents self.old (K.state sink.new).contents self.new
             bytes.now result }
-        ensures count { K.failed sink.new ≡ K.failed sink.old + failures_of result }
-        ensures last { IfErr result (λ _. K.last_failed sink.new ≡ true) }
-        ensures answered { K.answered sink.new ≡ K.answered sink.old }
+        ensures count { (K.state sink.new).failed ≡ (K.state sink.old).failed + failures_of result }
+        ensures last { IfErr result (λ _. (K.state sink.new).last_failed ≡ true) }
+        ensures answered { (K.state sink.new).answered ≡ (K.state sink.old).answered }
     {
         if self.hold(bytes) {
             return Ok(());
@@ -106,14 +107,35 @@ impl LineWriter {
     /// # Errors
     /// `Broken` where the sink failed: it took a front of what waited and the line, and nothing waits.
     pub fn line<K: Sink>(&mut self, sink: &mut K, line: &[u8]) -> Result<(), Broken>
-        requires { K.failed sink.old + 1 < 2 ^ 64 }
-        ensures bytes { Gathers (K.contents sink.old) self.old (K.contents sink.new) self.new
+        requires { CanFail (K.state sink.old) }
+        ensures bytes { Gathers (K.state sink.old).contents self.old (K.state sink.new).contents self.new
             (line.now ++ 10 ∷ []) result }
-        ensures count { K.failed sink.new ≡ K.failed sink.old + failures_of result }
-        ensures last { IfErr result (λ _. K.last_failed sink.new ≡ true) }
-        ensures answered { K.answered sink.new ≡ K.answered sink.old }
+        ensures count { (K.state sink.new).failed ≡ (K.state sink.old).failed + failures_of result }
+        ensures last { IfErr result (λ _. (K.state sink.new).last_failed ≡ true) }
+        ensures answered { (K.state sink.new).answered ≡ (K.state sink.old).answered }
     {
         self.put(sink, line)?;
         self.put(sink, b"\n")
+    }
+
+    /// Writes a line that is handed in as two parts, and a line feed, after what waits.
+    ///
+    /// # Errors
+    /// `Broken` where the sink failed: it took a front of what waited and the line, and nothing waits.
+    pub fn line_of<K: Sink>(
+        &mut self,
+        sink: &mut K,
+        front: &[u8],
+        back: &[u8],
+    ) -> Result<(), Broken>
+        requires { CanFail (K.state sink.old) }
+        ensures bytes { Gathers (K.state sink.old).contents self.old (K.state sink.new).contents self.new
+            (front.now ++ (back.now ++ 10 ∷ [])) result }
+        ensures count { (K.state sink.new).failed ≡ (K.state sink.old).failed + failures_of result }
+        ensures last { IfErr result (λ _. (K.state sink.new).last_failed ≡ true) }
+        ensures answered { (K.state sink.new).answered ≡ (K.state sink.old).answered }
+    {
+        self.put(sink, front)?;
+        self.line(sink, back)
     }
 }

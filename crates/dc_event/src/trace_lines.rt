@@ -1,6 +1,7 @@
 //! The events of a trace, in the bytes that are held of it.
 ghost use Rattle.std.specs.Prelude.{◌≡◌, ◌≢◌, ℕ, List, Option, [], ◌+◌, ◌^◌, ◌<◌, Some, None, IfSome, IfOk, MatchOption, false};
 ghost use Rattle.dc_device.specs.Device.{IsSnapshot};
+ghost use Rattle.dc_device.specs.States.{IsCountable};
 ghost use Rattle.dc_event.specs.TraceText.{trace_of};
 ghost use Rattle.dc_event.specs.Reading.{AsksFor, IsOfLine, NeedsMore, ReadsNext, Stays, StopsBehind, Tells, ahead, at_start, failures_at, stop_behind, stop_of};
 
@@ -130,20 +131,20 @@ impl<'t> TraceLines<'t> {
         requires read { self.old.held ≡ [] }
         requires runs { self.old.stopped ≡ None }
         requires seen { written.now ≡ [] }
-        requires shown { K.hidden sink.old ≡ false }
-        requires countable { S.failed source.old + 1 < 2 ^ 64 }
-        ensures kept { Stays (ahead self.old (S.remaining source.old)) (ahead self.new (S.remaining source.new)) }
+        requires shown { (K.state sink.old).hidden ≡ false }
+        requires countable { IsCountable (S.state source.old) }
+        ensures kept { Stays (ahead self.old (S.state source.old).remaining) (ahead self.new (S.state source.new).remaining) }
         ensures came { self.new.stopped ≡ None → self.new.held ≢ [] }
         ensures room { self.new.room ≡ self.old.room }
         ensures tables { self.new.tables ≡ self.old.tables }
         ensures end { StopsBehind self.old.number self.old.line self.new.stopped }
-        ensures count { S.failed source.new ≡ S.failed source.old + failures_at self.new.stopped }
-        ensures asks { AsksFor self.old self.new (S.asked source.old) (S.asked source.new) (S.dry source.old) (S.dry source.new) }
-        ensures answered { IsSnapshot (K.contents sink.old) (K.answered sink.new) }
-        ensures shows { K.contents sink.new ≡ K.contents sink.old }
-        ensures sink { K.failed sink.new ≡ K.failed sink.old }
-        ensures last { K.last_failed sink.new ≡ K.last_failed sink.old }
-        ensures hidden { K.hidden sink.new ≡ false }
+        ensures count { (S.state source.new).failed ≡ (S.state source.old).failed + failures_at self.new.stopped }
+        ensures asks { AsksFor self.old self.new (S.state source.old).asked (S.state source.new).asked (S.state source.old).dry (S.state source.new).dry }
+        ensures answered { IsSnapshot (K.state sink.old).contents (K.state sink.new).answered }
+        ensures shows { (K.state sink.new).contents ≡ (K.state sink.old).contents }
+        ensures sink { (K.state sink.new).failed ≡ (K.state sink.old).failed }
+        ensures last { (K.state sink.new).last_failed ≡ (K.state sink.old).last_failed }
+        ensures hidden { (K.state sink.new).hidden ≡ false }
     {
         match self.reader.fill(source, written, sink) {
             Ok(true) => {}

@@ -3,6 +3,7 @@ ghost use Rattle.std.specs.Prelude.{◌≡◌, ◌≢◌, [], ◌+◌, ◌^◌, 
 ghost use Rattle.dc_event.specs.TraceText.{trace_of};
 ghost use Rattle.dc_event.specs.Reading.{AsksFor, Stays, Tells, ahead, at_start, failures_at, left, new_failures, stop_of};
 ghost use Rattle.dc_event.specs.declared.trace_reader.TheConstants.{TRACE_LIMIT};
+ghost use Rattle.dc_device.specs.States.{IsCountable};
 
 use crate::event::Event;
 use crate::trace::TraceStop;
@@ -26,20 +27,20 @@ impl<'t, S: Source + Drop> Model for TraceReader<'t, S> {
 
     ghost Value = { Reader };
 
-    ghost view = { λ r. record { lines = r.lines; coming = S.remaining r.source; failed = S.failed r.source; asked = S.asked r.source; dry = S.dry r.source } };
+    ghost view = { λ r. record { lines = r.lines; coming = (S.state r.source).remaining; failed = (S.state r.source).failed; asked = (S.state r.source).asked; dry = (S.state r.source).dry } };
 }
 
 // Pulls for a reader whose owner writes nothing.
 fn pull_unwatched<S: Source>(lines: &mut TraceLines, source: &mut S)
     requires read { lines.old.held ≡ [] }
     requires runs { lines.old.stopped ≡ None }
-    requires countable { S.failed source.old + 1 < 2 ^ 64 }
-    ensures kept { Stays (ahead lines.old (S.remaining source.old)) (ahead lines.new (S.remaining source.new)) }
+    requires countable { IsCountable (S.state source.old) }
+    ensures kept { Stays (ahead lines.old (S.state source.old).remaining) (ahead lines.new (S.state source.new).remaining) }
     ensures came { lines.new.stopped ≡ None → lines.new.held ≢ [] }
     ensures room { lines.new.room ≡ lines.old.room }
     ensures tables { lines.new.tables ≡ lines.old.tables }
-    ensures count { S.failed source.new ≡ S.failed source.old + failures_at lines.new.stopped }
-    ensures asks { AsksFor lines.old lines.new (S.asked source.old) (S.asked source.new) (S.dry source.old) (S.dry source.new) }
+    ensures count { (S.state source.new).failed ≡ (S.state source.old).failed + failures_at lines.new.stopped }
+    ensures asks { AsksFor lines.old lines.new (S.state source.old).asked (S.state source.new).asked (S.state source.old).dry (S.state source.new).dry }
 {
     let nothing = LineWriter::new();
     lines.pull(source, &nothing, &mut Nowhere);
@@ -49,10 +50,10 @@ impl<'t, S: Source + Drop> TraceReader<'t, S> {
     /// Reads a trace of at most [`TRACE_LIMIT`] bytes.
     pub fn new(tables: &'t Tables, source: S) -> Self
         ensures start { result.lines ≡ at_start tables.now TRACE_LIMIT }
-        ensures trace { left result ≡ option_map (λ text. trace_of tables.now TRACE_LIMIT text) (S.remaining source) }
-        ensures failed { result.failed ≡ S.failed source }
-        ensures asked { result.asked ≡ S.asked source }
-        ensures dry { result.dry ≡ S.dry source }
+        ensures trace { left result ≡ option_map (λ text. trace_of tables.now TRACE_LIMIT text) (S.state source).remaining }
+        ensures failed { result.failed ≡ (S.state source).failed }
+        ensures asked { result.asked ≡ (S.state source).asked }
+        ensures dry { result.dry ≡ (S.state source).dry }
     {
         TraceReader::limited(tables, source, TRACE_LIMIT)
     }
@@ -61,10 +62,10 @@ impl<'t, S: Source + Drop> TraceReader<'t, S> {
     pub fn limited(tables: &'t Tables, source: S, bytes: u64) -> Self
         requires { bytes + 1 < 2 ^ 64 }
         ensures start { result.lines ≡ at_start tables.now bytes }
-        ensures trace { left result ≡ option_map (λ text. trace_of tables.now bytes text) (S.remaining source) }
-        ensures failed { result.failed ≡ S.failed source }
-        ensures asked { result.asked ≡ S.asked source }
-        ensures dry { result.dry ≡ S.dry source }
+        ensures trace { left result ≡ option_map (λ text. trace_of tables.now bytes text) (S.state source).remaining }
+        ensures failed { result.failed ≡ (S.state source).failed }
+        ensures asked { result.asked ≡ (S.state source).asked }
+        ensures dry { result.dry ≡ (S.state source).dry }
     {
         TraceReader {
             lines: TraceLines::new(tables, bytes),

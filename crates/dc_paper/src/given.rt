@@ -1,16 +1,16 @@
 //! `report` with a certificate.
-ghost use Rattle.std.specs.Prelude.{◌≡◌, ◌≢◌, ℕ, List, ◌++◌, ◌+◌, ◌^◌, ◌<◌, codes, IfErr, IfOk, IfSome, Some};
+ghost use Rattle.std.specs.Prelude.{◌≡◌, ◌≢◌, ℕ, List, ◌++◌, ◌+◌, ◌<◌, codes, IfErr, IfOk, IfSome, Some};
 ghost use Rattle.dc_cert.specs.Faults.{fault_text};
 ghost use Rattle.dc_cert.specs.NamedRows.{named_rows};
 ghost use Rattle.dc_cert.specs.Reading.{certificate_of};
 ghost use Rattle.dc_check.specs.Verdict.{verdict_of};
-ghost use Rattle.dc_device.specs.Device.{AsksUpTo};
 ghost use Rattle.dc_toml.specs.Reading.{tables_of};
 ghost use Rattle.dc_answer.specs.Answer.{Any, LeavesSink, Raises, Reported};
 ghost use Rattle.dc_answer.specs.Inputs.{OnlyBehind};
 ghost use Rattle.dc_answer.specs.Judging.{Judged};
 ghost use Rattle.dc_paper.specs.Paper.{AnswersClaims, AnswersReport, ReportsPage, outcome_of};
 ghost use Rattle.dc_parts.specs.declared.limits.TheConstants.{TEXT_LIMIT};
+ghost use Rattle.dc_device.specs.States.{AsksUpTo, CanFail, IsCountable};
 
 use crate::pages::keep_page;
 use dc_answer::{Exit, Failure, Outcome, Unloaded, load, load_certificate, report, say};
@@ -54,10 +54,10 @@ fn judge_source<C: Source>(
     certificate: &mut C,
     text: &mut Vec<u8>,
 ) -> Result<Outcome, Failure>
-    requires { C.failed certificate.old + 1 < 2 ^ 64 }
-    ensures answer { (given : List ℕ) → C.remaining certificate.old ≡ Some given → Judged (λ answer. AnswersClaims tables.now answer (certificate_of given)) text.new.items result }
-    ensures source { Raises (C.failed certificate.old) (C.failed certificate.new) result }
-    ensures asks { AsksUpTo TEXT_LIMIT (C.asked certificate.old) (C.asked certificate.new) (C.dry certificate.old) (C.dry certificate.new) }
+    requires { IsCountable (C.state certificate.old) }
+    ensures answer { (given : List ℕ) → (C.state certificate.old).remaining ≡ Some given → Judged (λ answer. AnswersClaims tables.now answer (certificate_of given)) text.new.items result }
+    ensures source { Raises (C.state certificate.old).failed (C.state certificate.new).failed result }
+    ensures asks { AsksUpTo TEXT_LIMIT (C.state certificate.old) (C.state certificate.new) }
     ensures sink { IfErr result (λ e. e ≢ Failure.Sink) }
 {
     match load_certificate(alloc, certificate) {
@@ -74,14 +74,14 @@ fn judge_sources<T: Source, C: Source>(
     certificate: &mut C,
     text: &mut Vec<u8>,
 ) -> Result<Outcome, Failure>
-    requires tables { T.failed tables.old + 1 < 2 ^ 64 }
-    requires certificate { C.failed certificate.old + 1 < 2 ^ 64 }
-    ensures answer { (rows given : List ℕ) → T.remaining tables.old ≡ Some rows → C.remaining certificate.old ≡ Some given
+    requires tables { IsCountable (T.state tables.old) }
+    requires certificate { IsCountable (C.state certificate.old) }
+    ensures answer { (rows given : List ℕ) → (T.state tables.old).remaining ≡ Some rows → (C.state certificate.old).remaining ≡ Some given
         → Judged (AnswersReport rows given) text.new.items result }
-    ensures source { Raises (T.failed tables.old + C.failed certificate.old) (T.failed tables.new + C.failed certificate.new) result }
-    ensures asks_tables { AsksUpTo TEXT_LIMIT (T.asked tables.old) (T.asked tables.new) (T.dry tables.old) (T.dry tables.new) }
-    ensures asks_certificate { AsksUpTo TEXT_LIMIT (C.asked certificate.old) (C.asked certificate.new) (C.dry certificate.old) (C.dry certificate.new) }
-    ensures order { IfSome (T.remaining tables.old) (λ rows. OnlyBehind (tables_of rows) (certificate.new ≡ certificate.old)) }
+    ensures source { Raises ((T.state tables.old).failed + (C.state certificate.old).failed) ((T.state tables.new).failed + (C.state certificate.new).failed) result }
+    ensures asks_tables { AsksUpTo TEXT_LIMIT (T.state tables.old) (T.state tables.new) }
+    ensures asks_certificate { AsksUpTo TEXT_LIMIT (C.state certificate.old) (C.state certificate.new) }
+    ensures order { IfSome (T.state tables.old).remaining (λ rows. OnlyBehind (tables_of rows) (certificate.new ≡ certificate.old)) }
     ensures sink { IfErr result (λ e. e ≢ Failure.Sink) }
 {
     match load(alloc, tables) {
@@ -105,22 +105,22 @@ pub fn run_report<T: Source, C: Source, K: Sink>(
     certificate: &mut C,
     sink: &mut K,
 ) -> Exit
-    requires tables { T.failed tables.old + 1 < 2 ^ 64 }
-    requires certificate { C.failed certificate.old + 1 < 2 ^ 64 }
-    requires sink { K.failed sink.old + 1 < 2 ^ 64 }
-    ensures reports { (rows given : List ℕ) → T.remaining tables.old ≡ Some rows → C.remaining certificate.old ≡ Some given
-        → ReportsPage rows given (K.contents sink.old) (K.contents sink.new)
-        (T.failed tables.old + C.failed certificate.old) (T.failed tables.new + C.failed certificate.new)
-        (K.failed sink.old) (K.failed sink.new) result }
-    ensures reported { Reported Any (K.contents sink.old) (K.contents sink.new)
-        (T.failed tables.old + C.failed certificate.old) (T.failed tables.new + C.failed certificate.new)
-        (K.failed sink.old) (K.failed sink.new) result }
-    ensures asks_tables { AsksUpTo TEXT_LIMIT (T.asked tables.old) (T.asked tables.new) (T.dry tables.old) (T.dry tables.new) }
-    ensures asks_certificate { AsksUpTo TEXT_LIMIT (C.asked certificate.old) (C.asked certificate.new) (C.dry certificate.old) (C.dry certificate.new) }
-    ensures order { IfSome (T.remaining tables.old) (λ rows. OnlyBehind (tables_of rows) (certificate.new ≡ certificate.old)) }
-    ensures left { LeavesSink (K.failed sink.old) (K.failed sink.new) (K.last_failed sink.new) (K.hidden sink.new) }
-    ensures quiet { result ≢ Exit.Failed → T.failed tables.new + C.failed certificate.new + K.failed sink.new
-        ≡ T.failed tables.old + C.failed certificate.old + K.failed sink.old }
+    requires tables { IsCountable (T.state tables.old) }
+    requires certificate { IsCountable (C.state certificate.old) }
+    requires sink { CanFail (K.state sink.old) }
+    ensures reports { (rows given : List ℕ) → (T.state tables.old).remaining ≡ Some rows → (C.state certificate.old).remaining ≡ Some given
+        → ReportsPage rows given (K.state sink.old).contents (K.state sink.new).contents
+        ((T.state tables.old).failed + (C.state certificate.old).failed) ((T.state tables.new).failed + (C.state certificate.new).failed)
+        (K.state sink.old).failed (K.state sink.new).failed result }
+    ensures reported { Reported Any (K.state sink.old).contents (K.state sink.new).contents
+        ((T.state tables.old).failed + (C.state certificate.old).failed) ((T.state tables.new).failed + (C.state certificate.new).failed)
+        (K.state sink.old).failed (K.state sink.new).failed result }
+    ensures asks_tables { AsksUpTo TEXT_LIMIT (T.state tables.old) (T.state tables.new) }
+    ensures asks_certificate { AsksUpTo TEXT_LIMIT (C.state certificate.old) (C.state certificate.new) }
+    ensures order { IfSome (T.state tables.old).remaining (λ rows. OnlyBehind (tables_of rows) (certificate.new ≡ certificate.old)) }
+    ensures left { LeavesSink (K.state sink.old).failed (K.state sink.new).failed (K.state sink.new).last_failed (K.state sink.new).hidden }
+    ensures quiet { result ≢ Exit.Failed → (T.state tables.new).failed + (C.state certificate.new).failed + (K.state sink.new).failed
+        ≡ (T.state tables.old).failed + (C.state certificate.old).failed + (K.state sink.old).failed }
 {
     let mut text = Vec::new(alloc);
     let judged = judge_sources(alloc, tables, certificate, &mut text);

@@ -18,7 +18,6 @@ use Rattle.dc_event.specs.declared.event.Event.{Event}
 use Rattle.dc_event.specs.declared.event.Event.TheVariants.{Tick, Arrive, Route, Send}
 use Rattle.dc_bound.specs.lemmas.FirstPlaces.{snoc_induction}
 use Rattle.dc_event.specs.lemmas.RunPush.{moves-push, ticks_in-moves}
-use Rattle.dc_bound.specs.lemmas.InOrder.{picked_in_order}
 
 pub moves-nil : (t : TableRows) (b : ℕ) → moves t b [] ≡ []
 unfolding moves each_place

@@ -20,9 +20,9 @@ loop-reader-init g c = record {
 
 pub returns-in-Err-clause-answer : goal.returns-in-Err-clause-answer
 returns-in-Err-clause-answer g c =
-    says_ends _ _ _ _ _ _ (g.K.Sink.contents c.ask.new.sink) _ _ _ (Err c.in-Err.failure) c.loop-reader.invariant.said
+    says_ends _ _ _ _ _ _ (g.K.Sink.state c.ask.new.sink).contents _ _ _ (Err c.in-Err.failure) c.loop-reader.invariant.said
     (λ rest at. ask_ends (answer_text c.args.format (c.loop-reader.reader.room + length c.loop-reader.line.items) c.loop-reader.number rest)
-    (g.S.Source.remaining c.loop-reader.source) (g.S.Source.remaining c.ask.new.source) c.ask.new.reader.bytes _ _ _ c.in-Err.failure c.in-Err.ensures.bytes)
+    (g.S.Source.state c.loop-reader.source).remaining (g.S.Source.state c.ask.new.source).remaining c.ask.new.reader.bytes _ _ _ c.in-Err.failure c.in-Err.ensures.bytes)
 
 pub loop-reader-preserved-in-Ok-true : goal.loop-reader-preserved-in-Ok-true
 loop-reader-preserved-in-Ok-true g c =
@@ -44,13 +44,13 @@ returns-in-Ok-false-clause-answer g c =
     let asks = rw c.in-Ok-false.field-0-test at c.in-Ok-false.ensures.bytes in
     let short = rw c.as_slice.ensures.value at c.as_slice.ensures.fits in
     let ends = rw c.as_slice.ensures.value at c.end_inside.ensures.bytes in
-    says_ends _ _ _ _ _ _ (g.K.Sink.contents c.end_inside.new.sink) _ _ _ c.end_inside.result c.loop-reader.invariant.said
+    says_ends _ _ _ _ _ _ (g.K.Sink.state c.end_inside.new.sink).contents _ _ _ c.end_inside.result c.loop-reader.invariant.said
     (cut_ends _ _ _ _ _ _ _ _ _ _ _ _ _ _ c.loop-reader.invariant.plain c.in-None.ensures short asks ends)
 
 pub returns-in-Some-Long-clause-answer : goal.returns-in-Some-Long-clause-answer
 returns-in-Some-Long-clause-answer g c =
     let reads = rw c.in-Some-Long.field-0-is at c.in-Some-Long.ensures in
-    says_ends _ _ _ _ _ _ (g.K.Sink.contents c.end_at.new.sink) _ _ _ c.end_at.result c.loop-reader.invariant.said
+    says_ends _ _ _ _ _ _ (g.K.Sink.state c.end_at.new.sink).contents _ _ _ c.end_at.result c.loop-reader.invariant.said
     (long_ends _ _ _ _ c.read_on.new.self _ _ _ _ _ _ c.loop-reader.invariant.plain reads (rw c.code_of.ensures.text at c.end_at.ensures.bytes))
 
 pub returns-in_default-clause-answer : goal.returns-in_default-clause-answer
@@ -58,7 +58,7 @@ returns-in_default-clause-answer g c =
     let reads = rw c.in-Some-Whole.field-0-is at c.in-Some-Whole.ensures in
     let short = rw c.as_slice-in-Some-Whole.ensures.value at c.as_slice-in-Some-Whole.ensures.fits in
     let none : word_of c.read_on.new.line.items ≡ None = cc (c.as_slice-in-Some-Whole.ensures.value, c.read_word.ensures, c.in_default.is) in
-    says_ends _ _ _ _ _ _ (g.K.Sink.contents c.end_at-in_default.new.sink) _ _ _ c.end_at-in_default.result c.loop-reader.invariant.said
+    says_ends _ _ _ _ _ _ (g.K.Sink.state c.end_at-in_default.new.sink).contents _ _ _ c.end_at-in_default.result c.loop-reader.invariant.said
     (word_ends _ _ _ _ _ _ _ _ _ _ _ c.loop-reader.invariant.plain reads short none (rw c.code_of-in_default.ensures.text at c.end_at-in_default.ensures.bytes))
 
 pub returns-in-Err-write_word-clause-answer : goal.returns-in-Err-write_word-clause-answer
@@ -66,7 +66,7 @@ returns-in-Err-write_word-clause-answer g c =
     let reads = rw c.in-Some-Whole.field-0-is at c.in-Some-Whole.ensures in
     let short = rw c.as_slice-in-Some-Whole.ensures.value at c.as_slice-in-Some-Whole.ensures.fits in
     let some : word_of c.read_on.new.line.items ≡ Some c.in-Some.word = cc (c.as_slice-in-Some-Whole.ensures.value, c.read_word.ensures, c.in-Some.is) in
-    says_ends _ _ _ _ _ _ (g.K.Sink.contents c.write_word.new.sink) _ _ _ (Err c.in-Err-write_word.failure) c.loop-reader.invariant.said
+    says_ends _ _ _ _ _ _ (g.K.Sink.state c.write_word.new.sink).contents _ _ _ (Err c.in-Err-write_word.failure) c.loop-reader.invariant.said
     (write_ends _ _ _ _ _ _ _ _ _ _ _ _ c.loop-reader.invariant.plain reads short some c.in-Err-write_word.ensures.bytes.0 c.in-Err-write_word.ensures.sink)
 
 pub loop-reader-preserved : goal.loop-reader-preserved

@@ -8,13 +8,13 @@ use Rattle.dc_app.proofs.decode.answer.Given as goal
 abbrev pub invariant-loop-reader : goal.invariant-loop-reader
 invariant-loop-reader g l =
     record {
-      said : Says l.format STREAM_LIMIT (g.S.Source.remaining l.fn.source) (prepend_known (l.line.items ++ l.reader.bytes) (g.S.Source.remaining l.source)) (g.K.Sink.contents l.fn.sink) (g.K.Sink.contents l.sink) l.writer (l.reader.room + length l.line.items) l.number;
+      said : Says l.format STREAM_LIMIT (g.S.Source.state l.fn.source).remaining (prepend_known (l.line.items ++ l.reader.bytes) (g.S.Source.state l.source).remaining) (g.K.Sink.state l.fn.sink).contents (g.K.Sink.state l.sink).contents l.writer (l.reader.room + length l.line.items) l.number;
       plain : NoFeed l.line.items;
       within : l.number + (l.reader.room + length l.line.items) ≤ (STREAM_LIMIT + 1);
-      source : g.S.Source.failed l.source ≡ g.S.Source.failed l.fn.source;
-      sink : g.K.Sink.failed l.sink ≡ g.K.Sink.failed l.fn.sink;
-      asks : g.S.Source.asked l.source + (l.reader.room + waits l.reader.bytes) ≤ g.S.Source.asked l.fn.source + (STREAM_LIMIT + 1);
-      dry : g.S.Source.dry l.source ≤ g.S.Source.dry l.fn.source;
+      source : (g.S.Source.state l.source).failed ≡ (g.S.Source.state l.fn.source).failed;
+      sink : (g.K.Sink.state l.sink).failed ≡ (g.K.Sink.state l.fn.sink).failed;
+      asks : (g.S.Source.state l.source).asked + (l.reader.room + waits l.reader.bytes) ≤ (g.S.Source.state l.fn.source).asked + (STREAM_LIMIT + 1);
+      dry : (g.S.Source.state l.source).dry ≤ (g.S.Source.state l.fn.source).dry;
     }
 
 abbrev pub decreases-loop-reader : goal.decreases-loop-reader

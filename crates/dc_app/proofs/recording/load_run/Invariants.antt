@@ -9,11 +9,11 @@ use Rattle.dc_app.proofs.recording.load_run.Given as goal
 abbrev pub invariant-loop-lines : goal.invariant-loop-lines
 invariant-loop-lines g l =
     record {
-      heard : Heard l.tables (g.S.Source.remaining l.fn.trace) (ahead l.lines (g.S.Source.remaining l.trace)) l.run.items;
+      heard : Heard l.tables (g.S.Source.state l.fn.trace).remaining (ahead l.lines (g.S.Source.state l.trace).remaining) l.run.items;
       few : length l.run.items ≤ MOST_EVENTS;
-      source : g.S.Source.failed l.trace ≡ g.S.Source.failed l.fn.trace + failures_at l.lines.stopped;
-      asks : g.S.Source.asked l.trace + pulls_left l.lines.stopped l.lines.room l.lines.held ≤ g.S.Source.asked l.fn.trace + (TRACE_LIMIT + 1);
-      dry : g.S.Source.dry l.trace + dry_left l.lines.stopped ≤ g.S.Source.dry l.fn.trace + 1;
+      source : (g.S.Source.state l.trace).failed ≡ (g.S.Source.state l.fn.trace).failed + failures_at l.lines.stopped;
+      asks : (g.S.Source.state l.trace).asked + pulls_left l.lines.stopped l.lines.room l.lines.held ≤ (g.S.Source.state l.fn.trace).asked + (TRACE_LIMIT + 1);
+      dry : (g.S.Source.state l.trace).dry + dry_left l.lines.stopped ≤ (g.S.Source.state l.fn.trace).dry + 1;
     }
 
 abbrev pub decreases-loop-lines : goal.decreases-loop-lines

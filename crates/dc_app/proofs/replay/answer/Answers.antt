@@ -10,7 +10,7 @@ pub loop-writer-init : goal.loop-writer-init
 loop-writer-init g c =
     let start = c.new-lines.ensures.start in
     record {
-      said = said_first _ _ (g.S.Source.remaining c.args.trace.now) _ _ _ _ c.requires.stands c.requires.new (λ text is. rw is (c.new-lines.ensures.whole text));
+      said = said_first _ _ (g.S.Source.state c.args.trace.now).remaining _ _ _ _ c.requires.stands c.requires.new (λ text is. rw is (c.new-lines.ensures.whole text));
       rows = c.requires.rows;
       early = omega (arith, at_tick_0 c.args.progress.now c.requires.stands);
       within = omega (arith, c.requires.stands.count, ap (λ (r : Reading). r.room) start);
@@ -23,15 +23,15 @@ loop-writer-init g c =
 
 pub returns-in-Err-clause-answer : goal.returns-in-Err-clause-answer
 returns-in-Err-clause-answer g c =
-    flush_ends _ _ _ _ _ _ _ (g.K.Sink.contents c.flush.new.sink) _ c.in-Err.field-0 c.loop-writer.invariant.said c.in-Err.ensures.bytes
+    flush_ends _ _ _ _ _ _ _ (g.K.Sink.state c.flush.new.sink).contents _ c.in-Err.field-0 c.loop-writer.invariant.said c.in-Err.ensures.bytes
 
 pub loop-writer-preserved-in-Ok : goal.loop-writer-preserved-in-Ok
 loop-writer-preserved-in-Ok g c =
     let before = c.loop-writer.invariant in
     let (ran, runs, none, fewer) = c.in-None.ensures.more in
-    let said = said_pulled _ _ _ _ _ _ _ _ _ (g.K.Sink.contents c.pull.new.sink) _ _ before.said (c.in-None.ensures.reported (g.S.Source.remaining c.loop-writer.trace)) c.pull.ensures.kept (rw c.pull.ensures.shows c.in-Ok.ensures.bytes) c.in-Ok.ensures.empty in
-    let source : g.S.Source.failed c.pull.new.source ≡ g.S.Source.failed c.args.trace.now + failures_at c.pull.new.self.stopped = omega (arith, before.source, c.pull.ensures.count, ap failures_at ran) in
-    let dry : g.S.Source.dry c.pull.new.source + dry_left c.pull.new.self.stopped ≤ g.S.Source.dry c.args.trace.now + 1 = omega (arith, before.dry, c.pull.ensures.asks.1, ap dry_left (runs ∙ sym ran)) in
+    let said = said_pulled _ _ _ _ _ _ _ _ _ (g.K.Sink.state c.pull.new.sink).contents _ _ before.said (c.in-None.ensures.reported (g.S.Source.state c.loop-writer.trace).remaining) c.pull.ensures.kept (rw c.pull.ensures.shows c.in-Ok.ensures.bytes) c.in-Ok.ensures.empty in
+    let source : (g.S.Source.state c.pull.new.source).failed ≡ (g.S.Source.state c.args.trace.now).failed + failures_at c.pull.new.self.stopped = omega (arith, before.source, c.pull.ensures.count, ap failures_at ran) in
+    let dry : (g.S.Source.state c.pull.new.source).dry + dry_left c.pull.new.self.stopped ≤ (g.S.Source.state c.args.trace.now).dry + 1 = omega (arith, before.dry, c.pull.ensures.asks.1, ap dry_left (runs ∙ sym ran)) in
     record {
       said = said;
       rows = before.rows;
@@ -46,30 +46,30 @@ loop-writer-preserved-in-Ok g c =
         pulls_needed c.loop-writer.lines.stopped c.advance.new.self.stopped c.loop-writer.lines.held c.advance.new.self.held c.loop-writer.lines.room c.advance.new.self.room ran runs none fewer,
       );
       dry = dry;
-      prompt = pull_shown _ _ _ c.pull.new.self c.pull.new.self.stopped _ _ _ (g.K.Sink.contents c.pull.new.sink) _ _ _ _ _ _ _ _ refl said c.in-Ok.ensures.empty c.pull.ensures.end (rw (← c.pull.ensures.shows) at c.pull.ensures.answered) dry source;
+      prompt = pull_shown _ _ _ c.pull.new.self c.pull.new.self.stopped _ _ _ (g.K.Sink.state c.pull.new.sink).contents _ _ _ _ _ _ _ _ refl said c.in-Ok.ensures.empty c.pull.ensures.end (rw (← c.pull.ensures.shows) at c.pull.ensures.answered) dry source;
     }
 
 pub returns-in-Some-Err-clause-answer : goal.returns-in-Some-Err-clause-answer
 returns-in-Some-Err-clause-answer g c =
-    let reported = rw c.in-Some-Err.field-0-is at (c.in-Some-Err.ensures.reported (g.S.Source.remaining c.loop-writer.trace)) in
+    let reported = rw c.in-Some-Err.field-0-is at (c.in-Some-Err.ensures.reported (g.S.Source.state c.loop-writer.trace).remaining) in
     stop_ends _ _ _ _ _ _ _ _ _ _ c.in-Some-Err.stop c.end_by.result c.loop-writer.invariant.said reported c.end_by.ensures.stops c.end_by.ensures.bytes
 
 pub returns-in-Err-step-clause-answer : goal.returns-in-Err-step-clause-answer
 returns-in-Err-step-clause-answer g c =
-    let reported = rw c.in-Some-Ok.field-0-is at (c.in-Some-Ok.ensures.reported (g.S.Source.remaining c.loop-writer.trace)) in
+    let reported = rw c.in-Some-Ok.field-0-is at (c.in-Some-Ok.ensures.reported (g.S.Source.state c.loop-writer.trace).remaining) in
     refused_ends _ _ _ _ _ _ _ c.step.new.self _ _ _ _ c.in-Some-Ok.event c.in-Err-step.refusal c.end_refused.result
     c.loop-writer.invariant.rows c.loop-writer.invariant.said reported c.in-Err-step.ensures.step c.end_refused.ensures.bytes
 
 pub returns-in-Err-say-clause-answer : goal.returns-in-Err-say-clause-answer
 returns-in-Err-say-clause-answer g c =
-    let reported = rw c.in-Some-Ok.field-0-is at (c.in-Some-Ok.ensures.reported (g.S.Source.remaining c.loop-writer.trace)) in
+    let reported = rw c.in-Some-Ok.field-0-is at (c.in-Some-Ok.ensures.reported (g.S.Source.state c.loop-writer.trace).remaining) in
     say_ends _ _ _ _ _ _ _ c.step.new.self _ _ _ _ c.say.new.writer c.in-Some-Ok.event c.in-Ok-step.step c.in-Err-say.failure
     c.loop-writer.invariant.rows c.loop-writer.invariant.said reported c.in-Ok-step.ensures.step c.in-Err-say.ensures.bytes.0 c.in-Err-say.ensures.sink
 
 pub loop-writer-preserved : goal.loop-writer-preserved
 loop-writer-preserved g c =
     let before = c.loop-writer.invariant in
-    let reported = rw c.in-Some-Ok.field-0-is at (c.in-Some-Ok.ensures.reported (g.S.Source.remaining c.loop-writer.trace)) in
+    let reported = rw c.in-Some-Ok.field-0-is at (c.in-Some-Ok.ensures.reported (g.S.Source.state c.loop-writer.trace).remaining) in
     let runs = rw c.in-Some-Ok.field-0-is at c.in-Some-Ok.ensures.more in
     let shorter = rw c.in-Some-Ok.field-0-is at c.in-Some-Ok.ensures.shorter in
     let ran = not_stopped _ _ c.in-Some-Ok.event _ _ c.in-Some-Ok.field-0-is c.in-Some-Ok.ensures.again in

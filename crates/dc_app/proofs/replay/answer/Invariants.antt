@@ -9,16 +9,16 @@ use Rattle.dc_app.proofs.replay.answer.Given as goal
 abbrev pub invariant-loop-writer : goal.invariant-loop-writer
 invariant-loop-writer g l =
     record {
-      said : Said l.tables l.all (g.S.Source.remaining l.fn.trace) (ahead l.lines (g.S.Source.remaining l.trace)) l.progress (g.K.Sink.contents l.fn.sink) (g.K.Sink.contents l.sink) l.writer;
+      said : Said l.tables l.all (g.S.Source.state l.fn.trace).remaining (ahead l.lines (g.S.Source.state l.trace).remaining) l.progress (g.K.Sink.state l.fn.sink).contents (g.K.Sink.state l.sink).contents l.writer;
       rows : rows_of l.progress.core ≡ l.tables;
       early : l.progress.tick ≤ 2 ^ 40;
       within : l.progress.number + l.lines.room ≤ (TRACE_LIMIT + 1);
-      source : g.S.Source.failed l.trace ≡ g.S.Source.failed l.fn.trace + failures_at l.lines.stopped;
-      sink : g.K.Sink.failed l.sink ≡ g.K.Sink.failed l.fn.sink;
-      asks : g.S.Source.asked l.trace + pulls_left l.lines.stopped l.lines.room l.lines.held ≤ g.S.Source.asked l.fn.trace + (TRACE_LIMIT + 1);
-      dry : g.S.Source.dry l.trace + dry_left l.lines.stopped ≤ g.S.Source.dry l.fn.trace + 1;
-      prompt : g.S.Source.dry l.fn.trace < g.S.Source.dry l.trace → g.S.Source.failed l.trace ≡ g.S.Source.failed l.fn.trace
-          → IfSome (g.S.Source.remaining l.fn.trace) (λ text. ShowsTrace l.tables l.all text (g.K.Sink.contents l.fn.sink) (g.K.Sink.answered l.sink));
+      source : (g.S.Source.state l.trace).failed ≡ (g.S.Source.state l.fn.trace).failed + failures_at l.lines.stopped;
+      sink : (g.K.Sink.state l.sink).failed ≡ (g.K.Sink.state l.fn.sink).failed;
+      asks : (g.S.Source.state l.trace).asked + pulls_left l.lines.stopped l.lines.room l.lines.held ≤ (g.S.Source.state l.fn.trace).asked + (TRACE_LIMIT + 1);
+      dry : (g.S.Source.state l.trace).dry + dry_left l.lines.stopped ≤ (g.S.Source.state l.fn.trace).dry + 1;
+      prompt : (g.S.Source.state l.fn.trace).dry < (g.S.Source.state l.trace).dry → (g.S.Source.state l.trace).failed ≡ (g.S.Source.state l.fn.trace).failed
+          → IfSome (g.S.Source.state l.fn.trace).remaining (λ text. ShowsTrace l.tables l.all text (g.K.Sink.state l.fn.sink).contents (g.K.Sink.state l.sink).answered);
     }
 
 abbrev pub decreases-loop-writer : goal.decreases-loop-writer

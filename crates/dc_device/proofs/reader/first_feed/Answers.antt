@@ -1,4 +1,4 @@
-use Rattle.std.proofs.Common.{◌≡◌, ◌∙◌, arith, length, min, subst, sym, take}
+use Rattle.std.proofs.Common.{◌≡◌, arith, length, min, subst, take}
 use Rattle.dc_device.specs.Lines.{NoFeed}
 use Rattle.dc_device.specs.lemmas.LineLemmas.{NoFeed-first, NoFeed-take}
 use Rattle.dc_device.proofs.reader.first_feed.Goals as goal
