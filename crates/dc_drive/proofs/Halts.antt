@@ -1,7 +1,7 @@
 -- What faults tell, from thread to drive.
 use Rattle.std.proofs.Common.{◌≡◌, ◌⊎◌, ⊎_elim, ℕ, Option, IfErr, Result, Ok, Err, sym, subst, arith}
 use Rattle.dc_check.specs.declared.certified.Certified.{Certified}
-use Rattle.dc_drive.specs.Refusals.{HaltsAs, IsRefused, MayStickAt}
+use Rattle.dc_drive.specs.Refusals.{HaltsAs, IsRefused}
 use Rattle.dc_drive.specs.declared.fault.DriveFault.{DriveFault}
 use Rattle.dc_drive.specs.declared.fault.DriveFault.TheVariants.{Spawn, Memory, GateStuck, Hub}
 use Rattle.dc_event.specs.declared.event.Event.{Event}

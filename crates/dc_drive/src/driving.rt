@@ -195,14 +195,13 @@ fn play<L: Charter + Send + Sync, R: Threads + Wait + Sync, G: Gate>(
         clock,
         end: Ok(()),
     };
-    let meter = Meter::new();
     let actors = cast.wires.len() + cast.routers.len() + cast.outputs.len();
+    let meter = Meter::new(actors as u64);
     let stage = Stage {
         tables,
         script,
         gate,
         meter: &meter,
-        actors: actors as u64,
     };
     let Cast {
         wires,

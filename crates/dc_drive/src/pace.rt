@@ -1,5 +1,7 @@
 //! The pace of a drive: who has done its steps of the tick, and which tick it is.
 
+ghost use Rattle.std.specs.Prelude.{◌≡◌, ◌≤◌, IfSome};
+
 use std::sync::{Condvar, Mutex, Wait};
 
 /// The tick that runs, how many actors have done their steps of it, and whether the drive stops.
@@ -13,24 +15,35 @@ struct Pace {
 /// What the threads of a drive wait with: the actors for the next tick, the clock for all actors.
 #[derive(Drop)]
 pub(crate) struct Meter {
+    actors: u64,
     pace: Mutex<Pace>,
     next: Condvar,
     all_done: Condvar,
 }
 
 impl Meter {
-    /// The first tick runs, and nobody has done its steps.
-    pub fn new() -> Meter {
+    /// Of so many actors beside the clock. The first tick runs, and nobody has done its steps.
+    pub fn new(actors: u64) -> Meter
+        ensures { result.actors ≡ actors }
+    {
         let pace = Pace {
             tick: 0,
             done: 0,
             stop: false,
         };
         Meter {
+            actors,
             pace: Mutex::new(pace),
             next: Condvar::new(),
             all_done: Condvar::new(),
         }
+    }
+
+    /// How many actors there are beside the clock.
+    pub fn actors(&self) -> u64
+        ensures { result ≡ self.now.actors }
+    {
+        self.actors
     }
 
     /// Whether the drive stops.
@@ -46,11 +59,11 @@ impl Meter {
         self.all_done.notify_all();
     }
 
-    /// One of so many actors has done its steps of the tick, and waits for the next one. False where the drive stops.
-    pub fn end_tick<R: Wait>(&self, rt: &R, tick: u64, actors: u64) -> bool {
+    /// An actor has done its steps of the tick, and waits for the next one. False where the drive stops.
+    pub fn end_tick<R: Wait>(&self, rt: &R, tick: u64) -> bool {
         let mut pace = self.pace.lock(rt);
         pace.done = pace.done.wrapping_add(1);
-        if pace.done == actors {
+        if pace.done == self.actors {
             self.all_done.notify_all();
         }
         let pace = self
@@ -59,20 +72,28 @@ impl Meter {
         !pace.stop
     }
 
-    /// The clock waits until so many actors have done their steps. False where the drive stops.
-    pub fn wait_for_all<R: Wait>(&self, rt: &R, actors: u64) -> bool {
+    /// The clock waits until all actors have done their steps, and says how many have. None where the drive stops.
+    pub fn wait_for_all<R: Wait>(&self, rt: &R) -> Option<u64>
+        ensures { IfSome result (λ done. self.now.actors ≤ done) }
+    {
+        let actors = self.actors;
         let pace = self.pace.lock(rt);
         let pace = self
             .all_done
             .wait_while(rt, pace, |p| p.done < actors && !p.stop);
-        !pace.stop
+        if pace.stop {
+            return None;
+        }
+        Some(pace.done)
     }
 
-    /// The next tick begins.
-    pub fn next_tick<R: Wait>(&self, rt: &R) {
+    /// The next tick begins, once so many have done their steps: all.
+    pub fn next_tick<R: Wait>(&self, rt: &R, done: u64)
+        requires { self.now.actors ≤ done }
+    {
         let mut pace = self.pace.lock(rt);
         pace.tick = pace.tick.wrapping_add(1);
-        pace.done = 0;
+        pace.done = pace.done.saturating_sub(done);
         self.next.notify_all();
     }
 }

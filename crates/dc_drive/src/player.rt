@@ -17,15 +17,13 @@ use dc_script::{Script, Timed};
 use dc_tables::Tables;
 use std::sync::Wait;
 
-/// What all threads of a drive are lent: the tables, the script, the gate, the pace, and how many actors there are
-/// beside the clock.
+/// What all threads of a drive are lent: the tables, the script, the gate and the pace.
 #[derive(Drop)]
 pub(crate) struct Stage<'s, G> {
     pub tables: &'s Tables,
     pub script: &'s Script,
     pub gate: &'s G,
     pub meter: &'s Meter,
-    pub actors: u64,
 }
 
 /// What a call of the hub was answered, without its receipt, which its seat keeps.

@@ -58,7 +58,7 @@ fn run<L: Charter, S: Player<L> + Drop, R: Wait, G: Gate>(
             stage.meter.stop(rt);
             return Done { seat, end: played };
         }
-        if !stage.meter.end_tick(rt, tick, stage.actors) {
+        if !stage.meter.end_tick(rt, tick) {
             break;
         }
     }
@@ -85,10 +85,10 @@ fn run_clock<L: Charter, R: Wait, G: Gate>(
         };
     }
     for _ in 0..stage.script.ticks() {
-        if !stage.meter.wait_for_all(rt, stage.actors) {
+        let Some(done) = stage.meter.wait_for_all(rt) else {
             break;
-        }
-        let ticked = tick(rt, hub, stage.gate, stage.actors, &mut clock);
+        };
+        let ticked = tick(rt, hub, stage.gate, stage.meter.actors(), &mut clock);
         if ticked.is_err() {
             stage.meter.stop(rt);
             return Done {
@@ -96,7 +96,7 @@ fn run_clock<L: Charter, R: Wait, G: Gate>(
                 end: ticked,
             };
         }
-        stage.meter.next_tick(rt);
+        stage.meter.next_tick(rt, done);
     }
     Done {
         seat: clock,
@@ -254,6 +254,7 @@ fn run_all<'s, E, L: Charter + Send + Sync + 's, R: Threads + Wait + Sync, G: Ga
     requires room_wires { (vec_len rooms.wires ≡ 0) × (vec_len cast.wires ≤ vec_capacity rooms.wires) }
     requires room_routers { (vec_len rooms.routers ≡ 0) × (vec_len cast.routers ≤ vec_capacity rooms.routers) }
     requires room_outputs { (vec_len rooms.outputs ≡ 0) × (vec_len cast.outputs ≤ vec_capacity rooms.outputs) }
+    requires actors { stage.now.meter.now.actors ≡ vec_len cast.wires + vec_len cast.routers + vec_len cast.outputs }
     ensures wires { AreSame seat_of_wire cast.wires.items result.wires.items }
     ensures routers { AreSame itself cast.routers.items result.routers.items }
     ensures outputs { AreSame itself cast.outputs.items result.outputs.items }
@@ -330,6 +331,7 @@ pub(crate) fn in_threads<L: Charter + Send + Sync, R: Threads + Wait + Sync, G: 
     requires room_wires { (vec_len rooms.wires ≡ 0) × (vec_len cast.wires ≤ vec_capacity rooms.wires) }
     requires room_routers { (vec_len rooms.routers ≡ 0) × (vec_len cast.routers ≤ vec_capacity rooms.routers) }
     requires room_outputs { (vec_len rooms.outputs ≡ 0) × (vec_len cast.outputs ≤ vec_capacity rooms.outputs) }
+    requires actors { stage.now.meter.now.actors ≡ vec_len cast.wires + vec_len cast.routers + vec_len cast.outputs }
     ensures wires { AreSame seat_of_wire cast.wires.items result.wires.items }
     ensures routers { AreSame itself cast.routers.items result.routers.items }
     ensures outputs { AreSame itself cast.outputs.items result.outputs.items }
@@ -345,6 +347,7 @@ pub(crate) fn in_threads<L: Charter + Send + Sync, R: Threads + Wait + Sync, G: 
             requires room_wires { (vec_len rooms.wires ≡ 0) × (vec_len cast.wires ≤ vec_capacity rooms.wires) }
             requires room_routers { (vec_len rooms.routers ≡ 0) × (vec_len cast.routers ≤ vec_capacity rooms.routers) }
             requires room_outputs { (vec_len rooms.outputs ≡ 0) × (vec_len cast.outputs ≤ vec_capacity rooms.outputs) }
+            requires actors { stage.now.meter.now.actors ≡ vec_len cast.wires + vec_len cast.routers + vec_len cast.outputs }
             ensures wires { AreSame seat_of_wire cast.wires.items result.wires.items }
             ensures routers { AreSame itself cast.routers.items result.routers.items }
             ensures outputs { AreSame itself cast.outputs.items result.outputs.items }
