@@ -13,7 +13,7 @@ import re
 import sys
 
 TOP = os.path.dirname(os.path.dirname(os.path.abspath(__file__)))
-MOST, MOST_OF = 8, {"dc_core": 12, "dc_check": 12}
+MOST = 8
 NAME = re.compile(r"[A-Za-z0-9_-][A-Za-z0-9_.-]*\.edit")
 
 
@@ -66,9 +66,8 @@ def main(wanted):
         folder = f"{TOP}/crates/{crate}"
         places = {f"crates/{crate}/must-fail": f"{folder}/must-fail", f"edits/{crate}": f"{TOP}/edits/{crate}"}
         gate, outside = (names_in(it) for it in places.values())
-        most = MOST_OF.get(crate, MOST)
-        if len(gate) > most:
-            reported.append(f"crates/{crate}/must-fail: {len(gate)} edits, and the gate is to try at most {most}")
+        if len(gate) > MOST:
+            reported.append(f"crates/{crate}/must-fail: {len(gate)} edits, and the gate is to try at most {MOST}")
         reported += [f"edits/{crate}/{it}: it stands in must-fail/ too" for it in outside if it in gate]
         for place, where in places.items():
             for name in names_in(where):
