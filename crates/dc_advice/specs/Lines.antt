@@ -21,22 +21,25 @@ part_text Inputs = codes "input  "
 part_text Outputs = codes "output "
 part_text Labels = codes "label  "
 
--- blanks after a name up to sixteen places; before a number up to seven
+-- a name, with blanks after it up to sixteen places
 abbrev pub name_field : List ℕ → List ℕ
 name_field name = name ++ drop (length name) (codes "                ")
 
+-- a number, with blanks before it up to seven places
 abbrev pub number_field : List ℕ → List ℕ
 number_field number = drop (length number) (codes "       ") ++ number
 
--- the number of a margin: `-` where it is not told, `none` where no delay up to the longest passes
+-- how far a condition is from failing: `none` where no delay up to the longest passes
 abbrev pub room_text : Option ℤ → List ℕ
 room_text None = codes "none"
 room_text (Some slack) = signed_decimal slack
 
+-- the number of a margin; `-` where the margin is not told
 abbrev pub slack_text : Option Margin → List ℕ
 slack_text None = codes "-"
 slack_text (Some margin) = room_text margin.slack
 
+-- what a margin counts: words or ticks
 abbrev pub measure_text : Measure → List ℕ
 measure_text Words = codes "words"
 measure_text Ticks = codes "ticks"
@@ -48,6 +51,7 @@ decider_text t (Window w) = codes "window=" ++ decimal w
 decider_text t (Gap g) = codes "gap=" ++ decimal g
 decider_text t (Source s) = codes "source=" ++ name_at t.names.streams s
 
+-- what decides a margin; `-` where the margin is not told
 abbrev pub by_text : TableRows → Option Margin → List ℕ
 by_text t None = codes "-"
 by_text t (Some margin) = decider_text t margin.decider

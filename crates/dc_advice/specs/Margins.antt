@@ -33,11 +33,12 @@ abbrev pub fed : List (List ℕ) → List ℕ
 fed [] = []
 fed (line ∷ lines) = 10 ∷ line ++ fed lines
 
--- the verdict, as `check` prints it, and how it ends
+-- the verdict, as `check` prints it
 abbrev pub verdict_line : TableRows → Option CheckFault → List ℕ
 verdict_line t None = accepted_text t
 verdict_line t (Some fault) = refused_text t fault
 
+-- what `margins` ends with: done where the certificate is accepted, else refused
 abbrev pub verdict_outcome : Option CheckFault → Outcome
 verdict_outcome None = Done
 verdict_outcome (Some fault) = WasRefused

@@ -29,6 +29,7 @@ one_line line outcome = record { lines = line ∷ []; outcome = outcome }
 abbrev pub fault_text : List ℕ → ℕ → List ℕ
 fault_text code number = codes "unreadable " ++ code ++ codes " at line " ++ decimal number
 
+-- the answer to a text with this fault in this line: one line, and unreadable
 abbrev pub fault : List ℕ → ℕ → Answer
 fault code number = one_line (fault_text code number) Unreadable
 

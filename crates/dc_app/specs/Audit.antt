@@ -60,6 +60,7 @@ abbrev pub claims_text : Option (Claim × ℕ) → List ℕ
 claims_text None = codes "claims hold"
 claims_text (Some failure) = codes "claim " ++ decimal (claim_number failure.0) ++ codes " fails at " ++ decimal failure.1
 
+-- the three lines of an audit: budgets, sources, claims
 abbrev pub findings_lines : Findings → List (List ℕ)
 findings_lines f = holds_text (codes "budgets") f.budgets ∷ holds_text (codes "sources") f.sources ∷ claims_text f.claims ∷ []
 
@@ -67,6 +68,7 @@ findings_lines f = holds_text (codes "budgets") f.budgets ∷ holds_text (codes 
 abbrev pub all_hold : Findings → Bool
 all_hold f = is_none f.budgets && is_none f.sources && is_none f.claims
 
+-- the answer of an audit: its lines, and done where nothing fails, else refused
 abbrev pub answer_findings : Findings → Answer
 answer_findings f = record { lines = findings_lines f; outcome = if all_hold f then Done else WasRefused }
 

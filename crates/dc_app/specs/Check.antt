@@ -77,6 +77,7 @@ Judges t reading line (Err Source) = Unit {0}
 Judges t reading line (Err Memory) = Unit {0}
 Judges t reading line (Err Sink) = ⊥
 
+-- the same for the texts of tables and of a certificate, whatever they say
 abbrev pub JudgesTexts : List ℕ → List ℕ → List ℕ → Result Outcome Failure → Type 0
 JudgesTexts tables certificate line (Ok outcome) = AnswersCheck tables certificate (one_line line outcome) × (outcome ≡ WasDone → AreCertified tables certificate)
 JudgesTexts tables certificate line (Err Source) = Unit {0}

@@ -36,6 +36,7 @@ answer_lines format room number (l ∷ ls) rest =
     if too_long room (length l) (length l + 1) then fault (line_rule_code LineTooLong) number
     else answer_word format number (word_of l) (answer_lines format (room - (length l + 1)) (number + 1) ls rest)
 
+-- the answer to a text whose first line has this number, and which may have so many bytes
 abbrev pub answer_text : Format → ℕ → ℕ → List ℕ → Answer
 answer_text format room number text = answer_lines format room number (lines_of text).0 (lines_of text).1
 

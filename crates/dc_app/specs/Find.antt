@@ -65,6 +65,7 @@ pub record AnswersObstacle (t : TableRows) (answer : Answer) : Type 0 where
   pub first : IsFirstInTheWay t fault
   pub said : answer ≡ one_line (obstacle_text t fault) WasRefused
 
+-- the answer for tables: the least certificate, or what stands first in the way of one
 abbrev pub AnswersRows : TableRows → Answer → Type 0
 AnswersRows t answer = AnswersLeast t answer ⊎ AnswersObstacle t answer
 

@@ -37,6 +37,7 @@ StopsBy stop (Err Source) = stop ≡ Broken
 StopsBy stop (Err Sink) = Unit {0}
 StopsBy stop (Err Memory) = ⊥
 
+-- the name of a router or an output; nothing of a wire or of the clock
 abbrev pub actor_name : TableRows → Actor → List ℕ
 actor_name t (Wire b) = []
 actor_name t (Router r) = name_at t.names.routers r
@@ -58,5 +59,6 @@ cause_text t f e = step_fault_code f ++ culprit_text t f e
 unfoldable pub refused_text : TableRows → Event → StepFault → ℕ → List ℕ
 refused_text t e f number = codes "refused " ++ cause_text t f e ++ codes " at line " ++ decimal number
 
+-- the answer to the event of this line that is refused: its line alone, and refused
 abbrev pub refused : TableRows → Event → StepFault → ℕ → Answer
 refused t e f number = one_line (refused_text t e f number) Refused

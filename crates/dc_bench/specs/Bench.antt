@@ -33,9 +33,11 @@ use Rattle.dc_bench.specs.declared.driven.Seen.{Seen}
 abbrev pub count_text : List ℕ → ℕ → List ℕ
 count_text subject count = subject ++ decimal count
 
+-- the four lines of a bench: its ticks, entries and overruns, and the claims
 abbrev pub seen_lines : Seen → List (List ℕ)
 seen_lines s = count_text (codes "ticks ") s.ticks ∷ count_text (codes "entries ") s.entries ∷ count_text (codes "overruns ") s.overruns ∷ claims_text s.claims ∷ []
 
+-- the answer of a bench: its lines, and done where the claims hold, else refused
 abbrev pub answer_seen : Seen → Answer
 answer_seen s = record { lines = seen_lines s; outcome = if is_none s.claims then Done else Refused }
 

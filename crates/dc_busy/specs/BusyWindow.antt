@@ -8,7 +8,7 @@ use Rattle.dc_bound.specs.Moves.{Move, ticks_in, visit_ticks, entries, ins, pass
 abbrev pub Serves : (ℕ → ℕ) → List Move → Type 0
 Serves s ms = (u d : ℕ) → d ≤ LONGEST_SPAN → u + d ≤ ticks_in ms → s d ≤ count_in u d (visit_ticks ms)
 
--- the window closes: as many visits in its ticks but the first as entries in all of them
+-- the window closes: at least as many visits in its ticks but the first as entries in all of them
 abbrev pub Closes : (a s : ℕ → ℕ) → ℕ → Type 0
 Closes a s window = a window ≤ s (window - 1)
 

@@ -7,6 +7,7 @@ use Rattle.dc_cert.specs.NamedRows.{NamedInput, NamedOutput, NamedLabel, NamedRo
 
 -- a row, with its keys in the order of their bytes
 
+-- the row of a bus: its backlog in words, its delay and window in ticks
 abbrev pub input_data : NamedInput → Data
 input_data claim = object
     (member (codes "backlog") (number (unsigned claim.backlog))
@@ -14,12 +15,14 @@ input_data claim = object
     (member (codes "delay") (number (unsigned claim.delay))
     (member (codes "window") (number (unsigned claim.window)) no_members))))
 
+-- the row of an output: its delay and window in ticks
 abbrev pub output_data : NamedOutput → Data
 output_data claim = object
     (member (codes "delay") (number (unsigned claim.delay))
     (member (codes "output") (string claim.output)
     (member (codes "window") (number (unsigned claim.window)) no_members)))
 
+-- the row of a label: its age in ticks
 abbrev pub label_data : NamedLabel → Data
 label_data claim = object
     (member (codes "age") (number (unsigned claim.age))

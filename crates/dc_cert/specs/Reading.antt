@@ -153,11 +153,12 @@ rows_of row n (item d ds) = row n d >>= (λ x. rows_of row (n + 1) ds >>= (λ xs
 abbrev pub top_keys : List (List ℕ)
 top_keys = codes "version" ∷ codes "inputs" ∷ codes "outputs" ∷ codes "labels" ∷ []
 
--- the number 1 at `version`, else K2
+-- whether a number is there, and is 1
 abbrev pub is_one : Option ℕ → Bool
 is_one None = false
 is_one (Some n) = n == 1
 
+-- the number 1 at `version`, else K2
 abbrev pub version_of : Members → Reading (Unit {0})
 version_of ms = wanted (is_one (option_and_then as_u64 (option_and_then as_number (get_member (codes "version") ms)))) VersionUnknown Top
 

@@ -40,10 +40,11 @@ pub record AcceptsOutput (t : TableRows) (o : ℕ) (c : OutputBound) : Type 0 wh
   pub window : WindowCloses (output_cap t o) (output_floor t o) c.window
   pub delay : DelayHolds (output_cap t o) (output_floor t o) c.window c.delay
 
--- the delay of the label's output; of the bus of one of its sources
+-- the delay of the label's output, in ticks, as the certificate says it
 abbrev pub label_delay : TableRows → CertificateRows → ℕ → ℕ
 label_delay t c x = (output_bound c (label_row t x).output).delay
 
+-- the delay of the bus on which a source comes, in ticks, as the certificate says it
 abbrev pub source_delay : TableRows → CertificateRows → ℕ → ℕ
 source_delay t c s = (input_bound c (stream_row t s).bus).delay
 

@@ -28,13 +28,15 @@ small_names = record {
 abbrev pub small_stream : ℕ → Stream
 small_stream label = record { bus = 0; label = label; sdi = None; format = Bnr; minimum = 10; maximum = 20; jitter = 0 }
 
--- router R, which visits bus A; output O, which sends label x every 15 ticks; label x, with the first stream as its source
+-- router R, which visits bus A in every tick
 abbrev pub small_router : Router
 small_router = record { steps = 1; within = 1; most = 2; visits = 0 ∷ [] }
 
+-- output O, which sends label x every 15 ticks
 abbrev pub small_output : Output
 small_output = record { steps = 1; within = 2; gap = 1; frame = 15; entries = record { offset = 0; label = 0 } ∷ [] }
 
+-- label x of output O, with the first stream as its source
 abbrev pub small_label : OutputLabel
 small_label = record { output = 0; label = 131; sdi = 0; format = Bnr; sources = 0 ∷ []; stale = 22; age_limit = 30; minimum = 11; maximum = 19 }
 

@@ -47,7 +47,7 @@ is_window window = nat_le 1 window && nat_le window LONGEST_WINDOW
 abbrev pub is_delay : ℕ → Bool
 is_delay delay = nat_le delay LONGEST_WINDOW
 
--- as many are taken in the window's ticks but the first as come in all of them
+-- whether at least as many are taken in the window's ticks but the first as come in all of them
 abbrev pub is_closing : (cap floor : ℕ → ℕ) → ℕ → Bool
 is_closing cap floor window = nat_le (cap window) (floor (window - 1))
 
@@ -97,13 +97,15 @@ range_rules part index window delay =
     ∷ unless (is_delay delay) (fault_at part index DelayOutOfRange 0)
     ∷ []
 
--- the first window that fails for an input's backlog; for its delay; for an output's delay
+-- the first number of ticks up to the window at which a bus's backlog is too small, if there is one
 abbrev pub input_backlog_failure : TableRows → ℕ → InputBound → Option ℕ
 input_backlog_failure t b c = backlog_failure (bus_cap t b) (bus_floor t b) c.window c.backlog
 
+-- the first number of ticks up to the window at which a bus's delay is too short, if there is one
 abbrev pub input_delay_failure : TableRows → ℕ → InputBound → Option ℕ
 input_delay_failure t b c = delay_failure (bus_cap t b) (bus_floor t b) c.window c.delay
 
+-- the first number of ticks up to the window at which an output's delay is too short, if there is one
 abbrev pub output_delay_failure : TableRows → ℕ → OutputBound → Option ℕ
 output_delay_failure t o c = delay_failure (output_cap t o) (output_floor t o) c.window c.delay
 
@@ -161,10 +163,11 @@ job_rules t c job =
 unfoldable pub job_verdict : TableRows → CertificateRows → ℕ → Option CheckFault
 job_verdict t c job = option_or (job_ranges t c job) (job_rules t c job)
 
--- the windows that a job's rules name: for its backlog, where it is an input; for its delay, where it is no label
+-- the window that the refusal of a job's backlog names; only an input has one
 abbrev pub job_backlog_failure : TableRows → CertificateRows → ℕ → Option ℕ
 job_backlog_failure t c job = if nat_lt job (length t.buses) then input_backlog_failure t job (input_bound c job) else None
 
+-- the window that the refusal of a job's delay names; only an input or an output has one
 abbrev pub job_delay_failure : TableRows → CertificateRows → ℕ → Option ℕ
 job_delay_failure t c job =
     let inputs = length t.buses in

@@ -6,10 +6,11 @@ use Rattle.atomic_table.specs.Table.{State, Me, Step}
 use Rattle.dc_checkpar.specs.declared.view.View.{View}
 use Rattle.dc_checkpar.specs.declared.limits.TheConstants.{MOST_WORKERS}
 
--- the first drawer, which alone splits; and one that was split from it
+-- the first drawer of so many jobs, which alone splits off others; it has drawn none yet
 abbrev pub leader : ℕ → View
 leader jobs = record { jobs = jobs; leads = true; splits = 0; drawn = [] }
 
+-- a drawer that was split off the first; it has drawn none yet
 abbrev pub follower : ℕ → View
 follower jobs = record { jobs = jobs; leads = false; splits = 0; drawn = [] }
 
@@ -36,6 +37,7 @@ abbrev pub total : (View → ℕ) → List View → ℕ
 total f [] = 0
 total f (v ∷ vs) = f v + total f vs
 
+-- how often a job is drawn in all when so many have been drawn: once if its number is below, else not
 abbrev pub once_below : ℕ → ℕ → ℕ
 once_below x n = if nat_lt x n then 1 else 0
 

@@ -16,6 +16,7 @@ IsOfVerdict t claims fault.Spawn = Unit {0}
 IsOfVerdict t claims fault.Memory = Unit {0}
 IsOfVerdict t claims fault.GateStuck = Unit {0}
 
+-- why the workers halted before all jobs were judged, as a fault of the check
 abbrev pub halt_fault : Halt → ParFault
 halt_fault halt.Memory = fault.Memory
 halt_fault halt.Spawn = fault.Spawn

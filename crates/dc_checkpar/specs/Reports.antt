@@ -15,6 +15,7 @@ AreJudged verdict judged = All (λ j. j.fault ≡ verdict j.job) judged
 abbrev pub MayStick : ℕ → (ℕ → Type 0) → Type 0
 MayStick count may_stick = (job : ℕ) × (job < count) × may_stick job
 
+-- what a worker reports of so many jobs: the verdicts of those that it judged; where it ended at a stuck gate, some job may stick it
 pub record IsReport (count : ℕ) (verdict : ℕ → Option CheckFault) (may_stick : ℕ → Type 0) (r : Report) : Type 0 where
   pub judged : AreJudged verdict r.judged.items
   pub stuck : r.end ≡ Err GateStuck → MayStick count may_stick

@@ -37,6 +37,7 @@ abbrev pub TicksAre : Option (List ℕ) → ℕ → Type 0
 TicksAre None ticks = ticks ≡ USUAL_TICKS
 TicksAre (Some text) ticks = IsTickCount text ticks
 
+-- a format, as it is written after `decode`
 abbrev pub format_name : Format → List ℕ
 format_name Bnr = codes "bnr"
 format_name Bcd = codes "bcd"

@@ -37,25 +37,31 @@ ticks_rule = record (new_rule (codes "ticks")) {
 abbrev pub all_rule : Rule
 all_rule = record (new_rule (codes "all")) { long = Some (codes "all"); action = Some SetTrue }
 
+-- a command that reads tables
 abbrev pub tables_app : Text → App
 tables_app name = with_rule (new_app name) (file_rule (codes "TABLES"))
 
+-- a command that reads tables and a certificate
 abbrev pub certificate_app : Text → App
 certificate_app name = with_rule (tables_app name) (file_rule (codes "CERT"))
 
+-- `decode`, with the parser of its format
 abbrev pub decode_app : ValueParser → App
 decode_app formats = with_rule (new_app (codes "decode")) (format_rule formats)
 
+-- `check`, which may be told how many workers
 abbrev pub check_app : App
 check_app = with_rule (certificate_app (codes "check")) workers_rule
 
+-- `bench`, which may be told how many ticks
 abbrev pub bench_app : App
 bench_app = with_rule (certificate_app (codes "bench")) ticks_rule
 
--- a certificate that may be given
+-- a command that reads tables, and a certificate where one is given
 abbrev pub optional_app : Text → App
 optional_app name = with_rule (tables_app name) (new_rule (codes "CERT"))
 
+-- `replay`, which reads tables and may print all replies
 abbrev pub replay_app : App
 replay_app = with_rule (tables_app (codes "replay")) all_rule
 
@@ -74,9 +80,10 @@ program_app formats =
 abbrev pub IsRead : App → Command → Type 0
 IsRead app c = (app_of c ≡ app) × ((out-Command c).has_globals ≡ false)
 
--- the same, whatever parser has the formats
+-- clap reads the command as `decode`, whatever parser has the formats
 abbrev pub IsDecode : Command → Type 0
 IsDecode c = (formats : ValueParser) × IsRead (decode_app formats) c
 
+-- clap reads the command as the whole program, whatever parser has the formats of `decode`
 abbrev pub IsProgram : Command → Type 0
 IsProgram c = (formats : ValueParser) × IsRead (program_app formats) c

@@ -6,12 +6,15 @@ use Rattle.dc_tables.specs.TableRows.{TableRows, bus_row, router_row, output_row
 use Rattle.dc_core.specs.declared.parts.RouterState.{RouterState}
 use Rattle.dc_core.specs.declared.parts.OutputState.{OutputState}
 
+-- a bus's queue before any event: empty, with the capacity that the tables give it
 abbrev pub fresh_queue : TableRows → ℕ → QueueData
 fresh_queue t b = record { words = []; limit = (bus_row t b).queue }
 
+-- a router before its first step: at the first bus of its list, with a window of its own `within` ticks
 abbrev pub fresh_router : TableRows → ℕ → RouterState
 fresh_router t r = record { router = record { number = r; cursor = 0 }; window = empty_window (router_row t r).within (router_row t r).most }
 
+-- an output before its first send step: no entry has left
 abbrev pub fresh_output : TableRows → ℕ → OutputState
 fresh_output t o = record { sent = 0; last = None; window = empty_window (output_row t o).within 1 }
 

@@ -8,9 +8,11 @@ use Rattle.dc_core.specs.declared.parts.RouterState.{RouterState}
 use Rattle.dc_core.specs.declared.parts.OutputState.{OutputState}
 use Rattle.dc_core.specs.Parts.{no_router, no_output}
 
+-- whether `within` ticks have begun and the last of them, the running one included, hold too few steps of the router
 abbrev pub router_lacks : TableRows → List RouterState → ℕ → Bool
 router_lacks t routers r = lacks (slice_index_or routers r no_router).window (router_row t r).steps
 
+-- whether `within` ticks have begun and the last of them, the running one included, hold too few send steps of the output
 abbrev pub output_lacks : TableRows → List OutputState → ℕ → Bool
 output_lacks t outputs o = lacks (slice_index_or outputs o no_output).window (output_row t o).steps
 

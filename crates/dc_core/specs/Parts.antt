@@ -18,9 +18,11 @@ pub record BusData : Type 0 where
 abbrev pub bus_at : List QueueData → List Bool → ℕ → BusData
 bus_at queues latches b = record { queue = queue_at queues b; latched = slice_index_or latches b false }
 
+-- what stands for the state of a router that is not in the tables
 abbrev pub no_router : RouterState
 no_router = record { router = record { number = 0; cursor = 0 }; window = empty_window 0 0 }
 
+-- what stands for the state of an output that is not in the tables
 abbrev pub no_output : OutputState
 no_output = record { sent = 0; last = None; window = empty_window 0 0 }
 

@@ -14,9 +14,11 @@ abbrev pub onto_first : List ℕ → List (List ℕ) → List ℕ → Lines
 onto_first front [] rest = ([], front ++ rest)
 onto_first front (l ∷ ls) rest = ((front ++ l) ∷ ls, rest)
 
+-- the same, of lines and what stands after them as a pair
 abbrev pub onto : List ℕ → Lines → Lines
 onto front lines = onto_first front lines.0 lines.1
 
+-- the lines of a text without their line feeds, and the bytes after the last line feed
 abbrev pub lines_of : List ℕ → Lines
 lines_of [] = ([], [])
 lines_of (b ∷ bs) = if b == 10 then ([] ∷ (lines_of bs).0, (lines_of bs).1) else onto (b ∷ []) (lines_of bs)

@@ -1,6 +1,7 @@
 -- What is known of a device: one record for a source, one for a sink.
 use Rattle.std.specs.Prelude.{ℕ, ◌+◌, ◌^◌, ◌<◌, ◌≤◌, Bool, List, Option}
 
+-- a source, from which a command reads: what is still to come, and how its calls went
 pub record SourceState : Type 0 where
   -- the bytes that are still to come, where they are known
   pub remaining : Option (List ℕ)
@@ -11,6 +12,7 @@ pub record SourceState : Type 0 where
   -- how many of these pulls gave no byte, counted so too
   pub dry : ℕ
 
+-- a sink, to which a command writes: what it holds, how its calls went, and what others see of it
 pub record SinkState : Type 0 where
   -- the bytes that it holds, where they are known
   pub contents : Option (List ℕ)

@@ -5,10 +5,11 @@ use Rattle.dc_dict.specs.declared.fault.DictFault.{DictFault}
 use Rattle.dc_dict.specs.declared.fault.DictFault.TheVariants.{NoTicks}
 use Rattle.dc_dict.specs.declared.ticks.Interval.{Interval}
 
--- on an input: the whole ticks of the least interval, and those that the greatest begins
+-- of an input, in ticks: the whole ticks of the least interval
 abbrev pub in_minimum : (min_us tick_us : ℕ) → ℕ
 in_minimum min_us tick_us = min_us / tick_us
 
+-- of an input, in ticks: those that the greatest interval begins
 abbrev pub in_maximum : (max_us tick_us : ℕ) → ℕ
 in_maximum max_us tick_us = div_ceil max_us tick_us
 
@@ -16,10 +17,11 @@ in_maximum max_us tick_us = div_ceil max_us tick_us
 abbrev pub jitter_ticks : (jitter_us tick_us : ℕ) → ℕ
 jitter_ticks jitter_us tick_us = div_ceil jitter_us tick_us
 
--- on an output: a tick more than the least interval begins, and one less than the whole ticks of the greatest
+-- of an output, in ticks: one more than the least interval begins
 abbrev pub out_minimum : (min_us tick_us : ℕ) → ℕ
 out_minimum min_us tick_us = div_ceil min_us tick_us + 1
 
+-- of an output, in ticks: one less than the whole ticks of the greatest interval
 abbrev pub out_maximum : (max_us tick_us : ℕ) → ℕ
 out_maximum max_us tick_us = max_us / tick_us - 1
 

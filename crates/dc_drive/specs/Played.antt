@@ -32,9 +32,11 @@ IsSameClock None (Some d) = ⊥
 IsSameClock (Some c) None = ⊥
 IsSameClock (Some c) (Some d) = IsSameSeat c d
 
+-- the seat of a wire, apart from its seat at the board
 abbrev pub seat_of_wire : WireView → SeatView
 seat_of_wire w = w.seat
 
+-- the seat of a router or of an output, which is one itself
 abbrev pub itself : SeatView → SeatView
 itself s = s
 
@@ -73,6 +75,7 @@ HavePlayed {X} seat t s before xs = (k n : ℕ) (x : X) → slice_get before k �
 abbrev pub counts : {X : Type 0} → (X → SeatView) → List X → List ℕ
 counts seat xs = map (λ x. length (seat x).receipts) xs
 
+-- how many receipts the clock's seat has, 0 where there is none
 abbrev pub count_of : Option SeatView → ℕ
 count_of None = 0
 count_of (Some c) = length c.receipts

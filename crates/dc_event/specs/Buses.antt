@@ -22,8 +22,9 @@ abbrev pub in_of : Option ℕ → ℕ → List Move
 in_of None w = []
 in_of (Some s) w = In (s, w) ∷ []
 
--- What an event is to the bus, after the events of past; nothing, where it does not concern it. The one place that says what is an arrival:
--- a word of odd parity (ARINC Specification 429 Part 1, 2.3.4) whose label and SDI a stream of the bus declares, and that the bus does not refuse as early
+-- What an event is to the bus, after the events of past; nothing, where it does not concern it. In comes an arrival: a word of odd parity
+-- (ARINC Specification 429 Part 1, 2.3.4) whose label and SDI a stream of the bus declares, and that the bus does not refuse as early.
+-- `arrival_of` says the same by what is offered (`Offers`), and the reply tests the three in the same order (`Replies`)
 abbrev pub move_of : TableRows → ℕ → List Event → Event → List Move
 move_of t b past Tick = TickMove ∷ []
 move_of t b past (Arrive w a) = cond ((a == b) && is_odd w) (in_of (let_in t b past (stream_of t b w)) w) []

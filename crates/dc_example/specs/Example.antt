@@ -7,6 +7,7 @@ use Rattle.dc_tables.specs.TableRows.{TableRows}
 use Rattle.dc_toml.specs.Reading.{tables_of}
 use Rattle.dc_toml.specs.Reported.{TellsTables}
 
+-- the text of examples/small.toml, byte by byte
 abbrev pub example_text : List ℕ
 example_text =
     codes "# The smallest concentrator that does something: one bus with two labels, one router, one output with one label.\n"

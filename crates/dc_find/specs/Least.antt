@@ -11,6 +11,7 @@ pub record IsInputAtMost (c other : InputBound) : Type 0 where
   pub backlog : c.backlog ≤ other.backlog
   pub delay : c.delay ≤ other.delay
 
+-- an output's window and delay are at most those of the other
 pub record IsOutputAtMost (c other : OutputBound) : Type 0 where
   pub window : c.window ≤ other.window
   pub delay : c.delay ≤ other.delay

@@ -43,6 +43,7 @@ pub record IsInputReached (t : TableRows) (parts : ℕ) (b : ℕ) (claim : Named
   pub least : b < parts → AreLeastNumbers t b (input_numbers claim)
   pub short : claim.delay ≤ LONGEST_WINDOW
 
+-- the row of an output: its name, and below the obstacle the least window and delay that are accepted
 pub record IsOutputReached (t : TableRows) (parts : ℕ) (o : ℕ) (claim : NamedOutput) : Type 0 where
   pub named : claim.output ≡ text_of (slice_index_or t.names.outputs o [])
   pub least : length t.buses + o < parts → IsLeastOutput t o (output_numbers claim)
@@ -52,6 +53,7 @@ pub record AreInputsReached (t : TableRows) (parts : ℕ) (inputs : List NamedIn
   pub count : length inputs ≡ length t.buses
   pub each : EachAt (IsInputReached t parts) inputs
 
+-- a row for each output
 pub record AreOutputsReached (t : TableRows) (parts : ℕ) (outputs : List NamedOutput) : Type 0 where
   pub count : length outputs ≡ length t.outputs
   pub each : EachAt (IsOutputReached t parts) outputs

@@ -32,6 +32,7 @@ pub record IsLeastInput (t : TableRows) (b : ℕ) (c : InputBound) : Type 0 wher
   pub accepted : AcceptsInput t b c
   pub least : (other : InputBound) → AcceptsInput t b other → IsInputAtMost c other
 
+-- accepted of the output, and at most each that is
 pub record IsLeastOutput (t : TableRows) (o : ℕ) (c : OutputBound) : Type 0 where
   pub accepted : AcceptsOutput t o c
   pub least : (other : OutputBound) → AcceptsOutput t o other → IsOutputAtMost c other
@@ -41,6 +42,7 @@ pub record IsInputRow (t : TableRows) (b : ℕ) (claim : NamedInput) : Type 0 wh
   pub named : claim.bus ≡ text_of (slice_index_or t.names.buses b [])
   pub least : IsLeastInput t b (input_numbers claim)
 
+-- the same of an output with its name
 pub record IsOutputRow (t : TableRows) (o : ℕ) (claim : NamedOutput) : Type 0 where
   pub named : claim.output ≡ text_of (slice_index_or t.names.outputs o [])
   pub least : IsLeastOutput t o (output_numbers claim)
@@ -53,6 +55,7 @@ inputs_alone inputs = numbers_of (record { inputs = inputs; outputs = []; labels
 abbrev pub IsOldEnough : TableRows → ℕ → CertificateRows → ℕ → Type 0
 IsOldEnough t x c age = All (λ s. (label_row t x).stale + source_delay t c s ≤ age) (label_row t x).sources
 
+-- the row of a label: its name, and the least age that covers each of its sources
 pub record IsLabelRow (t : TableRows) (inputs : List NamedInput) (x : ℕ) (claim : NamedLabel) : Type 0 where
   pub named : claim.label ≡ text_of (slice_index_or t.names.labels x [])
   pub least : IsLeast (IsOldEnough t x (inputs_alone inputs)) claim.age
@@ -62,15 +65,17 @@ pub record HaveShortDelays (t : TableRows) (inputs : List NamedInput) : Type 0 w
   pub count : length inputs ≡ length t.buses
   pub each : EachAt (λ b claim. claim.delay ≤ LONGEST_WINDOW) inputs
 
--- a row for each
+-- a row for each bus
 pub record AreInputRows (t : TableRows) (inputs : List NamedInput) : Type 0 where
   pub count : length inputs ≡ length t.buses
   pub each : EachAt (IsInputRow t) inputs
 
+-- a row for each output
 pub record AreOutputRows (t : TableRows) (outputs : List NamedOutput) : Type 0 where
   pub count : length outputs ≡ length t.outputs
   pub each : EachAt (IsOutputRow t) outputs
 
+-- a row for each label
 pub record AreLabelRows (t : TableRows) (inputs : List NamedInput) (labels : List NamedLabel) : Type 0 where
   pub count : length labels ≡ length t.labels
   pub each : EachAt (IsLabelRow t inputs) labels

@@ -70,6 +70,7 @@ code_rank AgeOverLimit = 3
 code_rank SourceGoesStale = 4
 code_rank _ = 0
 
+-- where what stands in the way comes in the order of one bus, output or label
 abbrev pub rank_of : FindFault → ℕ
 rank_of (WindowNeverCloses queue) = 0
 rank_of (QueueTooShort b) = 1
@@ -87,10 +88,11 @@ pub record IsFirstInTheWay (t : TableRows) (fault : FindFault) : Type 0 where
 
 -- ---- one part
 
--- nothing stands in the way at the part of this number; at any part below it
+-- nothing stands in the way at the bus, output or label of this number, counted through all three
 abbrev pub NothingAt : TableRows → ℕ → Type 0
 NothingAt t part = (other : FindFault) → part_of t other ≡ part → ¬ StandsInTheWay t other
 
+-- nothing stands in the way at any bus, output or label below this number
 abbrev pub IsClearBelow : TableRows → ℕ → Type 0
 IsClearBelow t n = (part : ℕ) → part < n → NothingAt t part
 

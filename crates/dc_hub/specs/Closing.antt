@@ -60,6 +60,7 @@ pub record DifferAt (receipts wanted : List Receipt) (index : ℕ) : Type 0 wher
 abbrev pub Agrees : List Entry → SeatView → Type 0
 Agrees es s = s.receipts ≡ receipts_of s.actor es
 
+-- the clock's seat as a list, empty where it is gone
 abbrev pub clock_seats : Option SeatView → List SeatView
 clock_seats None = []
 clock_seats (Some s) = s ∷ []
@@ -76,6 +77,7 @@ actor_at t p =
     else if nat_lt (p - length t.buses - length t.routers) (length t.outputs) then Output (p - length t.buses - length t.routers)
     else Clock
 
+-- how many actors the tables have: wires, routers, outputs and the clock
 abbrev pub actor_count : TableRows → ℕ
 actor_count t = length t.buses + length t.routers + length t.outputs + 1
 

@@ -32,6 +32,7 @@ backlog_of (Sent l w) = 0
 backlog_of Idle = 0
 backlog_of (Now n) = 0
 
+-- what the book keeps of a call: its event and the reply to it
 abbrev pub entry : Event → Reply → Entry
 entry e r = record { event = e; reply = r }
 
@@ -39,6 +40,7 @@ entry e r = record { event = e; reply = r }
 abbrev pub events : List Entry → List Event
 events es = map (λ (e : Entry). e.event) es
 
+-- the replies of the entries
 abbrev pub replies : List Entry → List Reply
 replies es = map (λ (e : Entry). e.reply) es
 
@@ -48,6 +50,7 @@ pub record IsLegal (t : TableRows) (es : List Entry) : Type 0 where
   pub budgets : KeepsBudgets t (events es)
   pub answers : replies es ≡ outputs_of t (events es)
 
+-- whether the reply tells that a word was lost and its bus latched
 abbrev pub is_overrun : Reply → Bool
 is_overrun (Queued n) = false
 is_overrun BadParity = false

@@ -24,9 +24,11 @@ use Rattle.dc_tables.specs.TableRows.{TableRows}
 
 -- ---- the lines of a part, in the order of the verdict
 
+-- the line of a condition: of which list, of which member, with its margin where it is told
 abbrev pub line_at : CertificateList → ℕ → Condition → Option Margin → MarginLine
 line_at part index condition margin = record { part = part; index = index; condition = condition; margin = margin }
 
+-- the lines of a bus
 abbrev pub input_lines_of : ℕ → InputMargins → List MarginLine
 input_lines_of b m =
     line_at Inputs b WindowOutOfRange m.window
@@ -37,6 +39,7 @@ input_lines_of b m =
     ∷ line_at Inputs b DelayTooSmall m.delay
     ∷ []
 
+-- the lines of an output
 abbrev pub output_lines_of : ℕ → OutputMargins → List MarginLine
 output_lines_of o m =
     line_at Outputs o WindowOutOfRange m.window
@@ -45,6 +48,7 @@ output_lines_of o m =
     ∷ line_at Outputs o DelayTooSmall m.delay
     ∷ []
 
+-- the lines of a label
 abbrev pub label_lines_of : ℕ → LabelMargins → List MarginLine
 label_lines_of x m =
     line_at Labels x SentTooSoon m.soon
@@ -98,6 +102,7 @@ pub record IsLinePlaced (t : TableRows) (line : MarginLine) : Type 0 where
 abbrev pub line_fault : MarginLine → Option CheckFault
 line_fault line = unless (is_kept line.margin) (fault_at line.part line.index line.condition 0)
 
+-- the fault of the first line whose margin is negative
 abbrev pub fault_of_lines : List MarginLine → Option CheckFault
 fault_of_lines lines = first_of (map line_fault lines)
 

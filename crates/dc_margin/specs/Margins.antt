@@ -68,6 +68,7 @@ delay_limit_margin_of delay = margin_by (room LONGEST_WINDOW delay) Numbers
 
 -- ---- an input, an output
 
+-- of a bus by the most words that come and the fewest visits in so many ticks, and by its queue; told where the numbers that it rests on are in range
 abbrev pub input_margins_given : (cap floor : ℕ → ℕ) (queue : ℕ) → InputBound → InputMargins
 input_margins_given cap floor queue c = record {
   window = Some (window_margin_of c.window);
@@ -78,6 +79,7 @@ input_margins_given cap floor queue c = record {
   delay = told (is_window c.window && is_delay c.delay) (delay_margin_of cap floor c.window c.delay);
 }
 
+-- of an output by the most entries that come due and the fewest sends in so many ticks, told likewise
 abbrev pub output_margins_given : (cap floor : ℕ → ℕ) → OutputBound → OutputMargins
 output_margins_given cap floor c = record {
   window = Some (window_margin_of c.window);
@@ -86,9 +88,11 @@ output_margins_given cap floor c = record {
   delay = told (is_window c.window && is_delay c.delay) (delay_margin_of cap floor c.window c.delay);
 }
 
+-- of the bus of this number
 abbrev pub input_margins_of : TableRows → ℕ → InputBound → InputMargins
 input_margins_of t b c = input_margins_given (bus_cap t b) (bus_floor t b) (bus_row t b).queue c
 
+-- of the output of this number
 abbrev pub output_margins_of : TableRows → ℕ → OutputBound → OutputMargins
 output_margins_of t o c = output_margins_given (output_cap t o) (output_floor t o) c
 
@@ -138,6 +142,7 @@ age_limit_margin_of limit age = margin_by (room limit age) Numbers
 abbrev pub fresh_margin_of : (stale silent source : ℕ) → Margin
 fresh_margin_of stale silent source = margin_by (room stale silent) (Source source)
 
+-- of the label of this number: its gaps with the delay of its output, its age and how fresh it is by the source that is worst for it
 abbrev pub label_margins_of : TableRows → ℕ → CertificateRows → LabelMargins
 label_margins_of t x c = record {
   soon = told (is_delay (label_delay t c x)) (soon_margin_of (least_label_gap (schedule_of t (label_row t x).output) x) (label_row t x).minimum (label_delay t c x));

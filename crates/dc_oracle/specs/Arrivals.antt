@@ -48,6 +48,7 @@ pub record ArrivesOf (t : TableRows) (run : List Event) (b w s : ℕ) : Type 0 w
   pub here : arrival_of t b run (Arrive w b) ≡ Some s
   pub elsewhere : (a : ℕ) → (b ≡ a → ⊥) → arrival_of t a run (Arrive w b) ≡ None
 
+-- after the run, the word on the bus is an arrival of this stream and of no other bus; or, of no stream, none on any bus
 abbrev pub Arrives : TableRows → List Event → ℕ → ℕ → Option ℕ → Type 0
 Arrives t run b w None = (a : ℕ) → arrival_of t a run (Arrive w b) ≡ None
 Arrives t run b w (Some s) = ArrivesOf t run b w s

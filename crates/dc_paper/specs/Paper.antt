@@ -49,6 +49,7 @@ AnswersReport tables certificate answer = (read : Result TableRows BuildError) �
 abbrev pub AnswersRows : TableRows → Answer → Type 0
 AnswersRows t answer = ((claims : NamedRows) × IsLeastAccepted t claims × IsPage Done answer) ⊎ AnswersObstacle t answer
 
+-- to what the text of tables says: the same for tables, the line of the first fault else; not memory, which is a failure
 abbrev pub AnswersAlone : Answer → Result TableRows BuildError → Type 0
 AnswersAlone answer (Ok t) = AnswersRows t answer
 AnswersAlone answer (Err (Refused fault)) = answer ≡ tables_end fault
@@ -65,6 +66,7 @@ abbrev pub ReportsPage : List ℕ → List ℕ → Option (List ℕ) → Option 
 ReportsPage tables certificate old new sources sources' sink sink' exit =
     Reported (WholeOrNone (AnswersReport tables certificate) (is_answered exit)) old new sources sources' sink sink' exit
 
+-- what `report` of tables alone reports, where its source and its sink failed so often before and after it
 abbrev pub ReportsLeast : List ℕ → Option (List ℕ) → Option (List ℕ) → ℕ → ℕ → ℕ → ℕ → Exit → Type 0
 ReportsLeast tables old new source source' sink sink' exit =
     Reported (WholeOrNone (AnswersLeast tables) (is_answered exit)) old new source source' sink sink' exit

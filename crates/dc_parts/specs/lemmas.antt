@@ -1,1 +1,2 @@
+-- Lemmas that crates above cite.
 pub mod Spelled

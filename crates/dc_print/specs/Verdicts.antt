@@ -9,11 +9,12 @@ use Rattle.dc_check.specs.declared.fault.CertificateList.TheVariants.{Inputs, Ou
 use Rattle.dc_parts.specs.Names.{text_of}
 use Rattle.dc_tables.specs.TableRows.{TableRows}
 
--- whether it is of a list as a whole; whether it names a window
+-- whether it is of a list as a whole
 abbrev pub is_of_a_list : Condition → Bool
 is_of_a_list NamesDiffer = true
 is_of_a_list _ = false
 
+-- whether it names the window at which it fails
 abbrev pub names_window : Condition → Bool
 names_window BacklogTooSmall = true
 names_window DelayTooSmall = true
@@ -25,6 +26,7 @@ list_text Inputs = codes "inputs"
 list_text Outputs = codes "outputs"
 list_text Labels = codes "labels"
 
+-- as one member of a list is called, and a space
 abbrev pub member_text : CertificateList → List ℕ
 member_text Inputs = codes "input "
 member_text Outputs = codes "output "
@@ -36,9 +38,11 @@ member_name t Inputs index = text_of (slice_index_or t.names.buses index [])
 member_name t Outputs index = text_of (slice_index_or t.names.outputs index [])
 member_name t Labels index = text_of (slice_index_or t.names.labels index [])
 
+-- the window at which a condition fails, in ticks, where it names one
 abbrev pub window_text : CheckFault → List ℕ
 window_text fault = if names_window fault.condition then codes " window " ++ decimal fault.window else []
 
+-- where a condition fails: a list, or a member with its name and, where the condition names one, the window
 abbrev pub place_text : TableRows → CheckFault → List ℕ
 place_text t fault =
     if is_of_a_list fault.condition then list_text fault.part

@@ -17,11 +17,13 @@ abbrev pub bcd_text : Result ℕ DigitPlace → List ℕ
 bcd_text (Ok n) = five_decimal n
 bcd_text (Err place) = codes "bad" ++ digit (number_of place) ∷ []
 
+-- the data of a word, read by the format
 abbrev pub data_text : Format → ℕ → List ℕ
 data_text Bnr w = signed_decimal (bnr_of w)
 data_text Bcd w = bcd_text (bcd_of w)
 data_text Disc w = five_hex (data_of w)
 
+-- what the SSM says
 abbrev pub status_text : Status → List ℕ
 status_text FailureWarning = codes "failure_warning"
 status_text NoComputedData = codes "no_computed_data"
@@ -31,6 +33,7 @@ status_text Plus = codes "plus"
 status_text Minus = codes "minus"
 status_text Verified = codes "verified"
 
+-- the parity of the whole word
 abbrev pub parity_text : Bool → List ℕ
 parity_text true = codes "odd"
 parity_text false = codes "even"

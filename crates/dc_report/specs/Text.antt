@@ -16,6 +16,7 @@ entity byte =
     else if nat_eq byte 39 then codes "&#39;"
     else encode_utf8 byte
 
+-- a text as the page writes it, byte by byte; a byte above 127 is the character of that number
 unfoldable pub escaped : List ℕ → List ℕ
 escaped [] = []
 escaped (byte ∷ bytes) = entity byte ++ escaped bytes
@@ -46,6 +47,7 @@ one_of Inputs = codes "input"
 one_of Outputs = codes "output"
 one_of Labels = codes "label"
 
+-- the word for several
 abbrev pub more_of : Unit → List ℕ
 more_of Ticks = codes "ticks"
 more_of Words = codes "words"
@@ -54,6 +56,7 @@ more_of Inputs = codes "inputs"
 more_of Outputs = codes "outputs"
 more_of Labels = codes "labels"
 
+-- the word for so many
 abbrev pub unit_word : Unit → ℕ → List ℕ
 unit_word unit count = if nat_eq count 1 then one_of unit else more_of unit
 

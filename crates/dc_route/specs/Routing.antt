@@ -17,6 +17,7 @@ next_bus t r = visited t r.number r.cursor
 abbrev pub moved_on : TableRows → RouterData → RouterData
 moved_on t r = record { number = r.number; cursor = (r.cursor % length (router_row t r.number).visits + 1) % length (router_row t r.number).visits }
 
+-- what stands for the queue of a bus that is not in the tables
 abbrev pub no_queue : QueueData
 no_queue = record { words = []; limit = 0 }
 

@@ -10,6 +10,7 @@ use Rattle.dc_rules.specs.declared.keys.Declared.{Declared}
 abbrev pub place_of : StreamPart → BusLabel
 place_of s = record { bus = s.bus; label = s.label }
 
+-- whether it is the same label on the same bus
 abbrev pub same_place : BusLabel → BusLabel → Bool
 same_place a b = (a.bus == b.bus) && (a.label == b.label)
 
@@ -17,6 +18,7 @@ same_place a b = (a.bus == b.bus) && (a.label == b.label)
 abbrev pub declaring : StreamPart → Option ℕ → Declared
 declaring s sdi = record { bus = s.bus; label = s.label; sdi = sdi }
 
+-- whether it is the same label on the same bus with the same SDI, or any on both
 abbrev pub same_declared : Declared → Declared → Bool
 same_declared a b = (a.bus == b.bus) && ((a.label == b.label) && option_eq nat_eq a.sdi b.sdi)
 
@@ -25,5 +27,6 @@ abbrev pub overlaps_sdi : Option ℕ → StreamPart → List BusLabel → List D
 overlaps_sdi None s labels exact = list_any (same_place (place_of s)) labels
 overlaps_sdi (Some a) s labels exact = list_any (same_declared (declaring s (Some a))) exact || list_any (same_declared (declaring s None)) exact
 
+-- the same by the SDI that the stream declares
 abbrev pub overlaps_known : StreamPart → List BusLabel → List Declared → Bool
 overlaps_known s labels exact = overlaps_sdi s.sdi s labels exact

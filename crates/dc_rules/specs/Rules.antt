@@ -114,29 +114,35 @@ offsets_out offsets = list_any (λ t. nat_lt LAST_OFFSET t) offsets
 abbrev pub label_out : LabelPart → Bool
 label_out x = (outside 1 LONGEST_STALE x.stale || outside 1 GREATEST_AGE x.age) || offsets_out x.offsets.items
 
--- the first with a number out of its range
+-- the first bus with a number out of its range
 abbrev pub first_bus_out : List BusPart → Option ℕ
 first_bus_out buses = position (λ b. outside 1 GREATEST_QUEUE b.queue) buses
 
+-- the first router with a number out of its range
 abbrev pub first_router_out : List RouterPart → Option ℕ
 first_router_out routers = position router_out routers
 
+-- the first output with a number out of its range
 abbrev pub first_output_out : List OutputPart → Option ℕ
 first_output_out outputs = position output_out outputs
 
+-- the first label with a number out of its range
 abbrev pub first_label_out : List LabelPart → Option ℕ
 first_label_out labels = position label_out labels
 
--- the first with a list out of its limits
+-- the first bus or output with too few or too many members: streams of a bus, labels of an output
 abbrev pub first_count_out : List ℕ → Option ℕ
 first_count_out counts = position (λ n. outside 1 MOST_MEMBERS n) counts
 
+-- the first router that visits no bus, or has too long a list of visits
 abbrev pub first_visits_out : List RouterPart → Option ℕ
 first_visits_out routers = position (λ r. outside 1 MOST_VISITS (length r.visits.items)) routers
 
+-- the first label with no source, or too many
 abbrev pub first_sources_out : List LabelPart → Option ℕ
 first_sources_out labels = position (λ x. outside 1 MOST_SOURCES (length x.sources.items)) labels
 
+-- the first label with no offset, or too many
 abbrev pub first_offsets_out : List LabelPart → Option ℕ
 first_offsets_out labels = position (λ x. outside 1 MOST_OFFSETS (length x.offsets.items)) labels
 
@@ -144,19 +150,23 @@ first_offsets_out labels = position (λ x. outside 1 MOST_OFFSETS (length x.offs
 abbrev pub first_stream_out : List StreamPart → Option ℕ
 first_stream_out streams = position (λ s. nat_lt GREATEST_JITTER_US s.jitter_us) streams
 
--- the first out of shape
+-- the first bus out of shape: its queue, then how many streams it has
 abbrev pub bus_shapes : List BusPart → List ℕ → Option Breach
 bus_shapes buses counts = earlier (breach NumberOutOfRange Bus (first_bus_out buses)) (breach CountOutOfRange Bus (first_count_out counts))
 
+-- the first stream out of shape: its numbers
 abbrev pub stream_shapes : List StreamPart → Option Breach
 stream_shapes streams = breach NumberOutOfRange Stream (first_stream_out streams)
 
+-- the first router out of shape: its numbers, then how many visits it has
 abbrev pub router_shapes : List RouterPart → Option Breach
 router_shapes routers = earlier (breach NumberOutOfRange Router (first_router_out routers)) (breach CountOutOfRange Router (first_visits_out routers))
 
+-- the first output out of shape: its numbers, then how many labels it has
 abbrev pub output_shapes : List OutputPart → List ℕ → Option Breach
 output_shapes outputs counts = earlier (breach NumberOutOfRange Output (first_output_out outputs)) (breach CountOutOfRange Output (first_count_out counts))
 
+-- the first label out of shape: how many sources it has, then its numbers, then how many offsets it has
 abbrev pub label_shapes : List LabelPart → Option Breach
 label_shapes labels =
     earlier (earlier (breach CountOutOfRange Label (first_sources_out labels)) (breach NumberOutOfRange Label (first_label_out labels))) (breach CountOutOfRange Label (first_offsets_out labels))
@@ -243,19 +253,23 @@ first_unknown_label parameters labels = position (λ x. is_none (parameter_of pa
 
 -- ---- names
 
--- the names of the buses in order; likewise those of the streams, routers, outputs and labels
+-- the names of the buses in order
 abbrev pub bus_names : Document → List (List ℕ)
 bus_names d = map (λ b. b.name) d.buses
 
+-- the names of the streams in order
 abbrev pub stream_names : Document → List (List ℕ)
 stream_names d = map (λ s. s.name) d.streams
 
+-- the names of the routers in order
 abbrev pub router_names : Document → List (List ℕ)
 router_names d = map (λ r. r.name) d.routers
 
+-- the names of the outputs in order
 abbrev pub output_names : Document → List (List ℕ)
 output_names d = map (λ o. o.name) d.outputs
 
+-- the names of the labels in order
 abbrev pub label_names : Document → List (List ℕ)
 label_names d = map (λ x. x.name) d.labels
 
@@ -409,10 +423,11 @@ schedules d =
     (then_reported (reported RouterCannotKeepPace Router (first_unable_router d.routers))
     (reported OutputCannotKeepPace Output (first_unable_output d.tick_us d.outputs))))))
 
--- the rules up to T12, and those from T13 on
+-- the rules up to T12
 abbrev pub first_rules : Document → Verdict
 first_rules d = then_reported (shape d) (then_reported (totals d) (quantities d))
 
+-- the rules from T13 on
 abbrev pub later_rules : Document → Verdict
 later_rules d = then_reported (names d) (then_reported (references d) (schedules d))
 

@@ -41,6 +41,7 @@ abbrev pub bus_row_of : List ℕ → List RouterPart → ℕ → BusPart → Bus
 bus_row_of owners routers b part =
     bus_row_with (count_by (λ o. nat_lt o b) owners) (count_by (λ o. o == b) owners) (unwrap_or (position (visits_bus part.name) routers) 0) part
 
+-- the rows of buses, the first of which has this number
 abbrev pub bus_rows_from : List ℕ → List RouterPart → ℕ → List BusPart → List Bus
 bus_rows_from owners routers b [] = []
 bus_rows_from owners routers b (x ∷ xs) = bus_row_of owners routers b x ∷ bus_rows_from owners routers (suc b) xs
@@ -61,6 +62,7 @@ stream_row_of tick parameters s = record {
 abbrev pub number_in : List (List ℕ) → List ℕ → ℕ
 number_in names n = unwrap_or (number_of names n) 0
 
+-- the row of a router: it visits buses by number, in the order in which the text names them
 abbrev pub router_row_of : List (List ℕ) → RouterPart → Router
 router_row_of buses r = record { steps = r.steps; within = r.within; most = r.most; visits = map (number_in buses) r.visits.items }
 
@@ -78,10 +80,11 @@ label_row_of tick parameters streams x = record {
   maximum = option_map_or (λ p. out_maximum p.max_us tick) (parameter_of parameters (label_key x)) 0;
 }
 
--- the entries of an output in the order of the text
+-- an entry without its output
 abbrev pub entry_of : PlacedEntry → Entry
 entry_of e = record { offset = e.offset; label = e.label }
 
+-- the entries of the output of this number, in the order of the text
 abbrev pub own_entries : List PlacedEntry → ℕ → List Entry
 own_entries entries o = map entry_of (filter (λ e. e.output == o) entries)
 

@@ -17,6 +17,7 @@ use Rattle.dc_rules.specs.Rules.{sdis_meet}
 use Rattle.dc_tables.specs.TableNames.{TableNames}
 use Rattle.dc_parts.specs.declared.limits.TheConstants.{GREATEST_AGE, GREATEST_JITTER, GREATEST_QUEUE, LONGEST_FRAME, LONGEST_INTERVAL, LONGEST_STALE, LONGEST_TICK, LONGEST_WITHIN, MOST_BUSES, MOST_ENTRIES, MOST_LABELS, MOST_MEMBERS, MOST_OUTPUTS, MOST_ROUTERS, MOST_SOURCES, MOST_STEPS, MOST_STREAMS, MOST_VISITS, SHORTEST_TICK}
 
+-- the length of a tick in microseconds, and the rows and names of all lists
 pub record TableRows : Type 0 where
   pub tick_us : ℕ
   pub buses : List Bus
@@ -28,18 +29,23 @@ pub record TableRows : Type 0 where
 
 -- ---- the row of a number
 
+-- the bus of this number
 abbrev pub bus_row : TableRows → ℕ → Bus
 bus_row t b = slice_index_or t.buses b (record { queue = 0; police = false; spacing = 0; first = 0; streams = 0; router = 0 })
 
+-- the stream of this number, counted through all buses
 abbrev pub stream_row : TableRows → ℕ → Stream
 stream_row t s = slice_index_or t.streams s (record { bus = 0; label = 0; sdi = None; format = Bnr; minimum = 0; maximum = 0; jitter = 0 })
 
+-- the router of this number
 abbrev pub router_row : TableRows → ℕ → Router
 router_row t r = slice_index_or t.routers r (record { steps = 0; within = 0; most = 0; visits = [] })
 
+-- the output of this number
 abbrev pub output_row : TableRows → ℕ → Output
 output_row t o = slice_index_or t.outputs o (record { steps = 0; within = 0; gap = 0; frame = 0; entries = [] })
 
+-- the label of this number, counted through all outputs
 abbrev pub label_row : TableRows → ℕ → OutputLabel
 label_row t x = slice_index_or t.labels x (record { output = 0; label = 0; sdi = 0; format = Bnr; sources = []; stale = 0; age_limit = 0; minimum = 0; maximum = 0 })
 

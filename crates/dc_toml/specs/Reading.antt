@@ -20,22 +20,27 @@ each_table one d (item v vs) = one d v >>= (λ more. each_table one more vs)
 
 -- ---- the places of the next tables
 
--- of a parameter, by its number from 0 in the order of the text; likewise of the others
+-- of the next parameter, by its number from 0 in the order of the text
 abbrev pub next_parameter : Written → TablePlace
 next_parameter d = place Parameter (length d.parameters)
 
+-- of the next bus
 abbrev pub next_bus : Written → TablePlace
 next_bus d = place Bus (length d.buses)
 
+-- of the next stream, counted through all buses
 abbrev pub next_stream : Written → TablePlace
 next_stream d = place Stream (length d.streams)
 
+-- of the next router
 abbrev pub next_router : Written → TablePlace
 next_router d = place Router (length d.routers)
 
+-- of the next output
 abbrev pub next_output : Written → TablePlace
 next_output d = place Output (length d.outputs)
 
+-- of the next label, counted through all outputs
 abbrev pub next_label : Written → TablePlace
 next_label d = place Label (length d.labels)
 

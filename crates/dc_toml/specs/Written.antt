@@ -60,21 +60,26 @@ written d = record { version = d.version; tick_us = d.tick_us; parameters = d.pa
 abbrev pub nothing_written : Version → ℕ → Written
 nothing_written version tick_us = record { version = version; tick_us = tick_us; parameters = []; buses = []; streams = []; routers = []; outputs = []; labels = [] }
 
--- a parameter, after those before it; likewise a bus, a stream, a router, an output, a label
+-- a parameter, after those before it
 abbrev pub and_parameter : Written → ParameterPart → Written
 and_parameter d x = record d { parameters = d.parameters ++ x ∷ [] }
 
+-- a bus, after those before it
 abbrev pub and_bus : Written → BusPart → Written
 and_bus d x = record d { buses = d.buses ++ x ∷ [] }
 
+-- a stream, after those before it
 abbrev pub and_stream : Written → StreamPart → Written
 and_stream d x = record d { streams = d.streams ++ x ∷ [] }
 
+-- a router, after those before it
 abbrev pub and_router : Written → RouterText → Written
 and_router d x = record d { routers = d.routers ++ x ∷ [] }
 
+-- an output, after those before it
 abbrev pub and_output : Written → OutputPart → Written
 and_output d x = record d { outputs = d.outputs ++ x ∷ [] }
 
+-- a label, after those before it
 abbrev pub and_label : Written → LabelText → Written
 and_label d x = record d { labels = d.labels ++ x ∷ [] }

@@ -25,9 +25,10 @@ abbrev pub greatest_of : List ℕ → ℕ
 greatest_of [] = 0
 greatest_of (x ∷ xs) = max x (greatest_of xs)
 
--- the least and the greatest gap, round the frame. A gap is never over the frame
+-- the least gap in ticks, round the frame; the frame, where no entry passes
 abbrev pub least_gap : {E : Type 0} → (E → ℕ) → (E → Bool) → ℕ → List E → ℕ
 least_gap off passes frame es = least_of frame (gaps off passes frame es)
 
+-- the greatest gap in ticks, round the frame, which it never exceeds; 0, where no entry passes
 abbrev pub greatest_gap : {E : Type 0} → (E → ℕ) → (E → Bool) → ℕ → List E → ℕ
 greatest_gap off passes frame es = greatest_of (gaps off passes frame es)

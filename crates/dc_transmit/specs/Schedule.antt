@@ -43,10 +43,11 @@ is_of x e = e.label == x
 abbrev pub label_gaps : ScheduleData → ℕ → List ℕ
 label_gaps s x = gaps off (is_of x) s.frame s.entries
 
--- the least and the greatest of these; the frame, and 0, where the label has no entry
+-- the least gap of the label, in ticks; the frame, where it has no entry
 abbrev pub least_label_gap : ScheduleData → ℕ → ℕ
 least_label_gap s x = least_gap off (is_of x) s.frame s.entries
 
+-- the greatest gap of the label, in ticks; 0, where it has no entry
 abbrev pub greatest_label_gap : ScheduleData → ℕ → ℕ
 greatest_label_gap s x = greatest_gap off (is_of x) s.frame s.entries
 

@@ -6,12 +6,13 @@ use Rattle.dc_word.specs.declared.format.Format.TheVariants.{Bnr, Bcd, Disc}
 use Rattle.dc_word.specs.declared.format.Status.{Status}
 use Rattle.dc_word.specs.declared.format.Status.TheVariants.{FailureWarning, NoComputedData, FunctionalTest, Normal, Plus, Minus, Verified}
 
--- the meaning of the bits 31 and 30 where they are equal: 00, and 11
+-- the meaning of the bits 31 and 30 where both are 0
 abbrev pub status_of_00 : Format → Status
 status_of_00 Bnr = FailureWarning
 status_of_00 Bcd = Plus
 status_of_00 Disc = Verified
 
+-- the meaning of the bits 31 and 30 where both are 1
 abbrev pub status_of_11 : Format → Status
 status_of_11 Bnr = Normal
 status_of_11 Bcd = Minus
@@ -25,7 +26,8 @@ status_of format ssm =
     else if ssm == 2 then FunctionalTest
     else status_of_11 format
 
--- whether data in a format may be used under this SSM: BNR 11, BCD 00 and 11, discrete 00
+-- whether data in a format may be used under this SSM: BNR 11, BCD 00 and 11, discrete 00. That functional test, 10, is not usable is this
+-- project's profile
 abbrev pub is_usable_ssm : Format → ℕ → Bool
 is_usable_ssm Bnr ssm = ssm == 3
 is_usable_ssm Bcd ssm = ssm == 0 || ssm == 3
