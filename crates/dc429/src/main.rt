@@ -18,7 +18,7 @@ use std::sync::Wait;
 use std::thread::Threads;
 use std::{env, fmt, fs, io};
 
-// What keeps the program from its work.
+/// What keeps the program from its work.
 #[derive(Debug, Drop)]
 enum Failure {
     Memory,
@@ -50,7 +50,7 @@ impl From<io::Error> for Failure {
     }
 }
 
-// Judges a certificate by so many workers, where that is said.
+/// Judges a certificate by so many workers, where that is said.
 fn check<R: AllocGlobal + Files + Print + Threads + Wait + Sync>(
     rt: &R,
     tables: &str,
@@ -75,7 +75,7 @@ fn check<R: AllocGlobal + Files + Print + Threads + Wait + Sync>(
     }
 }
 
-// Writes the page on a certificate, or on the least one.
+/// Writes the page on a certificate, or on the least one.
 fn page<R: AllocGlobal + Files + Print>(
     rt: &R,
     tables: &str,
@@ -90,7 +90,7 @@ fn page<R: AllocGlobal + Files + Print>(
     Ok(run_report(rt.alloc(), &mut tables, &mut certificate, &mut sink))
 }
 
-// Tells the margins of a certificate, or of the least one.
+/// Tells the margins of a certificate, or of the least one.
 fn margins<R: AllocGlobal + Files + Print>(
     rt: &R,
     tables: &str,
@@ -105,7 +105,7 @@ fn margins<R: AllocGlobal + Files + Print>(
     Ok(run_margins(rt.alloc(), &mut tables, &mut certificate, &mut sink))
 }
 
-// Runs a hub for so many ticks.
+/// Runs a hub for so many ticks.
 fn bench<R: AllocGlobal + Files + Print + Threads + Wait + Sync>(
     rt: &R,
     tables: &str,
@@ -127,7 +127,7 @@ fn bench<R: AllocGlobal + Files + Print + Threads + Wait + Sync>(
     ))
 }
 
-// Opens the files that are asked for, and calls the engine on them.
+/// Opens the files that are asked for, and calls the engine on them.
 fn carry_out<R: AllocGlobal + Files + Input + Print + Threads + Wait + Sync>(
     rt: &R,
     order: Order<'_>,
@@ -185,7 +185,7 @@ fn carry_out<R: AllocGlobal + Files + Input + Print + Threads + Wait + Sync>(
     }
 }
 
-// The end where the command line can't be had: one that is not UTF-8 is a wrong one.
+/// The end where the command line can't be had: one that is not UTF-8 is a wrong one.
 fn end_unread<R: Eprint>(rt: &R, error: io::Error) -> Result<Exit, Failure> {
     if error.kind() == io::ErrorKind::InvalidData {
         rt.eprintln("error: an argument is not UTF-8")?;
@@ -194,7 +194,7 @@ fn end_unread<R: Eprint>(rt: &R, error: io::Error) -> Result<Exit, Failure> {
     Err(Failure::from(error))
 }
 
-// Reads the command line and carries it out, or shows clap's text.
+/// Reads the command line and carries it out, or shows clap's text.
 fn run<R: AllocGlobal + Env + Files + Input + Print + Eprint + Threads + Wait + Sync>(
     rt: &R,
 ) -> Result<Exit, Failure> {

@@ -21,7 +21,7 @@ use dc_margin::part_lines;
 use dc_tables::Tables;
 use std::alloc::{AllocError, Global};
 
-// Puts the lines of the margins of the first parts at the end, each after a line feed.
+/// Puts the lines of the margins of the first parts at the end, each after a line feed.
 fn append_first(
     tables: &Tables,
     certificate: &Certificate,
@@ -39,7 +39,7 @@ fn append_first(
     Ok(())
 }
 
-// Keeps the line of what stands in the way, and the lines of the margins of the parts that the finder reached.
+/// Keeps the line of what stands in the way, and the lines of the margins of the parts that the finder reached.
 fn judge_obstacle(
     alloc: Global,
     tables: &Tables,
@@ -61,8 +61,8 @@ fn judge_obstacle(
     }
 }
 
-// Finds the least certificate for tables, and keeps its verdict and the lines of its margins; where none is accepted,
-// what stands in the way, and the lines of what the finder reached.
+/// Finds the least certificate for tables, and keeps its verdict and the lines of its margins; where none is accepted,
+/// what stands in the way, and the lines of what the finder reached.
 fn judge_least(alloc: Global, tables: &Tables, text: &mut Vec<u8>) -> Result<Outcome, Failure>
     ensures answer { Judged (AnswersRows tables.now) text.new.items result }
     ensures memory { IfErr result (λ e. e ≡ Failure.Memory) }
@@ -73,7 +73,7 @@ fn judge_least(alloc: Global, tables: &Tables, text: &mut Vec<u8>) -> Result<Out
     }
 }
 
-// Judges the least certificate for the tables that a source gives.
+/// Judges the least certificate for the tables that a source gives.
 fn judge_alone<T: Source>(
     alloc: Global,
     tables: &mut T,

@@ -15,7 +15,7 @@ use dc_print::{Text, append, append_number};
 use dc_tables::Tables;
 use itoa::Buffer;
 
-// What is left of some blanks after so many.
+/// What is left of some blanks after so many.
 fn rest(blanks: &'static [u8], used: usize) -> &'static [u8]
     ensures blanks { result.now ≡ drop used blanks.now }
     ensures short { length result.now ≤ length blanks.now }
@@ -27,7 +27,7 @@ fn rest(blanks: &'static [u8], used: usize) -> &'static [u8]
     }
 }
 
-// The name of a part, with its blanks.
+/// The name of a part, with its blanks.
 fn part(part: CertificateList) -> &'static [u8]
     ensures text { result.now ≡ part_text part }
     ensures short { length result.now ≤ 7 }
@@ -39,7 +39,7 @@ fn part(part: CertificateList) -> &'static [u8]
     }
 }
 
-// The name of a bus, an output or a label.
+/// The name of a bus, an output or a label.
 fn name(tables: &Tables, part: CertificateList, index: usize) -> &[u8]
     requires { index < part_count tables.now part }
     ensures text { result.now ≡ member_name tables.now part index }
@@ -52,7 +52,7 @@ fn name(tables: &Tables, part: CertificateList, index: usize) -> &[u8]
     }
 }
 
-// Puts a name and its blanks at the end.
+/// Puts a name and its blanks at the end.
 fn append_name(text: &mut Text, name: &[u8])
     requires room { array_vec_len text.old ≤ 60 }
     requires short { length name.now ≤ NAME_LIMIT }
@@ -63,7 +63,7 @@ fn append_name(text: &mut Text, name: &[u8])
     append(text, rest(b"                ", name.len()));
 }
 
-// Puts a number, or what stands for it, at the end, with its blanks before it.
+/// Puts a number, or what stands for it, at the end, with its blanks before it.
 fn append_field(text: &mut Text, number: &[u8])
     requires room { array_vec_len text.old ≤ 60 }
     requires short { length number.now ≤ 20 }
@@ -74,7 +74,7 @@ fn append_field(text: &mut Text, number: &[u8])
     append(text, number);
 }
 
-// Puts the number of a margin at the end.
+/// Puts the number of a margin at the end.
 fn append_slack(text: &mut Text, margin: Option<Margin>)
     requires { array_vec_len text.old ≤ 60 }
     ensures items { text.new.items ≡ text.old.items ++ number_field (slack_text margin) }
@@ -93,7 +93,7 @@ fn append_slack(text: &mut Text, margin: Option<Margin>)
     }
 }
 
-// What a margin counts.
+/// What a margin counts.
 fn measure(measure: Measure) -> &'static [u8]
     ensures text { result.now ≡ measure_text measure }
     ensures short { length result.now ≤ 5 }
@@ -104,7 +104,7 @@ fn measure(measure: Measure) -> &'static [u8]
     }
 }
 
-// Puts what decides a margin at the end.
+/// Puts what decides a margin at the end.
 fn append_decider(text: &mut Text, tables: &Tables, decider: Decider)
     requires room { array_vec_len text.old + 34 ≤ TEXT_CAPACITY }
     requires there { IsDeciderThere tables.now decider }
@@ -127,7 +127,7 @@ fn append_decider(text: &mut Text, tables: &Tables, decider: Decider)
     }
 }
 
-// Puts what decides a margin at the end, where it is told.
+/// Puts what decides a margin at the end, where it is told.
 fn append_by(text: &mut Text, tables: &Tables, margin: Option<Margin>)
     requires room { array_vec_len text.old + 34 ≤ TEXT_CAPACITY }
     requires there { IfSome margin (λ m. IsDeciderThere tables.now m.decider) }

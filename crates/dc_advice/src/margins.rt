@@ -27,7 +27,7 @@ use dc_print::{Text, print_accepted, print_cert_fault, print_refused, print_tabl
 use dc_tables::Tables;
 use std::alloc::{AllocError, Global};
 
-// Puts the line of a margin at the end, after a line feed.
+/// Puts the line of a margin at the end, after a line feed.
 fn append_line(tables: &Tables, line: &MarginLine, text: &mut Vec<u8>) -> Result<(), AllocError>
     requires { IsLinePlaced tables.now line.now }
     ensures { IfOk result (λ _. text.new.items ≡ text.old.items ++ 10 ∷ margin_text tables.now line.now) }
@@ -53,7 +53,7 @@ pub(crate) fn append_lines(
     Ok(())
 }
 
-// Keeps a first line, and after it the lines of margins.
+/// Keeps a first line, and after it the lines of margins.
 fn keep_lines(
     tables: &Tables,
     line: &[u8],
@@ -68,7 +68,7 @@ fn keep_lines(
     append_lines(tables, lines, text)
 }
 
-// Prints a verdict: accepted, or this fault.
+/// Prints a verdict: accepted, or this fault.
 fn print_verdict(tables: &Tables, fault: Option<CheckFault>, line: &mut Text) -> Outcome
     requires { IfSome fault (λ f. IsPlaced tables.now f) }
     ensures line { line.new.items ≡ verdict_line tables.now fault }
@@ -86,7 +86,7 @@ fn print_verdict(tables: &Tables, fault: Option<CheckFault>, line: &mut Text) ->
     }
 }
 
-// Judges a certificate with other names than the tables', and keeps the verdict.
+/// Judges a certificate with other names than the tables', and keeps the verdict.
 fn judge_misnamed(
     tables: &Tables,
     certificate: &Certificate,
@@ -104,7 +104,7 @@ fn judge_misnamed(
     }
 }
 
-// Judges a certificate with the tables' names, and keeps the verdict and the lines of its margins.
+/// Judges a certificate with the tables' names, and keeps the verdict and the lines of its margins.
 fn judge_named(
     alloc: Global,
     tables: &Tables,
@@ -144,7 +144,7 @@ pub(crate) fn judge(
     }
 }
 
-// Keeps the line of a text that can't be read.
+/// Keeps the line of a text that can't be read.
 fn keep_unreadable(line: &[u8], text: &mut Vec<u8>) -> Result<Outcome, Failure>
     ensures kept { IfOk result (λ _. text.new.items ≡ line.now) }
     ensures outcome { IfOk result (λ o. o ≡ Outcome.Unreadable) }
@@ -157,7 +157,7 @@ fn keep_unreadable(line: &[u8], text: &mut Vec<u8>) -> Result<Outcome, Failure>
     }
 }
 
-// Judges the text of a certificate that a source gives.
+/// Judges the text of a certificate that a source gives.
 fn judge_source<C: Source>(
     alloc: Global,
     tables: &Tables,
@@ -181,7 +181,7 @@ fn judge_source<C: Source>(
     }
 }
 
-// Judges the texts of tables and of a certificate, the tables' first.
+/// Judges the texts of tables and of a certificate, the tables' first.
 fn judge_sources<T: Source, C: Source>(
     alloc: Global,
     tables: &mut T,

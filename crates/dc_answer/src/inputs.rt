@@ -23,7 +23,7 @@ pub enum Unloaded<F> {
     Failed(Failure),
 }
 
-// The text of a source within the limit of tables and certificates, or the fault of a longer one.
+/// The text of a source within the limit of tables and certificates, or the fault of a longer one.
 fn read_text<S: Source, F: Copy>(
     alloc: Global,
     source: &mut S,
@@ -43,7 +43,7 @@ fn read_text<S: Source, F: Copy>(
     }
 }
 
-// The tables of a text.
+/// The tables of a text.
 fn build(alloc: Global, text: &[u8]) -> Result<Tables, Unloaded<TableFault>>
     ensures tables { Loads (tables_of text.now) result }
     ensures count { failed_in result ≡ 0 }
@@ -78,7 +78,7 @@ pub fn load<S: Source>(alloc: Global, source: &mut S) -> Result<Tables, Unloaded
     }
 }
 
-// The certificate of a text.
+/// The certificate of a text.
 fn certificate_in(alloc: Global, text: &[u8]) -> Result<Certificate, Unloaded<Fault>>
     ensures certificate { LoadsCertificate (certificate_of text.now) result }
     ensures count { failed_in result ≡ 0 }

@@ -45,7 +45,7 @@ pub struct Findings {
     pub claims: Option<(Claim, usize)>,
 }
 
-// Judges a run.
+/// Judges a run.
 fn findings_of(
     alloc: Global,
     tables: &Tables,
@@ -64,7 +64,7 @@ fn findings_of(
     })
 }
 
-// Puts the line of the budgets or of the sources at the end.
+/// Puts the line of the budgets or of the sources at the end.
 fn append_holds(text: &mut Text, subject: &[u8], place: Option<usize>)
     requires { array_vec_len text.old + length subject.now + 30 ≤ TEXT_CAPACITY }
     ensures items { text.new.items ≡ text.old.items ++ holds_text subject.now place }
@@ -97,7 +97,7 @@ pub fn append_claims(text: &mut Text, failure: Option<(Claim, usize)>)
     }
 }
 
-// The lines of what was found.
+/// The lines of what was found.
 fn print_findings(text: &mut Text, found: Findings)
     ensures { text.new.items ++ 10 ∷ [] ≡ spelled (findings_lines found) }
 {
@@ -109,7 +109,7 @@ fn print_findings(text: &mut Text, found: Findings)
     append_claims(text, found.claims);
 }
 
-// What an audit ends with that found this.
+/// What an audit ends with that found this.
 fn outcome(found: Findings) -> Outcome
     ensures { result ≡ (answer_findings found).outcome }
 {
@@ -120,7 +120,7 @@ fn outcome(found: Findings) -> Outcome
     }
 }
 
-// Judges a run, and prints what was found.
+/// Judges a run, and prints what was found.
 fn audit_run(
     alloc: Global,
     tables: &Tables,
@@ -140,7 +140,7 @@ fn audit_run(
     }
 }
 
-// Judges the run of a trace.
+/// Judges the run of a trace.
 fn audit_trace<S: Source>(
     alloc: Global,
     tables: &Tables,
@@ -165,7 +165,7 @@ fn audit_trace<S: Source>(
     }
 }
 
-// Judges a certificate, and prints the verdict.
+/// Judges a certificate, and prints the verdict.
 fn judge(tables: &Tables, certificate: &Certificate, text: &mut Text) -> Outcome
     ensures { Judges tables.now (Ok (named_rows certificate.now)) text.new.items (Ok result) }
 {
@@ -183,7 +183,7 @@ fn judge(tables: &Tables, certificate: &Certificate, text: &mut Text) -> Outcome
     }
 }
 
-// Judges a certificate, and then the run of a trace.
+/// Judges a certificate, and then the run of a trace.
 fn audit_certificate<S: Source>(
     alloc: Global,
     tables: &Tables,
@@ -204,7 +204,7 @@ fn audit_certificate<S: Source>(
     }
 }
 
-// Judges the text of a certificate that a source gives, and then the run of a trace.
+/// Judges the text of a certificate that a source gives, and then the run of a trace.
 fn audit_source<C: Source, S: Source>(
     alloc: Global,
     tables: &Tables,
@@ -232,7 +232,7 @@ fn audit_source<C: Source, S: Source>(
     }
 }
 
-// Judges the texts of tables, of a certificate and of a trace, in this order.
+/// Judges the texts of tables, of a certificate and of a trace, in this order.
 fn audit_sources<T: Source, C: Source, S: Source>(
     alloc: Global,
     tables: &mut T,

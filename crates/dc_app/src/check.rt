@@ -23,7 +23,7 @@ use dc_tables::Tables;
 use std::alloc::Global;
 use std::sync::Arc;
 
-// Whether a certificate is accepted for tables, or its first fault.
+/// Whether a certificate is accepted for tables, or its first fault.
 fn verdict_for(tables: Arc<Tables>, certificate: Certificate) -> Result<(), CheckFault>
     ensures claims { IfOk result (λ _. KeepsItsClaims (arc_value tables) (named_rows certificate)) }
     ensures place { IfErr result (λ fault. IsPlaced (arc_value tables) fault) }
@@ -35,7 +35,7 @@ fn verdict_for(tables: Arc<Tables>, certificate: Certificate) -> Result<(), Chec
     }
 }
 
-// Judges a certificate, and prints the verdict; or memory was refused.
+/// Judges a certificate, and prints the verdict; or memory was refused.
 fn judge(
     tables: &Arc<Tables>,
     certificate: Certificate,
@@ -60,7 +60,7 @@ fn judge(
     }
 }
 
-// Judges the text of a certificate that a source gives.
+/// Judges the text of a certificate that a source gives.
 fn judge_source<C: Source>(
     alloc: Global,
     tables: &Arc<Tables>,
@@ -83,7 +83,7 @@ fn judge_source<C: Source>(
     }
 }
 
-// The same, for tables that were read.
+/// The same, for tables that were read.
 fn judge_for<C: Source>(
     alloc: Global,
     tables: Tables,
@@ -102,7 +102,7 @@ fn judge_for<C: Source>(
     }
 }
 
-// Judges the texts of tables and of a certificate, the tables' first.
+/// Judges the texts of tables and of a certificate, the tables' first.
 fn judge_sources<T: Source, C: Source>(
     alloc: Global,
     tables: &mut T,

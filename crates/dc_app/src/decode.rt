@@ -19,7 +19,7 @@ use dc_word::{Format, Word};
 /// centuries.
 const STREAM_LIMIT: u64 = 9_223_372_036_854_775_807;
 
-// Answers a text that ends after these bytes of a line.
+/// Answers a text that ends after these bytes of a line.
 fn end_inside<K: Sink>(
     line: &[u8],
     number: u64,
@@ -42,7 +42,7 @@ fn end_inside<K: Sink>(
     }
 }
 
-// Writes the line of a word.
+/// Writes the line of a word.
 fn write_word<K: Sink>(
     writer: &mut LineWriter,
     sink: &mut K,
@@ -64,7 +64,7 @@ fn write_word<K: Sink>(
     }
 }
 
-// Answers the text of a source, until one of the two fails.
+/// Answers the text of a source, until one of the two fails.
 fn answer<S: Source, K: Sink>(
     format: Format,
     source: &mut S,

@@ -37,7 +37,7 @@ pub fn keep(bytes: &[u8], outcome: Outcome, line: &mut Vec<u8>) -> Result<Outcom
     }
 }
 
-// Keeps the text of a certificate.
+/// Keeps the text of a certificate.
 fn keep_certificate(
     alloc: Global,
     certificate: &Certificate,
@@ -94,7 +94,7 @@ pub fn keep_unreadable(fault: TableFault, line: &mut Vec<u8>) -> Result<Outcome,
     keep(text.as_slice(), Outcome::Unreadable, line)
 }
 
-// Finds the least certificate for tables, and keeps the line.
+/// Finds the least certificate for tables, and keeps the line.
 fn judge(alloc: Global, tables: &Tables, line: &mut Vec<u8>) -> Result<Outcome, Failure>
     ensures answer { JudgesRows tables.now line.new.items result }
     ensures memory { IfErr result (λ e. e ≡ Failure.Memory) }
@@ -106,7 +106,7 @@ fn judge(alloc: Global, tables: &Tables, line: &mut Vec<u8>) -> Result<Outcome, 
     }
 }
 
-// Finds the least certificate for the tables that a source gives.
+/// Finds the least certificate for the tables that a source gives.
 fn judge_source<T: Source>(
     alloc: Global,
     tables: &mut T,

@@ -10,7 +10,7 @@ use dc_find::{FindFault, Obstacle, Queue};
 use dc_print::{Text, append, append_member};
 use dc_tables::Tables;
 
-// The line of what stands in the way at a bus, an output or a label.
+/// The line of what stands in the way at a bus, an output or a label.
 #[tactic(auto, unfolding(crate::specs::Find::refusal_text))]
 fn print_refusal(
     text: &mut Text,

@@ -28,7 +28,7 @@ use std::marker::Sync;
 use std::sync::{Arc, Wait};
 use std::thread::Threads;
 
-// The verdict on a certificate by so many workers.
+/// The verdict on a certificate by so many workers.
 fn verdict_by<R: Threads + Wait + Sync>(
     rt: &R,
     alloc: Global,
@@ -47,7 +47,7 @@ fn verdict_by<R: Threads + Wait + Sync>(
     }
 }
 
-// Judges a certificate by so many workers, and prints the verdict; or memory was refused.
+/// Judges a certificate by so many workers, and prints the verdict; or memory was refused.
 fn judge_by<R: Threads + Wait + Sync>(
     rt: &R,
     alloc: Global,
@@ -79,7 +79,7 @@ fn judge_by<R: Threads + Wait + Sync>(
     }
 }
 
-// The workers that judge, 1 to the most workers.
+/// The workers that judge, 1 to the most workers.
 #[derive(Clone, Copy, Debug, PartialEq, Eq)]
 struct Workers {
     count: u8,

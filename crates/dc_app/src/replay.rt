@@ -36,7 +36,7 @@ pub fn code_of(rule: LineRule) -> &'static [u8]
     rule.code().as_bytes()
 }
 
-// Pushes what waits, where the trace tells no more events.
+/// Pushes what waits, where the trace tells no more events.
 fn end_by<K: Sink>(
     stop: TraceStop,
     writer: &mut LineWriter,
@@ -62,7 +62,7 @@ fn end_by<K: Sink>(
     }
 }
 
-// Ends with the refusal of an event.
+/// Ends with the refusal of an event.
 fn end_refused<K: Sink>(
     tables: &Tables,
     refusal: Refusal,
@@ -85,7 +85,7 @@ fn end_refused<K: Sink>(
     }
 }
 
-// Ends with the first fault of the tables' text.
+/// Ends with the first fault of the tables' text.
 fn end_unloaded<K: Sink>(
     fault: TableFault,
     writer: &mut LineWriter,
@@ -106,7 +106,7 @@ fn end_unloaded<K: Sink>(
     }
 }
 
-// Writes the line of a step, if it is printed.
+/// Writes the line of a step, if it is printed.
 fn say<K: Sink>(
     writer: &mut LineWriter,
     sink: &mut K,
@@ -133,7 +133,7 @@ fn say<K: Sink>(
     }
 }
 
-// Answers a trace, until its source or the sink fails.
+/// Answers a trace, until its source or the sink fails.
 fn answer<S: Source, K: Sink>(
     tables: &Tables,
     progress: &mut Progress,
@@ -178,7 +178,7 @@ fn answer<S: Source, K: Sink>(
     }
 }
 
-// Answers a trace with the concentrator of these tables.
+/// Answers a trace with the concentrator of these tables.
 fn answer_on<S: Source, K: Sink>(
     alloc: Global,
     tables: Tables,
@@ -219,7 +219,7 @@ fn answer_on<S: Source, K: Sink>(
     answer(&tables, &mut progress, all, trace, writer, sink)
 }
 
-// Answers the texts of tables and a trace, until something fails.
+/// Answers the texts of tables and a trace, until something fails.
 fn replay<T: Source, S: Source, K: Sink>(
     alloc: Global,
     all: bool,

@@ -14,7 +14,7 @@ use dc_print::{Text, append, append_number, hex_8};
 use dc_tables::Tables;
 use dc_word::Word;
 
-// The text of a bus's name.
+/// The text of a bus's name.
 fn bus_text(tables: &Tables, bus: usize) -> &[u8]
     ensures text { result.now ≡ name_at tables.now.names.buses bus }
     ensures short { length result.now ≤ NAME_LIMIT }
@@ -27,7 +27,7 @@ fn bus_text(tables: &Tables, bus: usize) -> &[u8]
     }
 }
 
-// The text of a router's name.
+/// The text of a router's name.
 fn router_text(tables: &Tables, router: usize) -> &[u8]
     ensures text { result.now ≡ name_at tables.now.names.routers router }
     ensures short { length result.now ≤ NAME_LIMIT }
@@ -40,7 +40,7 @@ fn router_text(tables: &Tables, router: usize) -> &[u8]
     }
 }
 
-// The text of an output's name.
+/// The text of an output's name.
 fn output_text(tables: &Tables, output: usize) -> &[u8]
     ensures text { result.now ≡ name_at tables.now.names.outputs output }
     ensures short { length result.now ≤ NAME_LIMIT }
@@ -53,7 +53,7 @@ fn output_text(tables: &Tables, output: usize) -> &[u8]
     }
 }
 
-// Puts words and an ARINC word at the end.
+/// Puts words and an ARINC word at the end.
 fn append_word(text: &mut Text, words: &[u8], word: Word)
     requires { array_vec_len text.old + length words.now + 8 ≤ TEXT_CAPACITY }
     ensures { text.new.items ≡ text.old.items ++ words.now ++ eight_hex word }
@@ -62,7 +62,7 @@ fn append_word(text: &mut Text, words: &[u8], word: Word)
     append(text, &hex_8(word.bits()));
 }
 
-// Puts an arrival's reply at the end.
+/// Puts an arrival's reply at the end.
 fn append_arrival(text: &mut Text, word: Word, reply: Reply)
     requires { array_vec_len text.old + 30 ≤ TEXT_CAPACITY }
     ensures { text.new.items ≡ text.old.items ++ arrival_text word reply }
@@ -81,7 +81,7 @@ fn append_arrival(text: &mut Text, word: Word, reply: Reply)
     }
 }
 
-// Puts a routing step's reply at the end.
+/// Puts a routing step's reply at the end.
 fn append_routing(text: &mut Text, tables: &Tables, reply: Reply)
     requires { array_vec_len text.old + 40 ≤ TEXT_CAPACITY }
     ensures { text.new.items ≡ text.old.items ++ routing_text tables.now reply }
@@ -100,7 +100,7 @@ fn append_routing(text: &mut Text, tables: &Tables, reply: Reply)
     }
 }
 
-// Puts a send's reply at the end.
+/// Puts a send's reply at the end.
 fn append_sending(text: &mut Text, reply: Reply)
     requires { array_vec_len text.old + 30 ≤ TEXT_CAPACITY }
     ensures { text.new.items ≡ text.old.items ++ sending_text reply }
@@ -140,7 +140,7 @@ pub fn print_step(text: &mut Text, tables: &Tables, step: Step)
     }
 }
 
-// Whether a reply is printed where not all are.
+/// Whether a reply is printed where not all are.
 fn is_reported(reply: Reply) -> bool
     ensures { result ≡ is_reported_reply reply }
 {
@@ -158,7 +158,7 @@ pub fn is_printed(all: bool, reply: Reply) -> bool
     all || is_reported(reply)
 }
 
-// The text of an actor's name.
+/// The text of an actor's name.
 fn actor_text(tables: &Tables, actor: Actor) -> &[u8]
     ensures text { result.now ≡ actor_name tables.now actor }
     ensures short { length result.now ≤ NAME_LIMIT }
@@ -170,7 +170,7 @@ fn actor_text(tables: &Tables, actor: Actor) -> &[u8]
     }
 }
 
-// Puts the actor that an event was refused for at the end.
+/// Puts the actor that an event was refused for at the end.
 fn append_culprit(text: &mut Text, tables: &Tables, event: Event, fault: StepFault)
     requires { array_vec_len text.old + 20 ≤ TEXT_CAPACITY }
     ensures items { text.new.items ≡ text.old.items ++ culprit_text tables.now fault event }
@@ -193,7 +193,7 @@ fn append_culprit(text: &mut Text, tables: &Tables, event: Event, fault: StepFau
     }
 }
 
-// Puts why an event was refused at the end.
+/// Puts why an event was refused at the end.
 fn append_cause(text: &mut Text, tables: &Tables, event: Event, fault: StepFault)
     requires { array_vec_len text.old + 30 ≤ TEXT_CAPACITY }
     ensures items { text.new.items ≡ text.old.items ++ cause_text tables.now fault event }

@@ -42,7 +42,7 @@ pub struct Refusal {
     pub number: u64,
 }
 
-// The tick after an event.
+/// The tick after an event.
 fn tick_behind(tick: u64, event: &Event) -> u64
     requires { tick + 1 < 2 ^ 64 }
     ensures { result ≡ tick + ends event.now }

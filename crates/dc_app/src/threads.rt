@@ -55,7 +55,7 @@ pub trait Judge {
         ensures memory { IfOk result (λ judged. IfErr judged (λ e. e ≡ Failure.Memory)) };
 }
 
-// Judges the text of a certificate that a source gives.
+/// Judges the text of a certificate that a source gives.
 fn judge_source<J: Judge, C: Source, R: Threads + Wait + Sync>(
     rt: &R,
     alloc: Global,
@@ -81,7 +81,7 @@ fn judge_source<J: Judge, C: Source, R: Threads + Wait + Sync>(
     }
 }
 
-// The same, for tables that the threads are to share.
+/// The same, for tables that the threads are to share.
 fn judge_for<J: Judge, C: Source, R: Threads + Wait + Sync>(
     rt: &R,
     alloc: Global,
@@ -103,7 +103,7 @@ fn judge_for<J: Judge, C: Source, R: Threads + Wait + Sync>(
     }
 }
 
-// Judges the texts of tables and of a certificate, the tables' first.
+/// Judges the texts of tables and of a certificate, the tables' first.
 fn judge_sources<J: Judge, T: Source, C: Source, R: Threads + Wait + Sync>(
     rt: &R,
     alloc: Global,
@@ -134,7 +134,7 @@ fn judge_sources<J: Judge, T: Source, C: Source, R: Threads + Wait + Sync>(
     }
 }
 
-// Writes that a thread could not be started.
+/// Writes that a thread could not be started.
 fn end_without_thread<K: Sink>(writer: &mut LineWriter, sink: &mut K) -> Exit
     requires new { writer.old ≡ [] }
     requires sink { CanFail (K.state sink.old) }

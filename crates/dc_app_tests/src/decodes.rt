@@ -7,7 +7,7 @@ use std::alloc::Global;
 use std::rt::HostRuntime;
 use std::test::Fail;
 
-// What `decode` writes for a text in pieces, where a pull and a push fail, and its status.
+/// What `decode` writes for a text in pieces, where a pull and a push fail, and its status.
 fn decoded(
     alloc: Global,
     format: Format,

@@ -13,6 +13,7 @@ use std::test::Fail;
 /// A word of label 204.
 const OF_204: Word = Word(0xE000_0021);
 
+/// The name that a text spells.
 fn name(text: &str) -> Result<Name, Fail> {
     Ok(Name::new(text.as_bytes()).ok_or("no name")?)
 }

@@ -8,7 +8,7 @@ use dc_bound::{
 };
 use std::process::Abort;
 
-// The caps at some tick counts, through the bound.
+/// The caps at some tick counts, through the bound.
 fn assert_caps<A: ArrivalBound>(rt: &impl Abort, bound: &A, rows: &[(u32, u64)]) {
     for (ticks, cap) in rows {
         assert!(rt; *ticks <= 1_000_000);
@@ -16,7 +16,7 @@ fn assert_caps<A: ArrivalBound>(rt: &impl Abort, bound: &A, rows: &[(u32, u64)])
     }
 }
 
-// The jumps after some tick counts, through the bound.
+/// The jumps after some tick counts, through the bound.
 fn assert_jumps<A: ArrivalBound>(rt: &impl Abort, bound: &A, rows: &[(u32, Option<u32>)]) {
     for (ticks, jump) in rows {
         assert!(rt; *ticks <= 1_000_000);
@@ -26,7 +26,7 @@ fn assert_jumps<A: ArrivalBound>(rt: &impl Abort, bound: &A, rows: &[(u32, Optio
     }
 }
 
-// The floors at some tick counts, through the floor.
+/// The floors at some tick counts, through the floor.
 fn assert_floors<S: ServiceBound>(rt: &impl Abort, service: &S, rows: &[(u32, u64)]) {
     for (ticks, floor) in rows {
         assert!(rt; *ticks <= 1_000_000);
@@ -290,7 +290,7 @@ fn widest_sum_of_the_longest_window(rt: HostRuntime) {
     assert_jumps(&rt, &sum, &[(999_999, Some(1_000_000)), (1_000_000, None)]);
 }
 
-// Offsets 0, 1, 2, .. of a frame.
+/// Offsets 0, 1, 2, .. of a frame.
 fn each_tick(offsets: &mut [u32])
     requires { length offsets.old ≤ 1024 }
     ensures len { length offsets.new ≡ length offsets.old }

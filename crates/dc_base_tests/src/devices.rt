@@ -55,7 +55,7 @@ fn a_reader_and_a_writer_of_std_are_devices(rt: HostRuntime) -> Result<(), Fail>
     Ok(())
 }
 
-// Copies the lines of a text, each marked, until it ends.
+/// Copies the lines of a text, each marked, until it ends.
 fn copy(alloc: Global, text: &[u8], piece: usize, limit: u64) -> Result<MemSink, Fail> {
     let mut source = MemSource::new(text, piece.max(1), 0);
     let mut sink = MemSink::new(alloc, 1000, 0)?;
@@ -101,7 +101,7 @@ fn lines_are_read_and_written_in_pieces_of_any_size(rt: HostRuntime) -> Result<(
     Ok(())
 }
 
-// How long the next line is, which is read where it stands.
+/// How long the next line is, which is read where it stands.
 fn held_length(reader: &mut LineReader) -> Option<usize> {
     let Some(line) = reader.held_line() else {
         return None;
@@ -144,12 +144,12 @@ fn a_text_is_read_whole_up_to_its_limit(rt: HostRuntime) -> Result<(), Fail> {
     Ok(())
 }
 
-// A sink that takes one byte at a push.
+/// A sink that takes one byte at a push.
 #[derive(Drop)]
 struct DripSink(MemSink);
 
 impl DripSink {
-    // Room for 100 bytes. The push of number `fails_at`, from 1 on, fails; for 0 none does.
+    /// Room for 100 bytes. The push of number `fails_at`, from 1 on, fails; for 0 none does.
     fn new(alloc: Global, fails_at: u64) -> Result<Self, AllocError> {
         Ok(DripSink(MemSink::new(alloc, 100, fails_at)?))
     }
@@ -318,7 +318,7 @@ fn a_flush_fails_at_its_number(rt: HostRuntime) -> Result<(), Fail> {
     Ok(())
 }
 
-// A reader whose read of this number fails, and that gives one byte at each of the first five others.
+/// A reader whose read of this number fails, and that gives one byte at each of the first five others.
 #[derive(Drop)]
 struct Stumbling {
     reads: u8,
@@ -353,7 +353,7 @@ fn a_reader_that_fails_once_is_asked_no_more(rt: HostRuntime) {
     }
 }
 
-// A writer that keeps what it takes until it is flushed, and tells how often that was and how many bytes have gone on.
+/// A writer that keeps what it takes until it is flushed, and tells how often that was and how many bytes have gone on.
 #[derive(Drop)]
 struct Keeping<'a> {
     kept: u64,

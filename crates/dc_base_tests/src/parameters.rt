@@ -33,6 +33,7 @@ fn intervals_lean_to_the_safe_side(rt: HostRuntime) -> Result<(), Fail> {
     Ok(())
 }
 
+/// The parameter of label 203 with this interval, in microseconds.
 fn parameter(min_us: u32, max_us: u32) -> Option<Parameter> {
     Some(Parameter {
         label: Label::new(0o203)?,

@@ -12,7 +12,7 @@ use dc_busy::{
 };
 use std::cell::Cell;
 
-// A bound that counts the calls of its cap.
+/// A bound that counts the calls of its cap.
 #[derive(Drop)]
 struct Counted<'a, A: ArrivalBound> {
     inner: &'a A,
@@ -123,7 +123,7 @@ fn least_numbers_are_found_by_jumps_alone(rt: HostRuntime) {
     assert!(rt; counted.calls.get() <= 30_015);
 }
 
-// In Visit, In, In, Tick, Visit, Tick, Visit the first visit finds nothing, and each later one takes one word.
+/// In Visit, In, In, Tick, Visit, Tick, Visit the first visit finds nothing, and each later one takes one word.
 fn second_in_waits()
     ensures first { routed_tick 4 0 (Visit ∷ In (0, 0) ∷ In (1, 0) ∷ Tick ∷ Visit ∷ Tick ∷ Visit ∷ []) ≡ 1 }
     ensures second { routed_tick 4 1 (Visit ∷ In (0, 0) ∷ In (1, 0) ∷ Tick ∷ Visit ∷ Tick ∷ Visit ∷ []) ≡ 2 }

@@ -25,7 +25,7 @@ use std::marker::Sync;
 use std::sync::{Arc, Wait};
 use std::thread::Threads;
 
-// Judges a certificate, and where it is accepted runs a hub.
+/// Judges a certificate, and where it is accepted runs a hub.
 fn bench_certificate<R: Threads + Wait + Sync>(
     rt: &R,
     alloc: Global,
@@ -50,7 +50,7 @@ fn bench_certificate<R: Threads + Wait + Sync>(
     }
 }
 
-// A bench, and for how many ticks, 1 to `LONGEST_SCRIPT`, its hub is to run.
+/// A bench, and for how many ticks, 1 to `LONGEST_SCRIPT`, its hub is to run.
 #[derive(Clone, Copy, Debug, PartialEq, Eq)]
 struct Bench {
     ticks: u16,

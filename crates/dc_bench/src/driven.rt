@@ -49,7 +49,7 @@ pub struct Seen {
     pub claims: Option<(Claim, usize)>,
 }
 
-// The events of entries.
+/// The events of entries.
 fn events_of(alloc: Global, entries: &[Entry]) -> Result<Vec<Event>, AllocError>
     ensures { IfOk result (λ events. events.items ≡ events_in entries.now) }
 {
@@ -60,7 +60,7 @@ fn events_of(alloc: Global, entries: &[Entry]) -> Result<Vec<Event>, AllocError>
     Ok(events)
 }
 
-// What is seen of a book.
+/// What is seen of a book.
 fn seen_of(alloc: Global, ticks: u64, closed: &Closed) -> Result<Seen, AllocError>
     requires fits { length closed.now.entries ≤ LONGEST_TRACE }
     requires driven { IsDriven (tables_of closed.now.certified) (bench_script (tables_of closed.now.certified) ticks) (events_in closed.now.entries) }
@@ -83,7 +83,7 @@ fn seen_of(alloc: Global, ticks: u64, closed: &Closed) -> Result<Seen, AllocErro
     })
 }
 
-// Puts a line of a count at the end.
+/// Puts a line of a count at the end.
 fn append_count(text: &mut Text, subject: &[u8], count: u64)
     requires { array_vec_len text.old + length subject.now + 21 ≤ TEXT_CAPACITY }
     ensures items { text.new.items ≡ text.old.items ++ (count_text subject.now count ++ 10 ∷ []) }
@@ -94,7 +94,7 @@ fn append_count(text: &mut Text, subject: &[u8], count: u64)
     append(text, b"\n");
 }
 
-// The lines of what was seen.
+/// The lines of what was seen.
 fn print_seen(text: &mut Text, seen: Seen)
     ensures { text.new.items ++ 10 ∷ [] ≡ spelled (seen_lines seen) }
 {
@@ -105,7 +105,7 @@ fn print_seen(text: &mut Text, seen: Seen)
     append_claims(text, seen.claims);
 }
 
-// What ends a bench with what was seen.
+/// What ends a bench with what was seen.
 fn outcome_of(seen: Seen) -> Outcome
     ensures { result ≡ (answer_seen seen).outcome }
 {
@@ -116,7 +116,7 @@ fn outcome_of(seen: Seen) -> Outcome
     }
 }
 
-// Prints what is seen of a book.
+/// Prints what is seen of a book.
 fn judge_book(
     alloc: Global,
     ticks: u64,
@@ -137,7 +137,7 @@ fn judge_book(
     }
 }
 
-// Prints that the hub refused: a call, or to close.
+/// Prints that the hub refused: a call, or to close.
 fn refuse_hub<L: Charter>(ticks: u64, text: &mut Text) -> Outcome
     requires { IfSome L.certified (λ c. HasRefused c ticks) }
     ensures answer { IfSome L.certified (λ c. Judged (AnswersRun c ticks) text.new.items (Ok result)) }
@@ -148,7 +148,7 @@ fn refuse_hub<L: Charter>(ticks: u64, text: &mut Text) -> Outcome
     Outcome::Refused
 }
 
-// Closes a hub, and prints what is seen of its book.
+/// Closes a hub, and prints what is seen of its book.
 fn close_hub<L: Charter>(
     alloc: Global,
     ticks: u64,
@@ -167,7 +167,7 @@ fn close_hub<L: Charter>(
     }
 }
 
-// What a call of the hub that was refused, or a seat that went astray, ends with.
+/// What a call of the hub that was refused, or a seat that went astray, ends with.
 fn end_of_call<L: Charter>(fault: HubFault, ticks: u64, text: &mut Text) -> Result<Outcome, Failure>
     requires limit { L.limit ≡ LONGEST_TRACE }
     requires halts { Refused fault ≢ Refused Astray → HaltsAs L.certified L.limit ⊥ (Refused fault) }
@@ -183,7 +183,7 @@ fn end_of_call<L: Charter>(fault: HubFault, ticks: u64, text: &mut Text) -> Resu
     }
 }
 
-// What a drive that was not answered Ok ends with.
+/// What a drive that was not answered Ok ends with.
 fn end_of<L: Charter>(
     fault: DriveFault,
     ticks: u64,
@@ -204,7 +204,7 @@ fn end_of<L: Charter>(
     }
 }
 
-// Drives a hub and closes it.
+/// Drives a hub and closes it.
 fn drive_hub<L: Charter + Send + Sync, R: Threads + Wait + Sync>(
     rt: &R,
     alloc: Global,
@@ -229,7 +229,7 @@ fn drive_hub<L: Charter + Send + Sync, R: Threads + Wait + Sync>(
     }
 }
 
-// Opens a hub, drives it and closes it.
+/// Opens a hub, drives it and closes it.
 fn run_hub<L: Charter + Send + Sync, R: Threads + Wait + Sync>(
     rt: &R,
     alloc: Global,

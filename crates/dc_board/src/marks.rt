@@ -134,6 +134,7 @@ impl Board {
     }
 }
 
+/// The marks of so many words, of which none is noted.
 fn zeros(all: &[u64], count: usize) -> &[u64]
     requires all { all.now ≡ replicate 65 0 }
     requires count { count ≤ 65 }

@@ -1,3 +1,5 @@
+//! What a clause sees of a seat of a board.
+
 use std::collections::LinkedList;
 
 /// What a seat knows. It stands in contracts alone.

@@ -13,7 +13,7 @@ ghost use Rattle.dc_bound.specs.declared.limits.TheConstants.{GREATEST_CAP, LONG
 
 use crate::limits::LONGEST_SPAN;
 
-// A number of ticks that stands for no jump.
+/// A number of ticks that stands for no jump.
 const NO_JUMP: u32 = LONGEST_SPAN + 1;
 
 /// What may come at most in any so many consecutive ticks.
@@ -284,7 +284,7 @@ pub(crate) fn jump_at(ticks: u64) -> Option<u32>
     }
 }
 
-// The earlier of a jump that is kept as a number and another.
+/// The earlier of a jump that is kept as a number and another.
 fn earlier(kept: u32, other: Option<u32>) -> u32
     requires { IfSome other (λ j. j ≤ LONGEST_SPAN) }
     ensures { (jump : Option ℕ) → IsKept kept jump → IsKept result (earlier_jump jump other) }

@@ -68,7 +68,7 @@ impl<'a> ArrivalBound for Cyclic<'a> {
     ghost allows_prefix = { λ x xs ys h. due_prefix x.frame x.offsets.now xs ys h };
 }
 
-// The tick at which entry number n, of the first two frames, is due.
+/// The tick at which entry number n, of the first two frames, is due.
 fn due_of(frame: u32, offsets: &[u32], n: usize) -> u64
     requires { n < 2 * length offsets.now }
     ensures { result ≡ due frame offsets.now n }
@@ -81,7 +81,7 @@ fn due_of(frame: u32, offsets: &[u32], n: usize) -> u64
     }
 }
 
-// The greatest number of entries that are due in so many ticks, at most a frame.
+/// The greatest number of entries that are due in so many ticks, at most a frame.
 fn most_in_part(frame: u32, offsets: &[u32], ticks: u32) -> u64
     requires framed { Offsets frame offsets.now }
     requires short { ticks ≤ frame }
@@ -97,7 +97,7 @@ fn most_in_part(frame: u32, offsets: &[u32], ticks: u32) -> u64
     best as u64
 }
 
-// The least span of k + 1 neighbouring entries: whole frames, and the part of the last.
+/// The least span of k + 1 neighbouring entries: whole frames, and the part of the last.
 fn least_span(frame: u32, offsets: &[u32], k: usize) -> u64
     requires framed { Offsets frame offsets.now }
     requires few { length offsets.now ≤ MOST_OFFSETS }
@@ -110,7 +110,7 @@ fn least_span(frame: u32, offsets: &[u32], k: usize) -> u64
     rounds as u64 * frame as u64 + least_span_in_part(frame, offsets, rest)
 }
 
-// The least span of k + 1 neighbouring entries, at most a frame's.
+/// The least span of k + 1 neighbouring entries, at most a frame's.
 fn least_span_in_part(frame: u32, offsets: &[u32], k: usize) -> u64
     requires framed { Offsets frame offsets.now }
     requires few { length offsets.now ≤ MOST_OFFSETS }

@@ -111,7 +111,7 @@ impl<'a> ServiceBound for Visits<'a> {
     ghost floor_holds = { λ x whole ts u d h k. in_turn_holds x.visits.now x.bus x.some x.pace.steps x.pace.within whole ts h u d k };
 }
 
-// The place of step n, of the first two rounds, in a list of so many places.
+/// The place of step n, of the first two rounds, in a list of so many places.
 fn place_of(n: usize, len: usize) -> usize
     requires { n < 2 * len }
     ensures { result ≡ n % len }
@@ -119,7 +119,7 @@ fn place_of(n: usize, len: usize) -> usize
     if n < len { n } else { n - len }
 }
 
-// 1 where step n, of the first two rounds through the list, visits the bus, else 0.
+/// 1 where step n, of the first two rounds through the list, visits the bus, else 0.
 fn visit(visits: &[usize], bus: usize, n: usize) -> u64
     requires { n < 2 * length visits.now }
     ensures value { result ≡ is_at visits.now bus (n % length visits.now) }
@@ -132,7 +132,7 @@ fn visit(visits: &[usize], bus: usize, n: usize) -> u64
     }
 }
 
-// How many of the first k steps visit the bus.
+/// How many of the first k steps visit the bus.
 #[tactic(auto, unfolding(crate::specs::Rounds::among))]
 fn visits_in_front(visits: &[usize], bus: usize, k: usize) -> u64
     requires few { length visits.now ≤ MOST_PLACES }
@@ -147,7 +147,7 @@ fn visits_in_front(visits: &[usize], bus: usize, k: usize) -> u64
     count
 }
 
-// The fewest visits of the bus among so many steps: whole rounds, and the part of the last.
+/// The fewest visits of the bus among so many steps: whole rounds, and the part of the last.
 fn fewest(visits: &[usize], bus: usize, steps: u64) -> u64
     requires some { 1 ≤ length visits.now }
     requires few { length visits.now ≤ MOST_PLACES }
@@ -162,7 +162,7 @@ fn fewest(visits: &[usize], bus: usize, steps: u64) -> u64
     rounds * round + least
 }
 
-// The fewest visits of the bus among less steps than the list has: a window of so many steps slides along it.
+/// The fewest visits of the bus among less steps than the list has: a window of so many steps slides along it.
 fn fewest_in_part(visits: &[usize], bus: usize, rest: usize) -> u64
     requires some { 1 ≤ length visits.now }
     requires few { length visits.now ≤ MOST_PLACES }

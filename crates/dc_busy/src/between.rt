@@ -41,7 +41,7 @@ pub fn failures_between<A: ArrivalBound, S: ServiceBound>(
     (overfull, overdue)
 }
 
-// What was found before, else this number of ticks where the count is above the limit.
+/// What was found before, else this number of ticks where the count is above the limit.
 fn found_or_above(found: Option<u32>, ticks: u32, count: u64, limit: u64) -> Option<u32>
     ensures { MatchOption found (MatchOption result (count ≤ limit) (λ w. (w ≡ ticks) × (limit < count))) (λ w. result ≡ Some w) }
 {

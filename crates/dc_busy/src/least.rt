@@ -76,7 +76,7 @@ pub fn least_window<A: ArrivalBound, S: ServiceBound>(arrivals: &A, service: &S)
     None
 }
 
-// The same as `least_ticks`, in one look where `from` ticks are enough.
+/// The same as `least_ticks`, in one look where `from` ticks are enough.
 fn first_served<S: ServiceBound>(service: &S, count: u64, from: u32, to: u32) -> Option<u32>
     requires order { from ≤ to }
     requires far { to ≤ LONGEST_SPAN }
@@ -88,8 +88,8 @@ fn first_served<S: ServiceBound>(service: &S, count: u64, from: u32, to: u32) ->
     least_ticks(service, count, from, to)
 }
 
-// The least number of ticks from `from` to `to`, at most the longest span, that hold at least `count` visits; `None`
-// where there is none.
+/// The least number of ticks from `from` to `to`, at most the longest span, that hold at least `count` visits; `None`
+/// where there is none.
 fn least_ticks<S: ServiceBound>(service: &S, count: u64, from: u32, to: u32) -> Option<u32>
     requires order { from ≤ to }
     requires far { to ≤ LONGEST_SPAN }

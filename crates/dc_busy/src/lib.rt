@@ -19,8 +19,8 @@ use dc_bound::{ArrivalBound, ServiceBound};
 pub use least::{least_delay, least_window, most_backlog};
 pub use limits::LONGEST_WINDOW;
 
-/// Whether a window closes: as many visits in its ticks but the first as may come in all of them. `window` is 1 to
-/// [`LONGEST_WINDOW`].
+/// Whether a window closes: at least as many visits in its ticks but the first as may come in all of them. `window` is
+/// 1 to [`LONGEST_WINDOW`].
 pub fn closes<A: ArrivalBound, S: ServiceBound>(arrivals: &A, service: &S, window: u32) -> bool
     requires least { 1 ≤ window }
     requires most { window ≤ LONGEST_WINDOW }

@@ -40,7 +40,7 @@ pub const SHORT_TEXT: usize = 64;
 /// A short text, as bytes.
 pub type ShortText = ArrayVec<u8, SHORT_TEXT>;
 
-// Puts bytes at the end.
+/// Puts bytes at the end.
 fn append(text: &mut ShortText, bytes: &[u8])
     requires { array_vec_len text.old + length bytes.now ≤ SHORT_TEXT }
     ensures items { text.new.items ≡ text.old.items ++ bytes.now }
@@ -99,7 +99,7 @@ impl fmt::Display for TextPlace {
     }
 }
 
-// Puts the name of a list and an index at the end.
+/// Puts the name of a list and an index at the end.
 fn append_index(text: &mut ShortText, list: &[u8], index: usize)
     requires { (array_vec_len text.old ≤ 10) × (length list.now ≤ 10) }
     ensures { text.new.items ≡ text.old.items ++ list.now ++ decimal index }

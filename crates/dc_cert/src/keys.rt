@@ -15,7 +15,7 @@ use serde_json::{Map, Value};
 /// The members of an object.
 pub type Members = Map<String, Value>;
 
-// The greatest number: those of the program's rows have 32 bits.
+/// The greatest number: those of the program's rows have 32 bits.
 const GREATEST_NUMBER: u64 = 4_294_967_295;
 
 /// The members of a value that is an object.
@@ -28,7 +28,7 @@ pub fn object(value: &Value, place: TextPlace) -> Result<&Members, Fault>
     }
 }
 
-// The value at a key.
+/// The value at a key.
 fn find<'a>(members: &'a Members, key: &str) -> Option<&'a Value>
     ensures { option_map (λ v. view v.now) result
         ≡ get_member key.now (members_view members.now.entries) }
@@ -36,7 +36,7 @@ fn find<'a>(members: &'a Members, key: &str) -> Option<&'a Value>
     members.get(key)
 }
 
-// Whether the key is one of these.
+/// Whether the key is one of these.
 fn is_among(key: &str, keys: &[&str]) -> bool
     ensures { result ≡ list_any (same_key key.now) (map (λ k. k.now) keys.now) }
 {
@@ -48,7 +48,7 @@ fn is_among(key: &str, keys: &[&str]) -> bool
     false
 }
 
-// Whether each key of the object is one of these.
+/// Whether each key of the object is one of these.
 fn only_known(members: &Members, keys: &[&str]) -> bool
     ensures { result
         ≡ only_keys (map (λ k. k.now) keys.now) (members_view members.now.entries) }
@@ -61,7 +61,7 @@ fn only_known(members: &Members, keys: &[&str]) -> bool
     true
 }
 
-// Whether each of these keys is in the object.
+/// Whether each of these keys is in the object.
 fn all_present(members: &Members, keys: &[&str]) -> bool
     ensures { result
         ≡ all_keys (map (λ k. k.now) keys.now) (members_view members.now.entries) }
@@ -88,7 +88,7 @@ pub fn shape(members: &Members, keys: &[&str], place: TextPlace) -> Result<(), F
     Ok(())
 }
 
-// The whole number at a key that is not negative and fits 64 bits.
+/// The whole number at a key that is not negative and fits 64 bits.
 fn whole(members: &Members, key: &str) -> Option<u64>
     ensures { result ≡ option_and_then as_u64
         (option_and_then as_number (get_member key.now (members_view members.now.entries))) }
@@ -120,7 +120,7 @@ pub fn number(members: &Members, key: &str, place: TextPlace) -> Result<u32, Fau
     Ok(n as u32)
 }
 
-// The name that a text is.
+/// The name that a text is.
 fn spelled(text: &str, place: TextPlace) -> Result<Name, Fault>
     ensures { seen text_of result ≡ name_in place (Some text.now) }
 {
@@ -140,7 +140,7 @@ pub fn name(members: &Members, key: &str, place: TextPlace) -> Result<Name, Faul
     spelled(text, place)
 }
 
-// The members of the list at a key.
+/// The members of the list at a key.
 fn array<'a>(members: &'a Members, key: &str) -> Option<&'a [Value]>
     ensures { option_map (λ v. items_view v.now) result
         ≡ option_and_then as_array (get_member key.now (members_view members.now.entries)) }

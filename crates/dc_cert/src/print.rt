@@ -12,7 +12,7 @@ use crate::row::Row;
 use serde_json::{Value, json};
 use std::alloc::{AllocError, Global};
 
-// The JSON list that rows are, in order.
+/// The JSON list that rows are, in order.
 fn array<R: Row>(alloc: Global, rows: &[R]) -> Result<Value, AllocError>
     ensures value { IfOk result
         (λ v. view v ≡ json_array (items_of (map R.printed (map R.claim rows.now)))) }
@@ -25,7 +25,7 @@ fn array<R: Row>(alloc: Global, rows: &[R]) -> Result<Value, AllocError>
     Ok(Value::Array(values))
 }
 
-// The JSON value that a certificate is.
+/// The JSON value that a certificate is.
 fn certificate_value(alloc: Global, certificate: &Certificate) -> Result<Value, AllocError>
     ensures value { IfOk result (λ v. view v ≡ claims_data (named_rows certificate.now)) }
     ensures fits { IfOk result (λ _. ClaimsFit (named_rows certificate.now)) }

@@ -16,7 +16,7 @@ use std::alloc::Global;
 /// The longest list of a certificate's text, in members: this project's own number.
 pub const LIST_LIMIT: usize = 1024;
 
-// The rows of a list, in order.
+/// The rows of a list, in order.
 fn rows<R: Row>(alloc: Global, values: &[Value]) -> Result<Vec<R>, CertFault>
     ensures { Gives (λ v. map R.claim v.items) result (rows_of R.claim_of 0 (items_view values.now)) }
 {
@@ -33,7 +33,7 @@ fn rows<R: Row>(alloc: Global, values: &[Value]) -> Result<Vec<R>, CertFault>
     Ok(rows)
 }
 
-// The certificate that a JSON value is.
+/// The certificate that a JSON value is.
 #[tactic(auto, unfolding(crate::specs::Reading::claims_in))]
 fn certificate(alloc: Global, value: &Value) -> Result<Certificate, CertFault>
     ensures { Gives named_rows result (claims_in (view value.now)) }
@@ -55,7 +55,7 @@ fn certificate(alloc: Global, value: &Value) -> Result<Certificate, CertFault>
     })
 }
 
-// The JSON value that a text is.
+/// The JSON value that a text is.
 #[tactic(auto, unfolding(crate::specs::Reading::document_of))]
 fn document(alloc: Global, text: &[u8]) -> Result<Value, CertFault>
     ensures { Gives view result (document_of text.now) }

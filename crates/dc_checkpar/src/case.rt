@@ -65,14 +65,14 @@ impl<'a, R: Threads + Sync> Jobs for Case<'a, R> {
     }
 }
 
-// Whether a window is long, and neither it nor the delay is out of range.
+/// Whether a window is long, and neither it nor the delay is out of range.
 fn is_long(window: u32, delay: u32) -> bool
     ensures { result ≡ true → (1 ≤ window) × (window ≤ LONGEST_WINDOW) × (delay ≤ LONGEST_WINDOW) }
 {
     LONG < window && window <= LONGEST_WINDOW && delay <= LONGEST_WINDOW
 }
 
-// Whether a window is to be searched in pieces.
+/// Whether a window is to be searched in pieces.
 fn is_for_pieces(in_pieces: bool, window: u32, delay: u32) -> bool
     ensures { result ≡ true → (1 ≤ window) × (window ≤ LONGEST_WINDOW) × (delay ≤ LONGEST_WINDOW) }
 {
@@ -95,7 +95,7 @@ pub(crate) fn long_count(certificate: &Certificate) -> usize {
     count
 }
 
-// The first fault of a job, whose long windows several threads may search.
+/// The first fault of a job, whose long windows several threads may search.
 fn case_fault<R: Threads + Sync>(
     rt: &R,
     in_pieces: bool,
@@ -135,7 +135,7 @@ fn case_fault<R: Threads + Sync>(
     job_fault(tables, certificate, job)
 }
 
-// The first fault of an input, given the bounds of its bus.
+/// The first fault of an input, given the bounds of its bus.
 fn input_fault<A: ArrivalBound + Sync, S: ServiceBound + Sync, R: Threads + Sync>(
     rt: &R,
     in_pieces: bool,
@@ -167,7 +167,7 @@ fn input_fault<A: ArrivalBound + Sync, S: ServiceBound + Sync, R: Threads + Sync
     job_fault_given(tables, certificate, bus, overfull, overdue)
 }
 
-// The first fault of an output, given its bounds.
+/// The first fault of an output, given its bounds.
 fn output_fault<A: ArrivalBound + Sync, S: ServiceBound + Sync, R: Threads + Sync>(
     rt: &R,
     in_pieces: bool,

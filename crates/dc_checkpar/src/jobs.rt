@@ -17,9 +17,11 @@ pub(crate) trait Jobs: Sync {
     // the fault of each
     ghost verdict: { Self → ℕ → Option CheckFault };
 
+    /// How many jobs there are.
     fn len(&self) -> usize
         ensures { result ≡ jobs self.now };
 
+    /// The fault of the job of this number, if it has one.
     fn fault(&self, job: usize) -> Option<CheckFault>
         requires ask { may_ask self.now }
         requires there { job < jobs self.now }

@@ -53,7 +53,7 @@ pub(crate) fn first_failures<A: ArrivalBound + Sync, S: ServiceBound + Sync>(
         )
 }
 
-// What is found in a piece of the window.
+/// What is found in a piece of the window.
 fn piece_failures<A: ArrivalBound, S: ServiceBound>(
     arrivals: &A,
     service: &S,

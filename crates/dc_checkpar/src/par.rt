@@ -55,7 +55,7 @@ pub fn check_par<G: Gate, R: Threads + Wait + Sync>(
     }
 }
 
-// The verdict, by so many workers.
+/// The verdict, by so many workers.
 fn verdict_by<G: Gate, R: Threads + Wait + Sync>(
     rt: &R,
     alloc: Global,
@@ -81,7 +81,7 @@ fn verdict_by<G: Gate, R: Threads + Wait + Sync>(
     }
 }
 
-// What a halt is to the caller.
+/// What a halt is to the caller.
 fn fault_of(halt: Halt) -> ParFault
     ensures { result ≡ halt_fault halt }
 {

@@ -22,7 +22,7 @@ use std::thread::{PromisedHandle, Scope, Threads};
 
 type Child<J, G> = PromisedHandle<Report, IsRight<J, G>>;
 
-// Starts a worker. Where no thread can be made, all workers stop.
+/// Starts a worker. Where no thread can be made, all workers stop.
 fn start<'s, E, J: Jobs + 's, G: Gate + 's>(
     scope: &Scope<'s, E>,
     alloc: Global,
@@ -56,7 +56,7 @@ fn start<'s, E, J: Jobs + 's, G: Gate + 's>(
     Ok(child)
 }
 
-// Starts so many workers, each with a drawer of its own.
+/// Starts so many workers, each with a drawer of its own.
 fn start_all<'s, E, J: Jobs + 's, G: Gate + 's>(
     scope: &Scope<'s, E>,
     alloc: Global,
@@ -86,7 +86,7 @@ fn start_all<'s, E, J: Jobs + 's, G: Gate + 's>(
     Ok(())
 }
 
-// Puts what was judged beside its jobs.
+/// Puts what was judged beside its jobs.
 fn note(known: &mut Vec<Option<Option<CheckFault>>>, judged: &Vec<Judged>)
     ensures known { (verdict : ℕ → Option CheckFault) → AreJudged verdict judged.now.items → AreKnown verdict known.old.items → AreKnown verdict known.new.items }
 {
@@ -98,7 +98,7 @@ fn note(known: &mut Vec<Option<Option<CheckFault>>>, judged: &Vec<Judged>)
     }
 }
 
-// Joins the workers, and puts what they judged beside its jobs.
+/// Joins the workers, and puts what they judged beside its jobs.
 fn join_all<J: Jobs, G: Gate, R: Threads>(
     rt: &R,
     jobs: &J,
@@ -124,20 +124,21 @@ fn join_all<J: Jobs, G: Gate, R: Threads>(
     end
 }
 
+/// Why the one or the other worker gave up, the first where both did.
 fn first_halt(one: Result<(), Halt>, other: Result<(), Halt>) -> Result<(), Halt>
     ensures { (result ≡ one) ⊎ (result ≡ other) }
 {
     if one.is_err() { one } else { other }
 }
 
-// What is known of each job, and whether a worker gave up.
+/// What is known of each job, and whether a worker gave up.
 #[derive(Drop)]
 struct Found {
     known: Vec<Option<Option<CheckFault>>>,
     end: Result<(), Halt>,
 }
 
-// Starts the other workers, works with them, and joins them.
+/// Starts the other workers, works with them, and joins them.
 fn work_together<'s, E, J: Jobs + 's, G: Gate + 's, R: Threads>(
     scope: &Scope<'s, E>,
     rt: &R,
@@ -180,7 +181,7 @@ fn work_together<'s, E, J: Jobs + 's, G: Gate + 's, R: Threads>(
     }
 }
 
-// The same in a scope of threads.
+/// The same in a scope of threads.
 fn in_threads<J: Jobs, G: Gate, R: Threads + Wait + Sync>(
     rt: &R,
     alloc: Global,
@@ -221,7 +222,7 @@ fn in_threads<J: Jobs, G: Gate, R: Threads + Wait + Sync>(
     )
 }
 
-// A list of jobs of which nothing is known.
+/// A list of jobs of which nothing is known.
 fn unknown(alloc: Global, count: usize) -> Result<Vec<Option<Option<CheckFault>>>, AllocError>
     ensures { (verdict : ℕ → Option CheckFault) → IfOk result (λ v. AreKnown verdict v.items) }
 {
@@ -232,7 +233,7 @@ fn unknown(alloc: Global, count: usize) -> Result<Vec<Option<Option<CheckFault>>
     Ok(known)
 }
 
-// The fault of a job, judged now if no result names it.
+/// The fault of a job, judged now if no result names it.
 fn fault_at<J: Jobs, G: Gate>(
     jobs: &J,
     gate: &G,
@@ -251,7 +252,7 @@ fn fault_at<J: Jobs, G: Gate>(
     judge(jobs, gate, job)
 }
 
-// The first fault, from what is known.
+/// The first fault, from what is known.
 fn decide<J: Jobs, G: Gate>(
     jobs: &J,
     gate: &G,

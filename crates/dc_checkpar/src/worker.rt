@@ -86,7 +86,7 @@ pub(crate) fn work<J: Jobs, G: Gate>(
     Report { judged, end }
 }
 
-// Judges what it draws, until none is left or it has to stop.
+/// Judges what it draws, until none is left or it has to stop.
 fn judge_all<J: Jobs, G: Gate>(
     jobs: &J,
     gate: &G,

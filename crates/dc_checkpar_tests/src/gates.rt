@@ -20,6 +20,7 @@ const JOBS: u64 = 66;
 /// What a check says: the number of inputs of what is certified, or the fault.
 type Answer = Result<usize, ParFault>;
 
+/// Tables of 64 equal buses, and with what they need 66 jobs.
 fn tables(alloc: Global) -> Result<Tables, Fail> {
     let mut text = String::new(alloc);
     push_equal_tables(&mut text, 64, false)?;

@@ -69,11 +69,11 @@ pub enum Order<'a> {
     },
 }
 
-// A text says no number that is in its range.
+/// A text says no number that is in its range.
 #[derive(Clone, Copy, Debug, PartialEq, Eq)]
 struct OutOfRange;
 
-// The number of workers that a text says.
+/// The number of workers that a text says.
 fn count_of(text: &str) -> Result<u8, OutOfRange>
     ensures { MatchResult result (λ n. IsCount text.now n) (λ _. IsNoCount text.now) }
 {
@@ -83,7 +83,7 @@ fn count_of(text: &str) -> Result<u8, OutOfRange>
     }
 }
 
-// The number of ticks that a text says.
+/// The number of ticks that a text says.
 fn tick_count_of(text: &str) -> Result<u16, OutOfRange>
     ensures { MatchResult result (λ n. IsTickCount text.now n) (λ _. IsNoTickCount text.now) }
 {
@@ -93,7 +93,7 @@ fn tick_count_of(text: &str) -> Result<u16, OutOfRange>
     }
 }
 
-// The number of ticks that the matches of `bench` say, `USUAL_TICKS` where they say none.
+/// The number of ticks that the matches of `bench` say, `USUAL_TICKS` where they say none.
 fn ticks_in(matches: &ArgMatches<'_>) -> Result<u16, OutOfRange>
     ensures { MatchResult result (TicksAre (first_value (found_of matches.now) (codes "ticks"))) (λ _. IfSome (first_value (found_of matches.now) (codes "ticks")) IsNoTickCount) }
 {
@@ -103,7 +103,7 @@ fn ticks_in(matches: &ArgMatches<'_>) -> Result<u16, OutOfRange>
     }
 }
 
-// The number of workers that the matches of `check` say.
+/// The number of workers that the matches of `check` say.
 fn workers_in(matches: &ArgMatches<'_>) -> Result<Option<u8>, OutOfRange>
     ensures { MatchResult result (AreGiven (first_value (found_of matches.now) (codes "workers"))) (λ _. IfSome (first_value (found_of matches.now) (codes "workers")) IsNoCount) }
 {
@@ -116,7 +116,7 @@ fn workers_in(matches: &ArgMatches<'_>) -> Result<Option<u8>, OutOfRange>
     }
 }
 
-// What the matches of `decode` ask.
+/// What the matches of `decode` ask.
 fn decode_in<'a>(matches: &ArgMatches<'a>) -> Option<Order<'a>>
     ensures { IfSome result (AsksBy (codes "decode") (rows_of (found_of matches.now))) }
 {
@@ -128,7 +128,7 @@ fn decode_in<'a>(matches: &ArgMatches<'a>) -> Option<Order<'a>>
     }
 }
 
-// What the matches of `check` ask.
+/// What the matches of `check` ask.
 fn check_in<'a>(matches: &ArgMatches<'a>) -> Option<Order<'a>>
     ensures { IfSome result (AsksBy (codes "check") (rows_of (found_of matches.now))) }
 {
@@ -144,7 +144,7 @@ fn check_in<'a>(matches: &ArgMatches<'a>) -> Option<Order<'a>>
     }
 }
 
-// What the matches of `find` ask.
+/// What the matches of `find` ask.
 fn find_in<'a>(matches: &ArgMatches<'a>) -> Option<Order<'a>>
     ensures { IfSome result (AsksBy (codes "find") (rows_of (found_of matches.now))) }
 {
@@ -152,7 +152,7 @@ fn find_in<'a>(matches: &ArgMatches<'a>) -> Option<Order<'a>>
     Some(Order::Find { tables })
 }
 
-// What the matches of `report` ask.
+/// What the matches of `report` ask.
 fn report_in<'a>(matches: &ArgMatches<'a>) -> Option<Order<'a>>
     ensures { IfSome result (AsksBy (codes "report") (rows_of (found_of matches.now))) }
 {
@@ -164,7 +164,7 @@ fn report_in<'a>(matches: &ArgMatches<'a>) -> Option<Order<'a>>
     })
 }
 
-// What the matches of `margins` ask.
+/// What the matches of `margins` ask.
 fn margins_in<'a>(matches: &ArgMatches<'a>) -> Option<Order<'a>>
     ensures { IfSome result (AsksBy (codes "margins") (rows_of (found_of matches.now))) }
 {
@@ -176,7 +176,7 @@ fn margins_in<'a>(matches: &ArgMatches<'a>) -> Option<Order<'a>>
     })
 }
 
-// What the matches of `replay` ask.
+/// What the matches of `replay` ask.
 fn replay_in<'a>(matches: &ArgMatches<'a>) -> Option<Order<'a>>
     ensures { IfSome result (AsksBy (codes "replay") (rows_of (found_of matches.now))) }
 {
@@ -185,7 +185,7 @@ fn replay_in<'a>(matches: &ArgMatches<'a>) -> Option<Order<'a>>
     Some(Order::Replay { tables, all })
 }
 
-// What the matches of `audit` ask.
+/// What the matches of `audit` ask.
 fn audit_in<'a>(matches: &ArgMatches<'a>) -> Option<Order<'a>>
     ensures { IfSome result (AsksBy (codes "audit") (rows_of (found_of matches.now))) }
 {
@@ -197,7 +197,7 @@ fn audit_in<'a>(matches: &ArgMatches<'a>) -> Option<Order<'a>>
     })
 }
 
-// What the matches of `bench` ask.
+/// What the matches of `bench` ask.
 fn bench_in<'a>(matches: &ArgMatches<'a>) -> Option<Order<'a>>
     ensures { IfSome result (AsksBy (codes "bench") (rows_of (found_of matches.now))) }
 {
@@ -213,7 +213,7 @@ fn bench_in<'a>(matches: &ArgMatches<'a>) -> Option<Order<'a>>
     }
 }
 
-// What the matches of a command of this name ask, where they have what is required.
+/// What the matches of a command of this name ask, where they have what is required.
 fn order_by<'a>(name: &str, matches: &ArgMatches<'a>) -> Option<Order<'a>>
     ensures { IfSome result (AsksBy name.now (rows_of (found_of matches.now))) }
 {
@@ -230,7 +230,7 @@ fn order_by<'a>(name: &str, matches: &ArgMatches<'a>) -> Option<Order<'a>>
     }
 }
 
-// What the matches of the program ask.
+/// What the matches of the program ask.
 fn order_in<'a>(matches: &ArgMatches<'a>) -> Option<Order<'a>>
     ensures { IfSome result (Asks (subcommand_rows_of matches.now)) }
 {

@@ -7,7 +7,7 @@ use crate::limits::{MOST_TICKS, MOST_WORKERS};
 use clap::{Arg, ArgAction, Command, Error, value_parser};
 use std::alloc::Global;
 
-// A file that is read.
+/// A file that is read.
 fn file<'a>(alloc: Global, name: &'a str, help: &'a str) -> Arg<'a>
     ensures rule { rule_of result ≡ file_rule name.entry.now }
     ensures local { result.global ≡ false }
@@ -15,7 +15,7 @@ fn file<'a>(alloc: Global, name: &'a str, help: &'a str) -> Arg<'a>
     Arg::new(alloc, name).help(help).required(true)
 }
 
-// A subcommand that reads tables.
+/// A subcommand that reads tables.
 fn on_tables<'a>(alloc: Global, name: &'a str, about: &'a str) -> Result<Command<'a>, Error>
     ensures { IfOk result (IsRead (tables_app name.entry.now)) }
 {
@@ -26,14 +26,14 @@ fn on_tables<'a>(alloc: Global, name: &'a str, about: &'a str) -> Result<Command
     )
 }
 
-// A subcommand that reads tables and a certificate.
+/// A subcommand that reads tables and a certificate.
 fn on_certificate<'a>(alloc: Global, name: &'a str, about: &'a str) -> Result<Command<'a>, Error>
     ensures { IfOk result (IsRead (certificate_app name.entry.now)) }
 {
     Ok(on_tables(alloc, name, about)?.arg(file(alloc, "CERT", "The certificate, in JSON"))?)
 }
 
-// A subcommand that reads tables, and a certificate where one is given.
+/// A subcommand that reads tables, and a certificate where one is given.
 fn on_some_certificate<'a>(
     alloc: Global,
     name: &'a str,
@@ -47,6 +47,7 @@ fn on_some_certificate<'a>(
     Ok(on_tables(alloc, name, about)?.arg(certificate)?)
 }
 
+/// The command `decode`.
 fn decode<'a>(alloc: Global) -> Result<Command<'a>, Error>
     ensures { IfOk result IsDecode }
 {
@@ -61,6 +62,7 @@ fn decode<'a>(alloc: Global) -> Result<Command<'a>, Error>
     )
 }
 
+/// The command `check`.
 fn check<'a>(alloc: Global) -> Result<Command<'a>, Error>
     ensures { IfOk result (IsRead check_app) }
 {
@@ -77,6 +79,7 @@ fn check<'a>(alloc: Global) -> Result<Command<'a>, Error>
     Ok(check.arg(workers)?)
 }
 
+/// The command `find`.
 fn find<'a>(alloc: Global) -> Result<Command<'a>, Error>
     ensures { IfOk result (IsRead (tables_app (codes "find"))) }
 {
@@ -87,6 +90,7 @@ fn find<'a>(alloc: Global) -> Result<Command<'a>, Error>
     )
 }
 
+/// The command `report`.
 fn report<'a>(alloc: Global) -> Result<Command<'a>, Error>
     ensures { IfOk result (IsRead (optional_app (codes "report"))) }
 {
@@ -97,6 +101,7 @@ fn report<'a>(alloc: Global) -> Result<Command<'a>, Error>
     )
 }
 
+/// The command `margins`.
 fn margins<'a>(alloc: Global) -> Result<Command<'a>, Error>
     ensures { IfOk result (IsRead (optional_app (codes "margins"))) }
 {
@@ -107,6 +112,7 @@ fn margins<'a>(alloc: Global) -> Result<Command<'a>, Error>
     )
 }
 
+/// The command `replay`.
 fn replay<'a>(alloc: Global) -> Result<Command<'a>, Error>
     ensures { IfOk result (IsRead replay_app) }
 {
@@ -122,6 +128,7 @@ fn replay<'a>(alloc: Global) -> Result<Command<'a>, Error>
     Ok(replay.arg(all)?)
 }
 
+/// The command `audit`.
 fn audit<'a>(alloc: Global) -> Result<Command<'a>, Error>
     ensures { IfOk result (IsRead (certificate_app (codes "audit"))) }
 {
@@ -132,6 +139,7 @@ fn audit<'a>(alloc: Global) -> Result<Command<'a>, Error>
     )
 }
 
+/// The command `bench`.
 fn bench<'a>(alloc: Global) -> Result<Command<'a>, Error>
     ensures { IfOk result (IsRead bench_app) }
 {
@@ -148,7 +156,7 @@ fn bench<'a>(alloc: Global) -> Result<Command<'a>, Error>
     Ok(bench.arg(ticks)?)
 }
 
-// The program without its commands.
+/// The program without its commands.
 fn bare<'a>(alloc: Global) -> Command<'a>
     ensures { IsRead bare_app result }
 {

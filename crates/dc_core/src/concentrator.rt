@@ -1,3 +1,5 @@
+//! The concentrator: the tables and the state.
+
 ghost use Rattle.std.specs.Prelude.{◌≡◌, [], List, IfOk, OnErr};
 ghost use Rattle.std.specs.Arc.{arc_value};
 ghost use Rattle.dc_core.specs.Steps.{IsSized};

@@ -1,3 +1,5 @@
+//! The state, and what each kind of event makes of it.
+
 ghost use Rattle.std.specs.Prelude.{◌≡◌, ℕ, ◌+◌, ◌<◌, ◌≤◌, ◌^◌, [], ◌∷◌, ◌++◌, length, List, OnErr, slice_index_or, MatchOption, EachIndex, IfOk, true, false};
 ghost use Rattle.dc_core.specs.Standing.{refuses_now, paces_after};
 ghost use Rattle.dc_event.specs.Replies.{reply};

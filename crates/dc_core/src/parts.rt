@@ -1,3 +1,5 @@
+//! The state of one bus, one router, one output.
+
 ghost use Rattle.std.specs.Prelude.{◌≡◌, ℕ, ◌+◌, ◌<◌, ◌^◌, length, Bool, true, cond, nat_lt, Option, Some, None, slice_get, slice_set};
 ghost use Rattle.dc_queue.specs.WindowData.{WindowData, added};
 ghost use Rattle.dc_route.specs.Routing.{next_bus, queue_at, rest_of, routed};

@@ -1,3 +1,5 @@
+//! The state before any event.
+
 ghost use Rattle.std.specs.Prelude.{◌≡◌, ℕ, ◌<◌, [], length, IfOk, None, false};
 ghost use Rattle.dc_route.specs.Routing.{no_queue};
 ghost use Rattle.dc_core.specs.Fresh.{fresh_queue, fresh_router, fresh_output, AllMade};

@@ -40,7 +40,7 @@ pub struct LineReader {
     room: u64,
 }
 
-// Where the first line feed is among the first bytes, one more than the longest line has.
+/// Where the first line feed is among the first bytes, one more than the longest line has.
 fn first_feed(bytes: &[u8]) -> Option<usize>
     ensures { MatchOption result (NoFeed (take (LINE_LIMIT + 1) bytes.now))
         (λ i. (i < length bytes.now) × (i ≤ LINE_LIMIT) × NoFeed (take i bytes.now) × (drop i bytes.now ≡ 10 ∷ drop (i + 1) bytes.now)) }
@@ -80,7 +80,7 @@ impl LineReader {
         }
     }
 
-    // The next byte of those that are held.
+    /// The next byte of those that are held.
     fn held_byte(&mut self) -> Option<u8>
         ensures bytes { MatchOption result ((self.old.bytes ≡ []) × (self.new.bytes ≡ []))
             (λ b. self.old.bytes ≡ b ∷ self.new.bytes) }

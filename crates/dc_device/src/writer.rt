@@ -24,8 +24,8 @@ impl Model for LineWriter {
     ghost view = { λ w. w.waiting.items };
 }
 
-// Pushes all the bytes, by as many pushes as it takes. It is called once a block: kept apart, so that `put` stays
-// small.
+/// Pushes all the bytes, by as many pushes as it takes. It is called once a block: kept apart, so that `put` stays
+/// small.
 #[inline(never)]
 fn push_all<K: Sink>(sink: &mut K, bytes: &[u8]) -> Result<(), Broken>
     requires { CanFail (K.state sink.old) }
@@ -75,14 +75,14 @@ impl LineWriter {
         sink.flush()
     }
 
-    // Puts the bytes after those that wait, where there is room, and says whether there was.
+    /// Puts the bytes after those that wait, where there is room, and says whether there was.
     fn hold(&mut self, bytes: &[u8]) -> bool
         ensures { MatchBool result (self.new ≡ self.old ++ bytes.now) (self.new ≡ self.old) }
     {
         self.waiting.try_extend_from_slice(bytes).is_ok()
     }
 
-    // Puts the bytes after those that wait, which first go out where there is no room. It is called twice a line.
+    /// Puts the bytes after those that wait, which first go out where there is no room. It is called twice a line.
     #[inline]
     fn put<K: Sink>(&mut self, sink: &mut K, bytes: &[u8]) -> Result<(), Broken>
         requires { CanFail (K.state sink.old) }

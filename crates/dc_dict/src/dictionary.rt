@@ -1,3 +1,5 @@
+//! The dictionary: parameters by label and equipment code.
+
 ghost use Rattle.std.specs.Prelude.{◌≡◌, ◌<◌, [], ◌∷◌, ◌++◌, length, slice_get, option_copied, OnOk, OnErr, IsOkUnless, MatchOption, Some, IsTrue, ◌↔◌};
 ghost use Rattle.dc_dict.specs.Rows.{row_of, refusal_of, AreUnique};
 

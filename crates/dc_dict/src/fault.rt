@@ -1,3 +1,5 @@
+//! The dictionary's faults.
+
 ghost use Rattle.std.specs.Prelude.{◌≡◌};
 ghost use Rattle.dc_dict.specs.Fault.{code_of};
 

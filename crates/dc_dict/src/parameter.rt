@@ -1,3 +1,5 @@
+//! A parameter and its equipment code.
+
 ghost use Rattle.std.specs.Prelude.{◌≡◌, ℕ, ◌<◌, ◌↔◌, IsSome, IfSome};
 ghost use Rattle.dc_dict.specs.declared.parameter.TheConstants.{EQUIPMENT_CODES};
 

@@ -1,3 +1,5 @@
+//! Intervals in ticks, made from microseconds.
+
 ghost use Rattle.std.specs.Prelude.{◌≡◌, ◌+◌, ◌*◌, ◌<◌, ◌≤◌, IfOk};
 ghost use Rattle.dc_dict.specs.Ticks.{in_minimum, in_maximum, jitter_ticks, out_minimum, out_maximum, in_interval, out_interval};
 

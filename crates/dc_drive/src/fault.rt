@@ -1,3 +1,5 @@
+//! A drive's faults.
+
 use dc_hub::HubFault;
 
 /// Why a drive was not answered Ok. Of several, which is answered is open. What a stuck gate, a refused call and

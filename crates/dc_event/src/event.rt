@@ -1,3 +1,5 @@
+//! Events, their actors, replies and claims.
+
 ghost use Rattle.std.specs.Prelude.{◌≡◌};
 ghost use Rattle.dc_event.specs.ClaimNumber.{claim_number};
 

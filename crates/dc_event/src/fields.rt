@@ -4,7 +4,7 @@ ghost use Rattle.dc_event.specs.TraceText.{fields_of};
 
 use std::marker::Model;
 
-// Where the first space of a text is.
+/// Where the first space of a text is.
 fn first_space(text: &[u8]) -> Option<usize>
     ensures { MatchOption result (fields_of text.now ≡ text.now ∷ [])
         (λ i. (i < length text.now) × (fields_of text.now ≡ take i text.now ∷ fields_of (drop (i + 1) text.now))) }

@@ -26,14 +26,14 @@ pub fn read_word(text: &[u8]) -> Option<Word>
     Some(Word(n))
 }
 
-// Whether a field is this letter.
+/// Whether a field is this letter.
 fn is_letter(field: &[u8], letter: u8) -> bool
     ensures { result ≡ bytes_eq field.now (letter ∷ []) }
 {
     field == [letter].as_slice()
 }
 
-// The number of the bus that a text names.
+/// The number of the bus that a text names.
 fn bus_named(tables: &Tables, text: &[u8]) -> Option<usize>
     ensures { result ≡ number_named tables.now.names.buses text.now }
 {
@@ -41,7 +41,7 @@ fn bus_named(tables: &Tables, text: &[u8]) -> Option<usize>
     tables.bus_named(&name)
 }
 
-// The number of the router that a text names.
+/// The number of the router that a text names.
 fn router_named(tables: &Tables, text: &[u8]) -> Option<usize>
     ensures { result ≡ number_named tables.now.names.routers text.now }
 {
@@ -49,7 +49,7 @@ fn router_named(tables: &Tables, text: &[u8]) -> Option<usize>
     tables.router_named(&name)
 }
 
-// The number of the output that a text names.
+/// The number of the output that a text names.
 fn output_named(tables: &Tables, text: &[u8]) -> Option<usize>
     ensures { result ≡ number_named tables.now.names.outputs text.now }
 {
@@ -57,7 +57,7 @@ fn output_named(tables: &Tables, text: &[u8]) -> Option<usize>
     tables.output_named(&name)
 }
 
-// After A: a bus and a word.
+/// After A: a bus and a word.
 fn read_arrive(tables: &Tables, fields: &mut Fields) -> Result<Event, LineRule>
     ensures { result ≡ arrive_fields tables.now fields.old }
 {
@@ -79,7 +79,7 @@ fn read_arrive(tables: &Tables, fields: &mut Fields) -> Result<Event, LineRule>
     Ok(Event::Arrive(word, bus))
 }
 
-// After R: a router.
+/// After R: a router.
 fn read_route(tables: &Tables, fields: &mut Fields) -> Result<Event, LineRule>
     ensures { result ≡ route_fields tables.now fields.old }
 {
@@ -95,7 +95,7 @@ fn read_route(tables: &Tables, fields: &mut Fields) -> Result<Event, LineRule>
     Ok(Event::Route(router))
 }
 
-// After S: an output.
+/// After S: an output.
 fn read_send(tables: &Tables, fields: &mut Fields) -> Result<Event, LineRule>
     ensures { result ≡ send_fields tables.now fields.old }
 {
@@ -111,7 +111,7 @@ fn read_send(tables: &Tables, fields: &mut Fields) -> Result<Event, LineRule>
     Ok(Event::Send(output))
 }
 
-// After T: nothing.
+/// After T: nothing.
 fn read_tick(fields: &mut Fields) -> Result<Event, LineRule>
     ensures { result ≡ tick_fields fields.old }
 {

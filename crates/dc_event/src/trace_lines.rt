@@ -12,14 +12,14 @@ use dc_device::{Line, LineEnd, LineReader, LineWriter, Sink, Source};
 use dc_tables::Tables;
 use std::marker::Model;
 
-// A reader stops at this fault of a line.
+/// A reader stops at this fault of a line.
 fn fault(rule: LineRule, line: u64) -> TraceStop
     ensures { result ≡ TraceStop.Fault (record { rule = rule; line = line }) }
 {
     TraceStop::Fault(TraceFault { rule, line })
 }
 
-// A text ended after these bytes of a line.
+/// A text ended after these bytes of a line.
 fn end_inside(line: &[u8], number: u64) -> TraceStop
     ensures { result ≡ stop_behind number line.now }
 {
@@ -29,8 +29,8 @@ fn end_inside(line: &[u8], number: u64) -> TraceStop
     }
 }
 
-// The event of the next line, or its fault, as far as the held bytes go. A line is read where it stands if all of it is
-// held; else its bytes are gathered.
+/// The event of the next line, or its fault, as far as the held bytes go. A line is read where it stands if all of it
+/// is held; else its bytes are gathered.
 #[inline(always)]
 fn read_next(
     tables: &Tables,

@@ -30,7 +30,7 @@ impl<'t, S: Source + Drop> Model for TraceReader<'t, S> {
     ghost view = { λ r. record { lines = r.lines; coming = (S.state r.source).remaining; failed = (S.state r.source).failed; asked = (S.state r.source).asked; dry = (S.state r.source).dry } };
 }
 
-// Pulls for a reader whose owner writes nothing.
+/// Pulls for a reader whose owner writes nothing.
 fn pull_unwatched<S: Source>(lines: &mut TraceLines, source: &mut S)
     requires read { lines.old.held ≡ [] }
     requires runs { lines.old.stopped ≡ None }

@@ -42,6 +42,7 @@ pub(crate) fn named_output_row(tables: &Tables, output: usize, times: Times) -> 
     }
 }
 
+/// The least row of a bus, or what stands first in its way.
 fn input_row(tables: &Tables, bus: usize) -> Result<InputRow, FindFault>
     requires { bus < length tables.now.buses }
     ensures row { IfOk result (λ row. IsInputRow tables.now bus (named_input row)) }
@@ -56,6 +57,7 @@ fn input_row(tables: &Tables, bus: usize) -> Result<InputRow, FindFault>
     Ok(named_input_row(tables, bus, numbers))
 }
 
+/// The least row of an output, or what stands first in its way.
 fn output_row(tables: &Tables, output: usize) -> Result<OutputRow, FindFault>
     requires { output < length tables.now.outputs }
     ensures row { IfOk result (λ row. IsOutputRow tables.now output (named_output row)) }
@@ -87,6 +89,7 @@ fn least_age(tables: &Tables, inputs: &[InputRow], label: usize) -> u32
     row.stale + delay
 }
 
+/// The least row of a label, for the delays of these inputs.
 fn label_row(tables: &Tables, inputs: &[InputRow], label: usize) -> LabelRow
     requires there { label < length tables.now.labels }
     requires inputs { HaveShortDelays tables.now (map named_input inputs.now) }

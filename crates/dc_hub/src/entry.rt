@@ -1,3 +1,5 @@
+//! The entries of a book, and receipts.
+
 ghost use Rattle.std.specs.Prelude.{◌≡◌, ◌≢◌, true, false};
 ghost use Rattle.dc_hub.specs.Closing.{receipt_at};
 ghost use Rattle.dc_hub.specs.Entries.{entry};

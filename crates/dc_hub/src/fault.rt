@@ -1,3 +1,5 @@
+//! The hub's faults.
+
 use dc_core::StepFault;
 
 /// Why a hub can not be opened.

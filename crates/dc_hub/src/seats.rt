@@ -1,3 +1,5 @@
+//! The seats of a hub, together.
+
 use crate::charter::Charter;
 use crate::seat::{ClockSeat, OutputSeat, RouterSeat, Watch, WireSeat};
 

@@ -33,12 +33,14 @@ pub fn label_margins(tables: &Tables, certificate: &Certificate, label: usize) -
     }
 }
 
+/// The margin of C11: the label's age limit less the age, in ticks.
 fn age_limit_margin(limit: u32, age: u32) -> Margin
     ensures { result ≡ age_limit_margin_of limit age }
 {
     of_numbers(i64::from(limit) - i64::from(age))
 }
 
+/// A margin that a gap of the frame decides.
 fn gap_margin(slack: i64, gap: u64) -> Margin
     ensures { result ≡ margin_by slack (Gap gap) }
 {
@@ -48,6 +50,7 @@ fn gap_margin(slack: i64, gap: u64) -> Margin
     }
 }
 
+/// A margin that a source decides.
 fn source_margin(slack: i64, source: usize) -> Margin
     ensures { result ≡ margin_by slack (Source source) }
 {
@@ -57,6 +60,7 @@ fn source_margin(slack: i64, source: usize) -> Margin
     }
 }
 
+/// The margin of C08: the least gap less the least interval and the delay, in ticks.
 fn soon_margin(tables: &Tables, label: usize, delay: u32) -> Option<Margin>
     requires { label < length tables.now.labels }
     ensures { result ≡ told (is_delay delay) (soon_margin_of (least_label_gap (schedule_of tables.now (label_row tables.now label).output) label) (label_row tables.now label).minimum delay) }
@@ -72,6 +76,7 @@ fn soon_margin(tables: &Tables, label: usize, delay: u32) -> Option<Margin>
     Some(gap_margin(difference(gap, wanted), gap))
 }
 
+/// The margin of C09: the greatest interval less the greatest gap and the delay, in ticks.
 fn late_margin(tables: &Tables, label: usize, delay: u32) -> Option<Margin>
     requires { label < length tables.now.labels }
     ensures { result ≡ told (is_delay delay) (late_margin_of (greatest_label_gap (schedule_of tables.now (label_row tables.now label).output) label) (label_row tables.now label).maximum delay) }
@@ -87,6 +92,7 @@ fn late_margin(tables: &Tables, label: usize, delay: u32) -> Option<Margin>
     Some(gap_margin(difference(u64::from(row.maximum), latest), gap))
 }
 
+/// The margin of C10: the age less that of the oldest word from the slowest source, in ticks.
 fn age_margin(tables: &Tables, certificate: &Certificate, label: usize, age: u32) -> Option<Margin>
     requires sized { IsSized tables.now (certificate_rows certificate.now) }
     requires there { label < length tables.now.labels }
@@ -101,6 +107,7 @@ fn age_margin(tables: &Tables, certificate: &Certificate, label: usize, age: u32
     Some(source_margin(difference(u64::from(age), oldest), source))
 }
 
+/// The margin of C12: the stale limit less the longest time between two words of a source, in ticks.
 fn fresh_margin(tables: &Tables, certificate: &Certificate, label: usize) -> Option<Margin>
     requires sized { IsSized tables.now (certificate_rows certificate.now) }
     requires there { label < length tables.now.labels }

@@ -49,7 +49,7 @@ pub fn peaks_of<A: ArrivalBound, S: ServiceBound>(arrivals: &A, service: &S, win
     Peaks { backlog, delay }
 }
 
-// The peak with this height at so many ticks, where it is above that so far.
+/// The peak with this height at so many ticks, where it is above that so far.
 fn higher(peak: Peak, ticks: u32, height: u64) -> Peak
     ensures { result ≡ (if nat_lt peak.height height then record { ticks = ticks; height = height } else peak) }
 {
@@ -60,7 +60,7 @@ fn higher(peak: Peak, ticks: u32, height: u64) -> Peak
     }
 }
 
-// The peak with the delay that so many words need in so many ticks, where it is above that so far.
+/// The peak with the delay that so many words need in so many ticks, where it is above that so far.
 fn later<S: ServiceBound>(service: &S, peak: Peak, ticks: u32, most: u64) -> Peak
     requires some { 1 ≤ ticks }
     requires short { ticks ≤ LONGEST_WINDOW }
@@ -80,8 +80,8 @@ fn later<S: ServiceBound>(service: &S, peak: Peak, ticks: u32, most: u64) -> Pea
     }
 }
 
-// The least delay that so many words need in so many ticks, found by halves above one that is too short; one above
-// `LONGEST_WINDOW` where there is none up to it.
+/// The least delay that so many words need in so many ticks, found by halves above one that is too short; one above
+/// `LONGEST_WINDOW` where there is none up to it.
 fn longer<S: ServiceBound>(service: &S, ticks: u32, delay: u32, most: u64) -> u32
     requires some { 1 ≤ ticks }
     requires short { ticks ≤ LONGEST_WINDOW }

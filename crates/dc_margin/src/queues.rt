@@ -35,6 +35,7 @@ pub(crate) fn of_numbers(slack: i64) -> Margin
     }
 }
 
+/// The margin of C02: how far the window is from leaving its range, in ticks.
 fn window_margin(window: u32) -> Margin
     ensures { result ≡ window_margin_of window }
 {
@@ -43,12 +44,14 @@ fn window_margin(window: u32) -> Margin
     of_numbers(if below < above { below } else { above })
 }
 
+/// The margin of C07: how far the delay is below the longest window, in ticks.
 fn delay_limit_margin(delay: u32) -> Margin
     ensures { result ≡ delay_limit_margin_of delay }
 {
     of_numbers(i64::from(LONGEST_WINDOW) - i64::from(delay))
 }
 
+/// The margin of C05: the room of the queue less the backlog, in words.
 fn queue_margin(queue: u32, backlog: u32) -> Margin
     ensures { result ≡ queue_margin_of queue backlog }
 {
@@ -69,6 +72,7 @@ pub(crate) fn is_short(delay: u32) -> bool
     delay <= LONGEST_WINDOW
 }
 
+/// The margin of C03: what is taken in the ticks but the first less what comes in all, in words or entries.
 fn closing_margin<A: ArrivalBound, S: ServiceBound>(
     arrivals: &A,
     service: &S,
@@ -85,6 +89,7 @@ fn closing_margin<A: ArrivalBound, S: ServiceBound>(
     Some(of_numbers(difference(taken, come)))
 }
 
+/// The margin of C04: the backlog less the highest peak, in words.
 fn backlog_margin(backlog: u32, peak: Peak) -> Margin
     requires { peak.height ≤ 2 ^ 62 }
     ensures { result ≡ margin_by (room backlog peak.height) (Window peak.ticks) }
@@ -95,6 +100,7 @@ fn backlog_margin(backlog: u32, peak: Peak) -> Margin
     }
 }
 
+/// The margin of C06: the delay less the longest that is needed, in ticks.
 fn delay_margin(delay: u32, peak: Peak) -> Option<Margin>
     ensures { result ≡ told (is_delay delay) (by_window (if nat_le peak.height LONGEST_WINDOW then Some (room delay peak.height) else None) peak.ticks) }
 {

@@ -1,3 +1,5 @@
+//! What came to the buses.
+
 ghost use Rattle.std.specs.Prelude.{◌≡◌, ◌-◌, ◌<◌, ◌^◌, List, [], ◌∷◌, ◌++◌, length, slice_set, slice_index_or, Some, None, IfOk, IfSome, OnOk};
 ghost use Rattle.dc_event.specs.Admissible.{IsNumbered};
 ghost use Rattle.dc_event.specs.Replies.{reply as reply_to};

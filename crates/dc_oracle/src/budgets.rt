@@ -1,3 +1,5 @@
+//! Whether actors keep their budgets.
+
 ghost use Rattle.std.specs.Prelude.{◌≡◌, ℕ, ◌-◌, ◌<◌, ◌^◌, List, [], IfOk};
 ghost use Rattle.dc_event.specs.Breaks.{BreaksBudgetsAt};
 

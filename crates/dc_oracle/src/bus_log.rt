@@ -1,3 +1,5 @@
+//! What entered the queue of one bus, and what left it.
+
 ghost use Rattle.std.specs.Prelude.{◌≡◌, ◌<◌, ◌≤◌, ℕ, List, [], ◌∷◌, ◌++◌, length, slice_index_or, IfOk, MatchOption};
 ghost use Rattle.dc_bound.specs.Moves.{Move};
 ghost use Rattle.dc_bound.specs.Moves.Move.{Visit};

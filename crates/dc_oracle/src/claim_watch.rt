@@ -1,3 +1,5 @@
+//! Whether the claims hold at each event.
+
 ghost use Rattle.std.specs.Prelude.{◌≡◌, ◌+◌, ◌-◌, ◌<◌, ◌≤◌, ◌^◌, List, [], IfOk, not};
 ghost use Rattle.dc_cert.specs.Bounds.{certificate_rows};
 ghost use Rattle.dc_event.specs.Admissible.{IsRun, IsNumbered};

@@ -1,3 +1,5 @@
+//! When labels were emitted.
+
 ghost use Rattle.std.specs.Prelude.{◌≡◌, ◌+◌, ◌-◌, ◌<◌, ◌≤◌, ◌^◌, ℕ, min, List, [], ◌∷◌, ◌++◌, length, slice_set, Some, None, IfOk, IfSome, MatchBool, slice_index_or};
 ghost use Rattle.dc_tables.specs.TableRows.{label_row};
 ghost use Rattle.dc_event.specs.Claims.{IsInTime, IsSpaced};

@@ -1,3 +1,5 @@
+//! The ticks of one actor or one stream.
+
 ghost use Rattle.std.specs.Prelude.{◌≡◌, ◌≤◌, ◌++◌, ◌∷◌, [], slice_index, IfOk, OnOk};
 ghost use Rattle.dc_oracle.specs.Fresh.{AllMade};
 ghost use Rattle.dc_oracle.specs.History.{held, lacking};

@@ -1,3 +1,5 @@
+//! Whether a stream is live, and its words usable.
+
 ghost use Rattle.std.specs.Prelude.{◌≡◌, ◌-◌, ◌<◌, ◌≤◌, ◌^◌};
 ghost use Rattle.dc_oracle.specs.Life.{broken_at, alive_at, spoilt, spoilt_in, fine_at, good_at, lived};
 

@@ -1,3 +1,5 @@
+//! Whether the words of one stream are early.
+
 ghost use Rattle.std.specs.Prelude.{◌≡◌, true, false};
 ghost use Rattle.dc_oracle.specs.Pace.{is_early_at, moved};
 

@@ -1,3 +1,5 @@
+//! Which words policed buses refuse.
+
 ghost use Rattle.std.specs.Prelude.{◌≡◌, ◌+◌, ◌-◌, ◌<◌, ◌≤◌, ◌^◌, List, [], length, IfOk};
 ghost use Rattle.dc_event.specs.Admissible.{IsNumbered};
 

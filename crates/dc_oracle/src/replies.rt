@@ -1,3 +1,5 @@
+//! The reply to each event, from the run so far.
+
 ghost use Rattle.std.specs.Prelude.{◌≡◌, ℕ, ◌+◌, ◌-◌, ◌<◌, ◌≤◌, ◌^◌, min, List, [], length, filter, slice_set, Some, None, IfOk, IfSome, ◌∷◌, ◌++◌, false, slice_index_or};
 ghost use Rattle.dc_tables.specs.TableRows.{label_row};
 ghost use Rattle.dc_event.specs.Outputs.{due_tick, entry_label};

@@ -1,3 +1,5 @@
+//! Whether the sources of buses that are not policed keep their caps and their wires.
+
 ghost use Rattle.std.specs.Prelude.{◌≡◌, ◌-◌, ◌<◌, ◌^◌, List, [], IfOk};
 ghost use Rattle.dc_event.specs.Breaks.{BreaksSourcesAt};
 ghost use Rattle.dc_oracle.specs.Fresh.{AllMade};

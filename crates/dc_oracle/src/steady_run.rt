@@ -1,3 +1,5 @@
+//! The steady run: every actor makes its steps in each tick, and no word comes.
+
 ghost use Rattle.std.specs.Prelude.{◌≡◌, ◌++◌, ◌<◌, length, IfOk, OnOk};
 ghost use Rattle.dc_event.specs.Admissible.{IsAdmissible};
 ghost use Rattle.dc_event.specs.Steady.{router_steps, output_steps, steady_tick, steady as steady_of};

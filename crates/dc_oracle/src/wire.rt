@@ -1,3 +1,5 @@
+//! Whether one wire can carry the words that come on it.
+
 ghost use Rattle.std.specs.Prelude.{◌≡◌, true};
 ghost use Rattle.dc_oracle.specs.WireLoad.{can_carry, loaded};
 

@@ -22,7 +22,7 @@ use dc_print::{Text, print_cert_fault};
 use dc_tables::Tables;
 use std::alloc::Global;
 
-// Keeps the page on a certificate with the outcome of its verdict.
+/// Keeps the page on a certificate with the outcome of its verdict.
 fn keep_judged(
     alloc: Global,
     tables: &Tables,
@@ -36,7 +36,7 @@ fn keep_judged(
     keep_page(alloc, tables, certificate, fault, text)
 }
 
-// Keeps the first fault of the certificate's text.
+/// Keeps the first fault of the certificate's text.
 fn keep_fault(fault: Fault, text: &mut Vec<u8>) -> Result<Outcome, Failure>
     ensures kept { IfOk result (λ _. text.new.items ≡ codes "unreadable " ++ fault_text fault) }
     ensures outcome { IfOk result (λ o. o ≡ Outcome.Unreadable) }
@@ -47,7 +47,7 @@ fn keep_fault(fault: Fault, text: &mut Vec<u8>) -> Result<Outcome, Failure>
     keep(line.as_slice(), Outcome::Unreadable, text)
 }
 
-// Makes the page on the certificate that a source gives.
+/// Makes the page on the certificate that a source gives.
 fn judge_source<C: Source>(
     alloc: Global,
     tables: &Tables,
@@ -67,7 +67,7 @@ fn judge_source<C: Source>(
     }
 }
 
-// Makes the page of the texts of tables and of a certificate, the tables' first.
+/// Makes the page of the texts of tables and of a certificate, the tables' first.
 fn judge_sources<T: Source, C: Source>(
     alloc: Global,
     tables: &mut T,

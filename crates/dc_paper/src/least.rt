@@ -14,7 +14,7 @@ use dc_find::find;
 use dc_tables::Tables;
 use std::alloc::Global;
 
-// Finds the least certificate for tables, and makes the page on it.
+/// Finds the least certificate for tables, and makes the page on it.
 fn judge_least(alloc: Global, tables: &Tables, text: &mut Vec<u8>) -> Result<Outcome, Failure>
     ensures answer { Judged (AnswersRows tables.now) text.new.items result }
     ensures memory { IfErr result (λ e. e ≡ Failure.Memory) }
@@ -25,7 +25,7 @@ fn judge_least(alloc: Global, tables: &Tables, text: &mut Vec<u8>) -> Result<Out
     }
 }
 
-// Makes the page of the tables that a source gives.
+/// Makes the page of the tables that a source gives.
 fn judge_alone<T: Source>(
     alloc: Global,
     tables: &mut T,

@@ -1,3 +1,5 @@
+//! The rules of tables, and the place at which one is broken.
+
 ghost use Rattle.std.specs.Prelude.{◌≡◌, ◌≤◌, length, Some};
 ghost use Rattle.dc_parts.specs.declared.fault.BuildError.TheVariants.{Refused, Memory};
 ghost use Rattle.dc_parts.specs.FaultText.{rule_code, explained, explanation, section_text};

@@ -1,3 +1,5 @@
+//! What names a parameter.
+
 ghost use Rattle.std.specs.Prelude.{◌≡◌};
 ghost use Rattle.dc_parts.specs.Keys.{stream_key, label_key};
 

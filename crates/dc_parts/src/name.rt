@@ -1,3 +1,5 @@
+//! Names.
+
 ghost use Rattle.std.specs.Prelude.{◌≡◌, [], ◌∷◌, length};
 ghost use Rattle.std.specs.List.{list_all, prefix_len};
 ghost use Rattle.std.specs.Cmp.Rules.{hashing};
@@ -50,28 +52,28 @@ impl Hash for Name {
     }
 }
 
-// Whether a byte is a letter, a digit, `_` or `-`.
+/// Whether a byte is a letter, a digit, `_` or `-`.
 fn is_name_byte(byte: u8) -> bool
     ensures { result ≡ is_spelling_byte byte }
 {
     matches!(byte, b'A'..=b'Z' | b'a'..=b'z' | b'0'..=b'9' | b'_' | b'-')
 }
 
-// Whether each byte may stand in a name.
+/// Whether each byte may stand in a name.
 fn are_name_bytes(bytes: &[u8]) -> bool
     ensures { result ≡ list_all is_spelling_byte bytes.now }
 {
     bytes.iter().all(|byte| is_name_byte(*byte))
 }
 
-// Whether a text is spelled as a name.
+/// Whether a text is spelled as a name.
 fn is_spelled(text: &[u8]) -> bool
     ensures { result ≡ is_spelled_name text.now }
 {
     !text.is_empty() && text.len() <= NAME_LIMIT && are_name_bytes(text)
 }
 
-// How many bytes from the front on may stand in a name.
+/// How many bytes from the front on may stand in a name.
 fn text_len(bytes: &[u8]) -> usize
     ensures { result ≡ prefix_len is_spelling_byte bytes.now }
 {

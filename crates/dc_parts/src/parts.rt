@@ -1,3 +1,5 @@
+//! The tables of a document as they are written.
+
 ghost use Rattle.std.specs.Prelude.{◌≡◌, ◌+◌, ◌-◌, ◌<◌, [], ◌∷◌, ◌++◌, length, OnOk, OnErr};
 
 use crate::name::{Name, Named};

@@ -14,14 +14,14 @@ use dc_check::{CertificateList, CheckFault, Condition};
 use dc_parts::{Section, TableFault};
 use dc_tables::Tables;
 
-// Whether a condition is of a list as a whole.
+/// Whether a condition is of a list as a whole.
 fn is_of_list(condition: Condition) -> bool
     ensures { result ≡ is_of_a_list condition }
 {
     matches!(condition, Condition::NamesDiffer)
 }
 
-// Whether a condition names a window.
+/// Whether a condition names a window.
 fn has_window(condition: Condition) -> bool
     ensures { result ≡ names_window condition }
 {
@@ -31,7 +31,7 @@ fn has_window(condition: Condition) -> bool
     )
 }
 
-// The name of a list.
+/// The name of a list.
 fn list(part: CertificateList) -> &'static [u8]
     ensures text { result.now ≡ list_text part }
     ensures short { length result.now ≤ 7 }
@@ -43,7 +43,7 @@ fn list(part: CertificateList) -> &'static [u8]
     }
 }
 
-// What a member of a list is called, and a space.
+/// What a member of a list is called, and a space.
 fn member(part: CertificateList) -> &'static [u8]
     ensures text { result.now ≡ member_text part }
     ensures short { length result.now ≤ 7 }
@@ -55,7 +55,7 @@ fn member(part: CertificateList) -> &'static [u8]
     }
 }
 
-// The name of a bus, an output or a label.
+/// The name of a bus, an output or a label.
 fn name(tables: &Tables, part: CertificateList, index: usize) -> &[u8]
     requires { index < part_count tables.now part }
     ensures text { result.now ≡ member_name tables.now part index }
@@ -79,7 +79,7 @@ pub fn append_member(text: &mut Text, tables: &Tables, part: CertificateList, in
     append(text, name(tables, part, index));
 }
 
-// Puts the window at the end, where the condition names one.
+/// Puts the window at the end, where the condition names one.
 fn append_window(text: &mut Text, fault: CheckFault)
     requires { array_vec_len text.old ≤ 60 }
     ensures { text.new.items ≡ text.old.items ++ window_text fault }
@@ -90,7 +90,7 @@ fn append_window(text: &mut Text, fault: CheckFault)
     }
 }
 
-// Puts the place of a fault at the end.
+/// Puts the place of a fault at the end.
 fn append_place(text: &mut Text, tables: &Tables, fault: CheckFault)
     requires room { array_vec_len text.old ≤ 20 }
     requires place { IsPlaced tables.now fault }

@@ -8,7 +8,7 @@ use crate::text::{Text, append, decimal_5, digit_of, hex_5, hex_8, octal_3};
 use dc_word::{Format, Status, Word};
 use itoa::Buffer;
 
-// Puts the data at the end.
+/// Puts the data at the end.
 fn append_data(text: &mut Text, format: Format, word: Word)
     requires { array_vec_len text.old + 40 ≤ TEXT_CAPACITY }
     ensures items { text.new.items ≡ text.old.items ++ data_text format word }
@@ -30,7 +30,7 @@ fn append_data(text: &mut Text, format: Format, word: Word)
     }
 }
 
-// The status as text.
+/// The status as text.
 fn status(status: Status) -> &'static [u8]
     ensures text { result.now ≡ status_text status }
     ensures short { length result.now ≤ 16 }
@@ -46,7 +46,7 @@ fn status(status: Status) -> &'static [u8]
     }
 }
 
-// The parity as text.
+/// The parity as text.
 fn parity(is_odd: bool) -> &'static [u8]
     ensures text { result.now ≡ parity_text is_odd }
     ensures short { length result.now ≤ 4 }

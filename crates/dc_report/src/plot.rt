@@ -52,6 +52,7 @@ struct Plane {
 }
 
 impl Plane {
+    /// Where a tick stands from the left.
     fn x(self, tick: u64) -> Tenths
         ensures { (400 ≤ result.0) × (result.0 ≤ 3880) }
     {
@@ -66,6 +67,7 @@ impl Plane {
         Tenths(400 + share(halves, self.span.saturating_mul(2), 3480))
     }
 
+    /// Where a count stands from the top.
     fn y(self, count: u64) -> Tenths
         ensures { (260 ≤ result.0) × (result.0 ≤ 1880) }
     {

@@ -1,3 +1,5 @@
+//! Which source a label copies, and the word that it sends.
+
 ghost use Rattle.std.specs.Prelude.{◌≡◌, ℕ, ◌<◌, length};
 ghost use Rattle.dc_route.specs.Choosing.{fresh_now, first_word, chosen_now};
 

@@ -1,3 +1,5 @@
+//! The latest word of each stream.
+
 ghost use Rattle.std.specs.Prelude.{◌≡◌, ℕ, ◌<◌, length, replicate, slice_set, slice_index_or, Option, IfOk};
 
 use dc_tables::Tables;

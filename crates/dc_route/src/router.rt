@@ -1,3 +1,5 @@
+//! A step of a router.
+
 ghost use Rattle.std.specs.Prelude.{◌≡◌, ℕ, ◌<◌, length, slice_get, slice_set, Option, Some};
 ghost use Rattle.dc_queue.specs.QueueData.{QueueData};
 ghost use Rattle.dc_route.specs.Routing.{RouterData, next_bus, moved_on, queue_at, rest_of, routed};

@@ -1,3 +1,5 @@
+//! What must differ between tables of one document.
+
 use dc_word::{Label, Sdi};
 
 /// What must differ between the labels of all outputs.

@@ -110,6 +110,7 @@ fn end_of_run(bounds: &[Jittered], first: &Jittered, from: usize) -> usize
     end
 }
 
+/// Whether both are of one least interval and one jitter.
 fn are_same(one: &Jittered, other: &Jittered) -> bool
     ensures { result ≡ true ↔ ((one.now.minimum ≡ other.now.minimum) × (one.now.jitter ≡ other.now.jitter)) }
 {

@@ -63,6 +63,7 @@ pub(crate) fn bus_rows(
     Ok(rows)
 }
 
+/// The row of a stream, its parameter's interval and its jitter in ticks.
 fn stream_row(tick_us: u32, parameters: &Parameters, part: &StreamPart) -> Stream
     requires { 1 ≤ tick_us }
     ensures { result ≡ stream_row_of tick_us parameters.now part.now }
@@ -101,6 +102,7 @@ pub(crate) fn stream_rows(
         .collect(alloc)
 }
 
+/// The row of a router, which visits buses by number.
 fn router_row(alloc: Global, buses: &NameIndex, part: &RouterPart) -> Result<Router, AllocError>
     ensures { IfOk result (λ r. r ≡ router_row_of buses.now part.now) }
 {
@@ -209,6 +211,7 @@ fn frame_of(alloc: Global, entries: &[PlacedEntry], output: usize) -> Result<Ent
     Ok(Entries { items })
 }
 
+/// The row of an output, with the entries of its labels in order of offset.
 fn output_row(
     alloc: Global,
     tick_us: u32,

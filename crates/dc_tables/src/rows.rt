@@ -1,3 +1,5 @@
+//! The rows of valid tables.
+
 ghost use Rattle.std.specs.Prelude.{◌≡◌, ◌↔◌, [], length, IsTrue};
 
 use dc_word::{Format, Label, Sdi};

@@ -1,3 +1,5 @@
+//! Valid tables.
+
 ghost use Rattle.std.specs.Prelude.{◌≡◌, ◌+◌, ◌%◌, ◌<◌, length, position, IfSome};
 ghost use Rattle.dc_tables.specs.TableRows.{visited, bus_row, router_row, bus_streams};
 ghost use Rattle.dc_tables.specs.Declares.{declares, stream_of, fits};

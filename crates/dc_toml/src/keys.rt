@@ -31,7 +31,7 @@ pub fn find<'a>(table: &'a Table, key: &str) -> Option<&'a Value>
     table.get(key)
 }
 
-// Whether the key is one of these.
+/// Whether the key is one of these.
 fn is_among(key: &str, keys: &[&str]) -> bool
     ensures { result ≡ list_any (same_key key.now) (map (λ k. k.now) keys.now) }
 {
@@ -43,7 +43,7 @@ fn is_among(key: &str, keys: &[&str]) -> bool
     false
 }
 
-// Whether each key of the table is one of these.
+/// Whether each key of the table is one of these.
 fn only_known(table: &Table, keys: &[&str]) -> bool
     ensures { result ≡ only_keys (map (λ k. k.now) keys.now) (table_view table.now) }
 {
@@ -55,7 +55,7 @@ fn only_known(table: &Table, keys: &[&str]) -> bool
     true
 }
 
-// Whether each of these keys is in the table.
+/// Whether each of these keys is in the table.
 fn all_present(table: &Table, keys: &[&str]) -> bool
     ensures { result ≡ all_keys (map (λ k. k.now) keys.now) (table_view table.now) }
 {
@@ -123,7 +123,7 @@ pub fn stream_keyed(table: &Table, version: Version, place: TablePlace) -> Resul
     }
 }
 
-// The whole number at a key.
+/// The whole number at a key.
 fn integer(table: &Table, key: &str) -> Option<i64>
     ensures { result ≡ option_and_then as_integer (get_member key.now (table_view table.now)) }
 {
@@ -141,7 +141,7 @@ pub fn version(table: &Table, place: TablePlace) -> Result<Version, TableFault>
     }
 }
 
-// The truth value at a key, if it is one.
+/// The truth value at a key, if it is one.
 fn bool_there(table: &Table, key: &str) -> Option<bool>
     ensures { result ≡ option_and_then as_bool (get_member key.now (table_view table.now)) }
 {
@@ -209,7 +209,7 @@ pub fn number(
     within(integer(table, key), low, high, place)
 }
 
-// The text at a key, if it is one.
+/// The text at a key, if it is one.
 fn text_there<'a>(table: &'a Table, key: &str) -> Option<&'a str>
     ensures { option_map (λ s. s.now) result
         ≡ option_and_then as_str (get_member key.now (table_view table.now)) }

@@ -13,7 +13,7 @@ use dc_parts::{BuildError, LAST_OFFSET, Name, TableFault, TableRule};
 use std::alloc::{AllocError, Global};
 use toml::{Table, Value};
 
-// The items of the list at a key, if it is one.
+/// The items of the list at a key, if it is one.
 fn array_there<'a>(table: &'a Table, key: &str) -> Option<&'a [Value]>
     ensures { option_map (λ v. items_view v.now) result
         ≡ option_and_then as_array (get_member key.now (table_view table.now)) }
@@ -22,7 +22,7 @@ fn array_there<'a>(table: &'a Table, key: &str) -> Option<&'a [Value]>
     Some(values.as_slice())
 }
 
-// The items of the list at a key.
+/// The items of the list at a key.
 fn array<'a>(table: &'a Table, key: &str, place: TablePlace) -> Result<&'a [Value], TableFault>
     ensures { seen (λ v. items_view v.now) result ≡ array_at place key.now (table_view table.now) }
 {
@@ -32,7 +32,7 @@ fn array<'a>(table: &'a Table, key: &str, place: TablePlace) -> Result<&'a [Valu
     }
 }
 
-// How many values there are.
+/// How many values there are.
 #[tactic(auto, using(crate::proofs::Steps::count_of))]
 fn length(values: &[Value]) -> usize
     ensures { result ≡ items_len (items_view values.now) }
@@ -40,7 +40,7 @@ fn length(values: &[Value]) -> usize
     values.len()
 }
 
-// Refuses a list that is too short or too long.
+/// Refuses a list that is too short or too long.
 fn check_count(
     values: &[Value],
     low: usize,
@@ -56,7 +56,7 @@ fn check_count(
     Ok(())
 }
 
-// Whether each value is a text.
+/// Whether each value is a text.
 fn are_texts(values: &[Value]) -> bool
     ensures { result ≡ all_items is_text (items_view values.now) }
 {
@@ -68,7 +68,7 @@ fn are_texts(values: &[Value]) -> bool
     true
 }
 
-// Whether each value is a whole number.
+/// Whether each value is a whole number.
 fn are_numbers(values: &[Value]) -> bool
     ensures { result ≡ all_items is_number (items_view values.now) }
 {
@@ -80,7 +80,7 @@ fn are_numbers(values: &[Value]) -> bool
     true
 }
 
-// Refuses a list with an item of another kind.
+/// Refuses a list with an item of another kind.
 fn kinds(good: bool, place: TablePlace) -> Result<(), TableFault>
     ensures { result ≡ wanted place WrongKind good }
 {
@@ -90,7 +90,7 @@ fn kinds(good: bool, place: TablePlace) -> Result<(), TableFault>
     Ok(())
 }
 
-// The name that a value is.
+/// The name that a value is.
 fn name_item(value: &Value, place: TablePlace) -> Result<Name, TableFault>
     ensures { result ≡ name_in_item place (view value.now) }
 {
@@ -103,7 +103,7 @@ fn name_item(value: &Value, place: TablePlace) -> Result<Name, TableFault>
     }
 }
 
-// The names that values are.
+/// The names that values are.
 fn each_name(alloc: Global, values: &[Value], place: TablePlace) -> Result<Vec<Name>, BuildError>
     ensures { Gives (λ v. v.items) result (each_item (name_in_item place) (items_view values.now)) }
 {
@@ -120,7 +120,7 @@ fn each_name(alloc: Global, values: &[Value], place: TablePlace) -> Result<Vec<N
     Ok(names)
 }
 
-// The offsets that values are.
+/// The offsets that values are.
 fn each_offset(alloc: Global, values: &[Value], place: TablePlace) -> Result<Vec<u32>, BuildError>
     ensures { Gives (λ v. v.items) result (each_item (number_item place 0 LAST_OFFSET) (items_view values.now)) }
 {

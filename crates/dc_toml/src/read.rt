@@ -19,7 +19,7 @@ use dc_tables::Tables;
 use std::alloc::{AllocError, Global};
 use toml::{Table, Value};
 
-// The length of a tick, where the top's keys are right.
+/// The length of a tick, where the top's keys are right.
 #[tactic(auto, unfolding(crate::specs::Reading::tick_of))]
 fn tick(document: &Table, top: TablePlace) -> Result<u32, TableFault>
     ensures { result ≡ tick_of top (table_view document.now) }
@@ -33,7 +33,7 @@ fn tick(document: &Table, top: TablePlace) -> Result<u32, TableFault>
     number(document, "tick_us", SHORTEST_TICK, LONGEST_TICK, top)
 }
 
-// The four lists of tables at the top.
+/// The four lists of tables at the top.
 #[derive(Clone, Copy)]
 struct TopLists<'a> {
     parameters: &'a [Value],
@@ -42,7 +42,7 @@ struct TopLists<'a> {
     outputs: &'a [Value],
 }
 
-// The four lists of tables at the top, before their members are looked at.
+/// The four lists of tables at the top, before their members are looked at.
 #[tactic(auto, unfolding(crate::specs::Reading::lists_of))]
 fn lists<'a>(document: &'a Table, top: TablePlace) -> Result<TopLists<'a>, TableFault>
     ensures { seen (λ l. record { parameters = items_view l.parameters.now; buses = items_view l.buses.now; routers = items_view l.routers.now; outputs = items_view l.outputs.now }) result ≡ lists_of top (table_view document.now) }
@@ -59,7 +59,7 @@ fn lists<'a>(document: &'a Table, top: TablePlace) -> Result<TopLists<'a>, Table
     })
 }
 
-// Puts the tables of the four lists after what was read before them.
+/// Puts the tables of the four lists after what was read before them.
 #[tactic(auto, unfolding(crate::specs::Reading::members_of))]
 fn members(
     alloc: Global,
@@ -77,7 +77,7 @@ fn members(
     read_tables_of::<OutputPart>(alloc, parts, outputs)
 }
 
-// The parts that a document says.
+/// The parts that a document says.
 #[tactic(auto, unfolding(crate::specs::Reading::tables_in))]
 fn parts(alloc: Global, document: &Table) -> Result<Parts, BuildError>
     ensures { Gives written result (tables_in (table_view document.now)) }
@@ -98,7 +98,7 @@ fn parts(alloc: Global, document: &Table) -> Result<Parts, BuildError>
     Ok(parts)
 }
 
-// The TOML document that a text is.
+/// The TOML document that a text is.
 #[tactic(auto, unfolding(crate::specs::Reading::document_of))]
 fn document(alloc: Global, text: &[u8]) -> Result<Table, BuildError>
     ensures { Gives table_view result (document_of text.now) }

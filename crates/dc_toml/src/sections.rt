@@ -49,28 +49,28 @@ pub fn read_tables_of<T: TopTable>(
     Ok(())
 }
 
-// The place of the next router.
+/// The place of the next router.
 fn router_place(parts: &Parts) -> TablePlace
     ensures { result ≡ next_router (written parts.now) }
 {
     TablePlace::new(Section::Router, parts.router_count())
 }
 
-// The place of the next label.
+/// The place of the next label.
 fn label_place(parts: &Parts) -> TablePlace
     ensures { result ≡ next_label (written parts.now) }
 {
     TablePlace::new(Section::Label, parts.label_count())
 }
 
-// One more router.
+/// One more router.
 fn add_router(parts: &mut Parts, router: RouterPart) -> Result<(), AllocError>
     ensures { OnOk result (written parts.new ≡ and_router (written parts.old) (router_text router)) }
 {
     parts.push_router(router)
 }
 
-// One more label of the last output.
+/// One more label of the last output.
 fn add_label(parts: &mut Parts, label: LabelPart) -> Result<(), AllocError>
     requires { label.output + 1 ≡ length parts.old.outputs }
     ensures { OnOk result (written parts.new ≡ and_label (written parts.old) (label_text label)) }
@@ -103,7 +103,7 @@ impl TopTable for Parameter {
     }
 }
 
-// Puts a stream of the last bus after what was read before it.
+/// Puts a stream of the last bus after what was read before it.
 #[tactic(auto, unfolding(crate::specs::Reading::read_stream))]
 fn read_stream(parts: &mut Parts, value: &Value) -> Result<(), BuildError>
     requires { 1 ≤ length parts.old.buses }
@@ -131,7 +131,7 @@ fn read_stream(parts: &mut Parts, value: &Value) -> Result<(), BuildError>
     Ok(())
 }
 
-// The streams of the last bus, in order.
+/// The streams of the last bus, in order.
 fn read_streams(parts: &mut Parts, values: &[Value]) -> Result<(), BuildError>
     requires { 1 ≤ length parts.old.buses }
     ensures { Leaves (written parts.new) result (each_table stream_reading (written parts.old) (items_view values.now)) }
@@ -197,7 +197,7 @@ impl TopTable for RouterPart {
     }
 }
 
-// The label of the output with this index that a value is.
+/// The label of the output with this index that a value is.
 #[tactic(auto, unfolding(crate::specs::Reading::read_label))]
 fn read_label(alloc: Global, parts: &mut Parts, value: &Value) -> Result<(), BuildError>
     requires { 1 ≤ length parts.old.outputs }
@@ -243,7 +243,7 @@ fn read_label(alloc: Global, parts: &mut Parts, value: &Value) -> Result<(), Bui
     Ok(())
 }
 
-// The labels of the last output, in order.
+/// The labels of the last output, in order.
 fn read_labels(alloc: Global, parts: &mut Parts, values: &[Value]) -> Result<(), BuildError>
     requires { 1 ≤ length parts.old.outputs }
     ensures { Leaves (written parts.new) result (each_table label_reading (written parts.old) (items_view values.now)) }

@@ -42,7 +42,7 @@ pub fn format(text: &str) -> Option<Format>
     }
 }
 
-// The values of three digits.
+/// The values of three digits.
 fn three_digits(base: u32, text: &[u8]) -> Option<(u32, u32, u32)>
     requires { (2 ≤ base) × (base ≤ 16) }
     ensures value { result ≡ three_digits_of base text.now }
@@ -63,7 +63,7 @@ fn three_digits(base: u32, text: &[u8]) -> Option<(u32, u32, u32)>
     Some((high, middle, low))
 }
 
-// The label with this number.
+/// The label with this number.
 fn label_of_number(number: u32) -> Option<Label>
     ensures { result ≡ label_in number }
 {

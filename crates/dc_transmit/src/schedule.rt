@@ -1,3 +1,5 @@
+//! The transmit schedule of an output.
+
 ghost use Rattle.std.specs.Prelude.{◌≡◌, ℕ, ◌+◌, ◌<◌, ◌≤◌, ◌^◌, length, slice_index_or};
 ghost use Rattle.dc_tables.specs.TableRows.{TableRows, output_row};
 ghost use Rattle.dc_transmit.specs.Gaps.{first_off, least_gap, greatest_gap};

@@ -1,3 +1,5 @@
+//! Digits of a base.
+
 ghost use Rattle.std.specs.Prelude.{◌≡◌, ◌<◌, ◌≤◌, IfSome};
 ghost use Rattle.dc_word.specs.Digits.{digit_in as value_in};
 

@@ -1,3 +1,5 @@
+//! Formats, and what the SSM says in each.
+
 ghost use Rattle.std.specs.Prelude.{◌≡◌, ◌<◌};
 ghost use Rattle.dc_word.specs.Format.{status_of, is_usable_ssm};
 
@@ -53,7 +55,8 @@ impl Format {
         }
     }
 
-    /// Whether a word with this SSM is usable in this format: 3 in BNR, 0 and 3 in BCD, 0 in discretes.
+    /// Whether a word with this SSM is usable in this format: 3 in BNR, 0 and 3 in BCD, 0 in discretes. That functional
+    /// test is not usable is this project's profile.
     pub fn is_usable(self, ssm: u32) -> bool
         ensures { result ≡ is_usable_ssm self ssm }
     {

@@ -1,3 +1,5 @@
+//! The word, its fields and its parity.
+
 ghost use Rattle.std.specs.Prelude.{◌≡◌, ℕ, ◌<◌, ◌^◌, ◌↔◌, IsTrue};
 ghost use Rattle.dc_word.specs.Format.{status_of, is_usable};
 ghost use Rattle.dc_word.specs.Word.{reversed, label_of, sdi_of, data_of, ssm_of, IsOddParity, is_odd, bnr_of};
@@ -178,7 +180,7 @@ impl Word {
     }
 }
 
-// The bits of a label in the other order: a word sends the label's first bit last.
+/// The bits of a label in the other order: a word sends the label's first bit last.
 #[tactic(auto, using(crate::proofs::Fields::reverse_bits_reversed))]
 fn reversed_bits(bits: u8) -> u8
     ensures { result ≡ reversed bits }
