@@ -16,7 +16,7 @@ awk 'BEGIN {
     }
 }' > "$work/trace"
 rustc -O --edition 2021 -o "$work/peer" "$here/peer.rs"
-"$here/../build.sh" "$work" trace_bench 'dc_device dc_event dc_tables dc_toml dc_word' "$here/main.rt.txt"
+"$here/../build.sh" "$work" trace_bench 'dc_build dc_device dc_event dc_tables dc_word' "$here/main.rt.txt"
 for round in 1 2 3; do
     echo "proved"
     "$work/crates/trace_bench/out/trace_bench" < "$work/trace"

@@ -23,7 +23,7 @@ use Rattle.dc_parts.specs.declared.fault.BuildError.TheVariants.{Refused, Memory
 use Rattle.dc_print.specs.Verdicts.{accepted_text, refused_text}
 use Rattle.dc_tables.specs.TableRows.{TableRows}
 use Rattle.dc_toml.specs.Reading.{tables_of}
-use Rattle.dc_toml.specs.Reported.{TellsTables}
+use Rattle.dc_build.specs.Reported.{TellsTables}
 use Rattle.dc_advice.specs.Lines.{margin_text}
 
 -- ---- lines

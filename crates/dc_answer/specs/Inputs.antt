@@ -10,7 +10,7 @@ use Rattle.dc_parts.specs.declared.fault.BuildError.TheVariants.{Refused as Refu
 use Rattle.dc_parts.specs.declared.fault.TableFault.{TableFault}
 use Rattle.dc_tables.specs.TableRows.{TableRows}
 use Rattle.dc_toml.specs.Faults.{Reading}
-use Rattle.dc_toml.specs.Reported.{AreTablesOf, TellsTables}
+use Rattle.dc_build.specs.Reported.{AreTablesOf, TellsTables}
 use Rattle.dc_toml.specs.Written.{Written}
 use Rattle.dc_parts.specs.declared.limits.TheConstants.{TEXT_LIMIT}
 use Rattle.dc_answer.specs.Answer.{Answer, unreadable}

@@ -7,11 +7,11 @@ ghost use Rattle.dc_answer.specs.Inputs.{Loads, LoadsCertificate, ReadsText, fai
 ghost use Rattle.dc_device.specs.States.{AsksUpTo, IsCountable};
 
 use crate::answer::Failure;
+use dc_build::read_tables;
 use dc_cert::{CertFault, CertRule, Certificate, Fault, TextPlace, read_cert};
 use dc_device::{Source, Unread, read_at_most};
 use dc_parts::{BuildError, Section, TEXT_LIMIT, TableFault, TableRule};
 use dc_tables::Tables;
-use dc_toml::read_tables;
 use std::alloc::Global;
 
 /// Why a text gives nothing.

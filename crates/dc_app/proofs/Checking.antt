@@ -11,7 +11,7 @@ use Rattle.dc_parts.specs.FaultText.{table_fault_text}
 use Rattle.dc_tables.specs.TableRows.{TableRows}
 use Rattle.dc_parts.specs.declared.fault.TableFault.{TableFault}
 use Rattle.dc_toml.specs.Reading.{tables_of}
-use Rattle.dc_toml.specs.Reported.{AreTablesOf}
+use Rattle.dc_build.specs.Reported.{AreTablesOf}
 use Rattle.dc_answer.specs.Answer.{Ends, Raises, ReportsBy, judged_answer, one_line, sink_failures_of}
 use Rattle.dc_answer.specs.Exits.{exit_of}
 use Rattle.dc_answer.specs.Judging.{Judged}

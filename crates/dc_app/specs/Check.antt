@@ -12,7 +12,7 @@ use Rattle.dc_tables.specs.TableRows.{TableRows}
 use Rattle.dc_parts.specs.declared.fault.BuildError.{BuildError}
 use Rattle.dc_parts.specs.declared.fault.BuildError.TheVariants.{Refused, Memory as NoMemory}
 use Rattle.dc_toml.specs.Reading.{tables_of}
-use Rattle.dc_toml.specs.Reported.{TellsTables, AreTablesOf}
+use Rattle.dc_build.specs.Reported.{TellsTables, AreTablesOf}
 use Rattle.dc_answer.specs.Answer.{Answer, Reported, WholeOrNone, one_line, unreadable}
 use Rattle.dc_answer.specs.Exits.{is_answered}
 use Rattle.dc_answer.specs.Inputs.{tables_end}

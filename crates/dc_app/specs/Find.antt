@@ -18,7 +18,7 @@ use Rattle.dc_parts.specs.declared.fault.BuildError.{BuildError}
 use Rattle.dc_parts.specs.declared.fault.BuildError.TheVariants.{Refused, Memory as NoTables}
 use Rattle.dc_tables.specs.TableRows.{TableRows}
 use Rattle.dc_toml.specs.Reading.{tables_of}
-use Rattle.dc_toml.specs.Reported.{TellsTables}
+use Rattle.dc_build.specs.Reported.{TellsTables}
 use Rattle.dc_answer.specs.Answer.{Answer, Reported, WholeOrNone, one_line}
 use Rattle.dc_print.specs.Verdicts.{member_name, member_text}
 use Rattle.dc_answer.specs.declared.answer.Failure.{Failure}

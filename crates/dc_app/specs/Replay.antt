@@ -6,7 +6,7 @@ use Rattle.dc_tables.specs.TableRows.{TableRows}
 use Rattle.dc_parts.specs.declared.fault.BuildError.{BuildError}
 use Rattle.dc_parts.specs.declared.fault.BuildError.TheVariants.{Refused, Memory}
 use Rattle.dc_toml.specs.Reading.{tables_of}
-use Rattle.dc_toml.specs.Reported.{AreTablesOf, TellsTables}
+use Rattle.dc_build.specs.Reported.{AreTablesOf, TellsTables}
 use Rattle.dc_event.specs.ReplyText.{run_lines}
 use Rattle.dc_event.specs.TraceText.{Trace, ended_by, trace_of}
 use Rattle.dc_event.specs.declared.event.Event.{Event}

@@ -1,7 +1,8 @@
 //! Look-ups in valid tables that no command makes, and parts that no text of tables can have.
 
+use dc_build::{Build, WrittenTables};
 use dc_parts::{BuildError, Name, Parts, Section, Speed, TableFault, TableRule, Version};
-use dc_tables::{Tables, WrittenTables};
+use dc_tables::Tables;
 use dc_toml::read_parts;
 use dc_trials::{push_small_tables, small_tables};
 use dc_word::{Word, digit_in};

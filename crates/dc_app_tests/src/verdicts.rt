@@ -1,9 +1,9 @@
 //! The calls of the checker one by one.
 
+use dc_build::read_tables;
 use dc_cert::{Certificate, read_cert};
 use dc_check::{CertificateList, CheckFault, Condition, check, job_fault, misnamed, verdict};
 use dc_tables::Tables;
-use dc_toml::read_tables;
 use dc_trials::{push_small_certificate, push_small_tables};
 use std::alloc::Global;
 use std::rt::HostRuntime;

@@ -22,7 +22,7 @@ use Rattle.dc_event.specs.Latest.{latest}
 use Rattle.dc_event.specs.Outputs.{due_by, sent}
 use Rattle.dc_event.specs.Time.{tick_after, route_ticks, send_ticks}
 use Rattle.dc_event.specs.declared.event.Event.TheVariants.{Tick, Arrive, Route, Send}
-use Rattle.dc_rules.specs.Rules.{sdis_meet}
+use Rattle.dc_tables.specs.Sdis.{sdis_meet}
 use Rattle.dc_tables.specs.Declares.{stream_of}
 use Rattle.dc_tables.specs.TableRows.{AreValid, bus_row, stream_row, router_row, output_row, entry_row, label_row, visited, bus_cap, bus_floor, output_cap}
 use Rattle.dc_word.specs.Word.{ones_in, is_odd, reversed}

@@ -4,10 +4,10 @@ ghost use Rattle.std.specs.Prelude.{◌≡◌};
 ghost use Rattle.std.specs.Arc.{arc_value};
 ghost use Rattle.dc_check.specs.Lent.{tables_of};
 
+use dc_build::read_tables;
 use dc_cert::{Certificate, read_cert};
 use dc_check::{Certified, check};
 use dc_tables::Tables;
-use dc_toml::read_tables;
 use dc_trials::{push_equal_certificate, push_equal_tables};
 use std::alloc::Global;
 use std::sync::Arc;

@@ -4,9 +4,9 @@ use Rattle.dc_parts.specs.declared.fault.BuildError.{BuildError}
 use Rattle.dc_parts.specs.declared.fault.BuildError.TheVariants.{Refused, Memory}
 use Rattle.dc_rules.specs.Rules.{verdict_of}
 use Rattle.dc_tables.specs.TableRows.{TableRows}
-use Rattle.dc_tables.specs.RowsOf.{AreRows}
+use Rattle.dc_build.specs.RowsOf.{AreRows}
 use Rattle.dc_toml.specs.Faults.{Reading}
-use Rattle.dc_toml.specs.Reported.{TellsTables}
+use Rattle.dc_build.specs.Reported.{TellsTables}
 use Rattle.dc_toml.specs.Written.{Written, written}
 use Rattle.dc_check.specs.Small.{small_tables}
 use Rattle.dc_example.specs.Example.{IsSmall}

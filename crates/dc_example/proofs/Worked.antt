@@ -8,7 +8,7 @@ use Rattle.dc_parts.specs.declared.parts.RouterPart.{RouterPart}
 use Rattle.dc_parts.specs.declared.parts.LabelPart.{LabelPart}
 use Rattle.dc_toml.specs.Written.{Written, RouterText, LabelText, written, router_text, label_text}
 use Rattle.dc_tables.specs.TableRows.{TableRows, output_row}
-use Rattle.dc_tables.specs.RowsOf.{AreRows, IsOutputRow}
+use Rattle.dc_build.specs.RowsOf.{AreRows, IsOutputRow}
 use Rattle.dc_tables.specs.declared.rows.Output.{Output}
 use Rattle.dc_tables.specs.declared.rows.Entry.{Entry}
 use Rattle.dc_rules.specs.Rules.{verdict_of}

@@ -5,7 +5,7 @@ use Rattle.dc_parts.specs.declared.fault.BuildError.{BuildError}
 use Rattle.dc_parts.specs.declared.fault.BuildError.TheVariants.{Refused, Memory}
 use Rattle.dc_tables.specs.TableRows.{TableRows}
 use Rattle.dc_toml.specs.Reading.{tables_of}
-use Rattle.dc_toml.specs.Reported.{TellsTables}
+use Rattle.dc_build.specs.Reported.{TellsTables}
 
 -- the text of examples/small.toml, byte by byte
 abbrev pub example_text : List ℕ

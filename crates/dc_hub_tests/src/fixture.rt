@@ -1,8 +1,8 @@
 //! Tables of equal buses with their certificate.
 
+use dc_build::read_tables;
 use dc_cert::read_cert;
 use dc_check::{Certified, check};
-use dc_toml::read_tables;
 use dc_trials::{push_equal_certificate, push_equal_tables};
 use std::alloc::Global;
 use std::sync::Arc;

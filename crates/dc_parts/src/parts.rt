@@ -28,7 +28,7 @@ pub enum Speed {
 }
 
 /// A receive bus. A part bounds no number: the ranges here and below are those of the rules T06 and T08, which
-/// `dc_tables::Tables::build` tests.
+/// `dc_build::Build` tests.
 #[derive(Clone, Copy, Debug, PartialEq)]
 pub struct BusPart {
     /// Its name.

@@ -5,7 +5,8 @@ use Rattle.std.specs.Option.{option_eq}
 use Rattle.std.proofs.lemmas.List.Folds.{list_any-append}
 use Rattle.std.proofs.lemmas.Bool.Decides.{nat_tests}
 use Rattle.indexmap.specs.IndexSet.{insert_key}
-use Rattle.dc_rules.specs.Rules.{overlap, sdis_meet}
+use Rattle.dc_rules.specs.Rules.{overlap}
+use Rattle.dc_tables.specs.Sdis.{sdis_meet}
 use Rattle.dc_rules.specs.lemmas.Owners.{bool_cases}
 use Rattle.dc_rules.specs.Declarations.{place_of, declaring, same_place, same_declared, overlaps_sdi, overlaps_known}
 use Rattle.dc_parts.specs.declared.parts.StreamPart.{StreamPart}

@@ -28,6 +28,7 @@ use Rattle.dc_dict.specs.Ticks.{in_minimum, out_minimum, out_maximum}
 use Rattle.dc_parts.specs.Ticks.{output_gap}
 use Rattle.dc_parts.specs.Keys.{same_parameter, parameter_key, stream_key, label_key}
 use Rattle.dc_parts.specs.Names.{number_of}
+use Rattle.dc_tables.specs.Sdis.{sdis_meet}
 use Rattle.dc_parts.specs.declared.limits.TheConstants.{GREATEST_AGE, GREATEST_JITTER_US, GREATEST_QUEUE, LAST_OFFSET, LONGEST_FRAME, LONGEST_INTERVAL_US, LONGEST_STALE, LONGEST_TICK, LONGEST_WITHIN, MOST_BUSES, MOST_ENTRIES, MOST_LABELS, MOST_MEMBERS, MOST_OFFSETS, MOST_OUTPUTS, MOST_PARAMETERS, MOST_ROUTERS, MOST_SOURCES, MOST_STEPS, MOST_STREAMS, MOST_VISITS, SHORTEST_TICK}
 
 -- ---- what is reported
@@ -290,12 +291,6 @@ abbrev pub first_lost_label : List (List ℕ) → List LabelPart → Option ℕ
 first_lost_label names labels = position (λ x. has_unknown names x.sources.items) labels
 
 -- ---- streams, routers, labels
-
--- two declarations that one word may fit
-abbrev pub sdis_meet : Option ℕ → Option ℕ → Bool
-sdis_meet None b = true
-sdis_meet (Some a) None = true
-sdis_meet (Some a) (Some b) = a == b
 
 -- two streams of one bus and one label, which one word may fit
 abbrev pub overlap : StreamPart → StreamPart → Bool

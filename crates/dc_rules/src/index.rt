@@ -3,13 +3,13 @@ ghost use Rattle.std.specs.Prelude.{◌≡◌, ◌≤◌, ◌<◌, ◌++◌, ◌
 ghost use Rattle.dc_word.specs.declared.format.Format.TheVariants.{Bnr};
 ghost use Rattle.dc_rules.specs.Rules.{doubled, doubled_name, parameter_out, parameter_of, first_inverted, reported, Tells};
 ghost use Rattle.dc_parts.specs.Keys.{parameter_key, same_parameter};
-ghost use Rattle.dc_parts.specs.Names.{number_of};
 ghost use Rattle.dc_dict.specs.Rows.{refusal_of};
 ghost use Rattle.dc_parts.specs.declared.limits.TheConstants.{LONGEST_INTERVAL_US};
 
 use crate::breach::refuse;
 use dc_dict::{DictFault, Dictionary, Parameter};
 use dc_parts::{BuildError, Name, Named, ParameterKey, Section, TableRule};
+use dc_tables::NameIndex;
 use indexmap::IndexSet;
 use std::alloc::{AllocError, Global};
 use std::hash::Hash;
@@ -33,50 +33,27 @@ pub(crate) fn distinct<K: Eq + Hash + Copy>(
     Ok((known, None))
 }
 
-/// Names in order, looked up by their text. A clause sees them as their list.
-#[derive(Drop)]
-pub struct NameIndex {
-    names: IndexSet<Name>,
+/// The names of one kind of table, where none is doubled.
+pub(crate) fn index_of<T: Named>(
+    alloc: Global,
+    section: Section,
+    rows: &[T],
+) -> Result<NameIndex, BuildError>
+    ensures rule { Tells (reported TableRule.NameDoubled section (doubled_name (map T.name_of rows.now))) result }
+    ensures list { IfOk result (λ n. n ≡ map T.name_of rows.now) }
+{
+    let names = names_of(alloc, rows).map_err(BuildError::Memory)?;
+    index_once(alloc, section, &names)
 }
 
-impl Model for NameIndex {
-    ghost use Rattle.std.specs.Prelude.{ℕ, List};
-
-    ghost Value = { List (List ℕ) };
-
-    ghost view = { λ n. n.names.keys };
-}
-
-impl NameIndex {
-    /// The names of one kind of table, where none is doubled.
-    pub(crate) fn of<T: Named>(
-        alloc: Global,
-        section: Section,
-        rows: &[T],
-    ) -> Result<NameIndex, BuildError>
-        ensures rule { Tells (reported TableRule.NameDoubled section (doubled_name (map T.name_of rows.now))) result }
-        ensures list { IfOk result (λ n. n ≡ map T.name_of rows.now) }
-    {
-        let names = names_of(alloc, rows).map_err(BuildError::Memory)?;
-        let (known, found) = distinct(alloc, &names).map_err(BuildError::Memory)?;
-        refuse(TableRule::NameDoubled, section, found)?;
-        Ok(NameIndex { names: known })
-    }
-
-    /// The name of this number, from 0.
-    pub fn name(&self, number: usize) -> &Name
-        requires { number < length self.now }
-        ensures { result.now ≡ slice_index_or self.now number [] }
-    {
-        &self.names.as_slice()[number]
-    }
-
-    /// The number of this name, from 0, where it is there.
-    pub fn number_of(&self, name: &Name) -> Option<usize>
-        ensures { result ≡ number_of self.now name.now }
-    {
-        self.names.get_index_of(name)
-    }
+/// These names, where none is doubled.
+fn index_once(alloc: Global, section: Section, names: &[Name]) -> Result<NameIndex, BuildError>
+    ensures rule { Tells (reported TableRule.NameDoubled section (doubled_name names.now)) result }
+    ensures list { IfOk result (λ n. n ≡ names.now) }
+{
+    let (known, found) = distinct(alloc, names).map_err(BuildError::Memory)?;
+    refuse(TableRule::NameDoubled, section, found)?;
+    Ok(NameIndex::new(known))
 }
 
 /// The names of these tables.
@@ -84,21 +61,6 @@ fn names_of<T: Named>(alloc: Global, rows: &[T]) -> Result<Vec<Name>, AllocError
     ensures { IfOk result (λ v. v.items ≡ map T.name_of rows.now) }
 {
     rows.iter().map(|row| row.name()).collect(alloc)
-}
-
-/// The names of all tables, each kind to be looked up.
-#[derive(Drop)]
-pub struct Names {
-    /// Those of the buses.
-    pub buses: NameIndex,
-    /// Those of the streams of all buses.
-    pub streams: NameIndex,
-    /// Those of the routers.
-    pub routers: NameIndex,
-    /// Those of the outputs.
-    pub outputs: NameIndex,
-    /// Those of the labels of all outputs.
-    pub labels: NameIndex,
 }
 
 /// Parameters in a dictionary, looked up by label and equipment code. A clause sees them as their list.

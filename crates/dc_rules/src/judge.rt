@@ -9,7 +9,7 @@ ghost use Rattle.dc_parts.specs.Document.{stream_owners, label_owners};
 ghost use Rattle.dc_parts.specs.declared.limits.TheConstants.{MOST_LABELS, MOST_STREAMS};
 
 use crate::breach::{Breach, earlier_of, refuse, refuse_breach};
-use crate::index::{NameIndex, Names, Parameters, distinct, first_doubled_parameter};
+use crate::index::{Parameters, distinct, first_doubled_parameter, index_of};
 use crate::keys::PlacedEntry;
 use crate::overlaps::first_overlap;
 use crate::quantities::{
@@ -30,6 +30,7 @@ use dc_parts::{
     BuildError, LabelPart, MOST_ENTRIES, MOST_LABELS, MOST_STREAMS, Parts, Section, StreamPart,
     TableRule,
 };
+use dc_tables::{NameIndex, Names};
 use std::alloc::{AllocError, Global};
 
 /// The owner of each label.
@@ -190,10 +191,10 @@ pub(crate) fn index_names(alloc: Global, parts: &Parts) -> Result<Names, BuildEr
     ensures outputs { IfOk result (λ n. n.outputs ≡ output_names parts.now) }
     ensures labels { IfOk result (λ n. n.labels ≡ label_names parts.now) }
 {
-    let buses = NameIndex::of(alloc, Section::Bus, parts.buses())?;
-    let streams = NameIndex::of(alloc, Section::Stream, parts.streams())?;
-    let routers = NameIndex::of(alloc, Section::Router, parts.routers())?;
-    let outputs = NameIndex::of(alloc, Section::Output, parts.outputs())?;
+    let buses = index_of(alloc, Section::Bus, parts.buses())?;
+    let streams = index_of(alloc, Section::Stream, parts.streams())?;
+    let routers = index_of(alloc, Section::Router, parts.routers())?;
+    let outputs = index_of(alloc, Section::Output, parts.outputs())?;
     with_labels(alloc, parts, (buses, streams), (routers, outputs))
 }
 
@@ -211,7 +212,7 @@ fn with_labels(
     ensures outputs { IfOk result (λ n. n.outputs ≡ senders.1) }
     ensures labels { IfOk result (λ n. n.labels ≡ label_names parts.now) }
 {
-    let labels = NameIndex::of(alloc, Section::Label, parts.labels())?;
+    let labels = index_of(alloc, Section::Label, parts.labels())?;
     let (buses, streams) = inputs;
     let (routers, outputs) = senders;
     Ok(Names {

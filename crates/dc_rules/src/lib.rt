@@ -14,7 +14,7 @@ mod schedules;
 mod shape;
 mod visits;
 
-pub use index::{NameIndex, Names, Parameters};
+pub use index::Parameters;
 pub use keys::PlacedEntry;
 pub use passed::Passed;
 pub use shape::{count_members, stream_owners};

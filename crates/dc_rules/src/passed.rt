@@ -4,10 +4,11 @@ ghost use Rattle.dc_rules.specs.Rules.{Tells, verdict_of};
 ghost use Rattle.dc_rules.specs.Obeys.{Obeys};
 ghost use Rattle.dc_rules.specs.Passed.{ArePassed};
 
-use crate::index::{Names, Parameters};
+use crate::index::Parameters;
 use crate::judge::{check_first, check_later};
 use crate::keys::PlacedEntry;
 use dc_parts::{BuildError, Parts};
+use dc_tables::Names;
 use std::alloc::Global;
 
 /// What a document that keeps all rules is looked up by.

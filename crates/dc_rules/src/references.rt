@@ -5,9 +5,9 @@ ghost use Rattle.dc_rules.specs.Rules.{doubled_name, first_doubled_source};
 ghost use Rattle.std.specs.Str.{bytes_eq};
 ghost use Rattle.std.specs.List.{list_any};
 
-use crate::index::NameIndex;
 use crate::visits::index_visits;
 use dc_parts::{BusPart, LabelPart, Name, RouterPart};
+use dc_tables::NameIndex;
 use std::alloc::{AllocError, Global};
 
 /// Whether one of these names is not there.

@@ -4,10 +4,11 @@ ghost use Rattle.std.specs.List.{list_any};
 ghost use Rattle.dc_rules.specs.Rules.{format_number, same_format, source_parameter, differs, first_different, frame_of, first_late};
 ghost use Rattle.dc_rules.specs.Rules.{label_entries, entries_from, offset_of, label_id, first_unable_router, first_unable_output};
 
-use crate::index::{NameIndex, Parameters};
+use crate::index::Parameters;
 use crate::keys::{LabelKey, PlacedEntry, PlacedOffset};
 use dc_dict::Parameter;
 use dc_parts::{LabelPart, Name, OutputPart, RouterPart, StreamPart, output_gap};
+use dc_tables::NameIndex;
 use dc_word::Format;
 use std::alloc::{AllocError, Global};
 

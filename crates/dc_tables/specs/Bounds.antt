@@ -8,6 +8,7 @@ use Rattle.dc_tables.specs.declared.rows.Bus.{Bus}
 use Rattle.dc_tables.specs.declared.rows.Stream.{Stream}
 use Rattle.dc_tables.specs.declared.rows.Output.{Output}
 use Rattle.dc_tables.specs.declared.made.Rows.{Rows}
+use Rattle.dc_tables.specs.declared.index.Names.{Names}
 use Rattle.dc_tables.specs.TableNames.{TableNames}
 use Rattle.dc_tables.specs.TableRows.{TableRows, stream_cap}
 
@@ -30,6 +31,10 @@ AreBounds bounds buses streams = AllZip (λ own row. AreBoundsOf own (take row.s
 -- the offsets of each output's entries
 abbrev pub frame_offsets : List Output → List (List ℕ)
 frame_offsets outputs = map (λ o. map (λ e. e.offset) o.entries) outputs
+
+-- the names that are looked up, as their lists
+abbrev pub table_names : Names → TableNames
+table_names names = record { buses = names.buses; streams = names.streams; routers = names.routers; outputs = names.outputs; labels = names.labels }
 
 -- the rows with their names and the length of a tick
 abbrev pub table_rows : ℕ → TableNames → Rows → TableRows

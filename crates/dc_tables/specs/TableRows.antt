@@ -13,7 +13,7 @@ use Rattle.dc_tables.specs.declared.rows.Output.{Output}
 use Rattle.dc_tables.specs.declared.rows.Entry.{Entry}
 use Rattle.dc_tables.specs.declared.rows.OutputLabel.{OutputLabel}
 use Rattle.dc_word.specs.declared.format.Format.TheVariants.{Bnr}
-use Rattle.dc_rules.specs.Rules.{sdis_meet}
+use Rattle.dc_tables.specs.Sdis.{sdis_meet}
 use Rattle.dc_tables.specs.TableNames.{TableNames}
 use Rattle.dc_parts.specs.declared.limits.TheConstants.{GREATEST_AGE, GREATEST_JITTER, GREATEST_QUEUE, LONGEST_FRAME, LONGEST_INTERVAL, LONGEST_STALE, LONGEST_TICK, LONGEST_WITHIN, MOST_BUSES, MOST_ENTRIES, MOST_LABELS, MOST_MEMBERS, MOST_OUTPUTS, MOST_ROUTERS, MOST_SOURCES, MOST_STEPS, MOST_STREAMS, MOST_VISITS, SHORTEST_TICK}
 

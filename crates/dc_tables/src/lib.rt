@@ -2,13 +2,13 @@
 #![tactic(auto)]
 
 mod alike;
-mod assemble;
 mod bounds;
+mod index;
 mod made;
 mod rows;
 mod tables;
-mod written;
 
+pub use index::{NameIndex, Names};
+pub use made::Rows;
 pub use rows::{Bus, Entries, Entry, Numbers, Output, OutputLabel, Router, Stream};
 pub use tables::Tables;
-pub use written::WrittenTables;

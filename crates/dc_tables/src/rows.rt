@@ -107,7 +107,7 @@ pub struct OutputLabel {
 /// A list of numbers of rows, each from 0.
 #[derive(Debug, Drop)]
 pub struct Numbers {
-    pub(crate) items: Vec<usize>,
+    items: Vec<usize>,
 }
 
 impl Model for Numbers {
@@ -119,6 +119,13 @@ impl Model for Numbers {
 }
 
 impl Numbers {
+    /// These numbers.
+    pub fn new(items: Vec<usize>) -> Numbers
+        ensures { result ≡ items.items }
+    {
+        Numbers { items }
+    }
+
     /// How many there are.
     pub fn len(&self) -> usize
         ensures { result ≡ length self.now }
@@ -144,7 +151,7 @@ impl Numbers {
 /// The entries of a frame.
 #[derive(Debug, Drop)]
 pub struct Entries {
-    pub(crate) items: Vec<Entry>,
+    items: Vec<Entry>,
 }
 
 impl Model for Entries {
@@ -157,6 +164,13 @@ impl Model for Entries {
 }
 
 impl Entries {
+    /// These entries.
+    pub fn new(items: Vec<Entry>) -> Entries
+        ensures { result ≡ items.items }
+    {
+        Entries { items }
+    }
+
     /// How many there are.
     pub fn len(&self) -> usize
         ensures { result ≡ length self.now }

@@ -6,11 +6,11 @@ ghost use Rattle.dc_tables.specs.Declares.{declares, stream_of, fits};
 
 use crate::alike::BusBounds;
 use crate::bounds::{FrameOffsets, part, wire_of};
-use crate::made::{make_kept, make_rows};
+use crate::index::{NameIndex, Names};
+use crate::made::{Rows, make_kept};
 use crate::rows::{Bus, Output, OutputLabel, Router, Stream};
 use dc_bound::{Alike, ArrivalBound, Capped, Cyclic, Paced, ServiceBound, SumOf, Visits};
-use dc_parts::{BuildError, Name, Parts};
-use dc_rules::{NameIndex, Passed};
+use dc_parts::Name;
 use dc_word::{Sdi, Word};
 use std::alloc::{AllocError, Global};
 use std::marker::Model;
@@ -48,46 +48,17 @@ impl Model for Tables {
 
 impl Tables {
     ghost use Rattle.dc_tables.specs.TableRows.{AreValid, stream_row, output_row, label_row, bus_cap, bus_floor, output_cap, output_floor};
-    ghost use Rattle.std.specs.Prelude.{ℕ, ◌≤◌, Ok, IfOk, vec_len, [], slice_index_or};
-    ghost use Rattle.dc_tables.specs.Named.{HaveNames};
-    ghost use Rattle.dc_tables.specs.RowsOf.{AreRows};
-    ghost use Rattle.dc_rules.specs.Rules.{Tells, verdict_of};
+    ghost use Rattle.std.specs.Prelude.{ℕ, IfOk, [], slice_index_or};
+    ghost use Rattle.dc_tables.specs.Bounds.{table_names, table_rows};
+    ghost use Rattle.dc_tables.specs.Named.{AreSound, HaveNames};
     ghost use Rattle.dc_parts.specs.Names.{number_of};
-    ghost use Rattle.dc_rules.specs.Obeys.{Obeys};
-    ghost use Rattle.dc_rules.specs.Passed.{ArePassed};
 
-    /// The tables of these parts, where they break no rule.
-    ///
-    /// # Errors
-    /// `Refused` with the first broken rule, T06 and T08 to T24; `Memory` where memory is out.
-    pub fn build(alloc: Global, parts: Parts) -> Result<Tables, BuildError>
-        ensures verdict { Tells (verdict_of parts) result }
-        ensures rows { IfOk result (λ t. AreRows parts t) }
+    /// The tables of these rows and names, which are sound.
+    pub fn of(alloc: Global, tick_us: u32, rows: Rows, names: Names) -> Result<Tables, AllocError>
+        requires { AreSound (table_rows tick_us (table_names names) rows) }
+        ensures { IfOk result (λ t. t ≡ table_rows tick_us (table_names names) rows) }
     {
-        Tables::of(alloc, &parts)
-    }
-
-    /// The tables of these parts, which stay with the caller.
-    pub(crate) fn of(alloc: Global, parts: &Parts) -> Result<Tables, BuildError>
-        ensures verdict { Tells (verdict_of parts.now) result }
-        ensures obeys { IfOk result (λ t. Obeys parts.now) }
-        ensures rows { IfOk result (λ t. AreRows parts.now t) }
-    {
-        let passed = Passed::of(alloc, parts)?;
-        Tables::assembled(alloc, parts, passed)
-    }
-
-    /// The tables of parts that break no rule.
-    fn assemble(alloc: Global, parts: &Parts, passed: Passed) -> Result<Tables, AllocError>
-        requires obeys { Obeys parts.now }
-        requires passed { ArePassed parts.now passed }
-        ensures { IfOk result (λ t. AreRows parts.now t) }
-    {
-        parts.in_order();
-        let rows = make_rows(alloc, parts, &passed)?;
         let kept = make_kept(alloc, &rows)?;
-        let tick_us = parts.tick_us();
-        let Passed { names, .. } = passed;
         Ok(Tables {
             tick_us,
             buses: rows.buses,
@@ -103,20 +74,6 @@ impl Tables {
             output_names: names.outputs,
             label_names: names.labels,
         })
-    }
-
-    /// The same, where want of memory is an error of `build`.
-    fn assembled(alloc: Global, parts: &Parts, passed: Passed) -> Result<Tables, BuildError>
-        requires verdict { verdict_of parts.now ≡ Ok tt }
-        requires obeys { Obeys parts.now }
-        requires passed { ArePassed parts.now passed }
-        ensures verdict { Tells (verdict_of parts.now) result }
-        ensures rows { IfOk result (λ t. AreRows parts.now t) }
-    {
-        match Tables::assemble(alloc, parts, passed) {
-            Ok(tables) => Ok(tables),
-            Err(error) => Err(BuildError::Memory(error)),
-        }
     }
 
     /// The number of the bus of this name, from 0, where it is there.

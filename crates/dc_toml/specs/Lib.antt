@@ -2,4 +2,3 @@ pub mod Written
 pub mod Faults
 pub mod Keys
 pub mod Reading
-pub mod Reported

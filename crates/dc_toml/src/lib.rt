@@ -11,4 +11,4 @@ mod read;
 mod sections;
 mod spellings;
 
-pub use read::{read_parts, read_tables};
+pub use read::read_parts;

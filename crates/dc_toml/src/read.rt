@@ -2,7 +2,6 @@
 ghost use Rattle.std.specs.Prelude.{◌≡◌};
 ghost use Rattle.toml.specs.View.{table_view, items_view};
 ghost use Rattle.dc_toml.specs.Faults.{seen, Gives, Leaves};
-ghost use Rattle.dc_toml.specs.Reported.{TellsTables};
 ghost use Rattle.dc_toml.specs.Written.{written};
 ghost use Rattle.dc_toml.specs.Reading.{document_of, tick_of, lists_of, members_of, tables_in, tables_of};
 
@@ -15,7 +14,6 @@ use dc_parts::{
     BuildError, BusPart, LONGEST_TICK, MOST_BUSES, MOST_OUTPUTS, MOST_PARAMETERS, MOST_ROUTERS,
     OutputPart, Parts, RouterPart, SHORTEST_TICK, Section, TEXT_LIMIT, TableFault, TableRule,
 };
-use dc_tables::Tables;
 use std::alloc::{AllocError, Global};
 use toml::{Table, Value};
 
@@ -129,17 +127,4 @@ pub fn read_parts(alloc: Global, text: &[u8]) -> Result<Parts, BuildError>
 {
     let table = document(alloc, text)?;
     parts(alloc, &table)
-}
-
-/// The tables that a TOML text of at most [`TEXT_LIMIT`] bytes says, valid by all rules.
-///
-/// # Errors
-///
-/// `Refused` with the first fault of the text: T01 to T08 of its shape first, then the totals and T09 to T24 as
-/// `Tables::build` tells them; `Memory` where an allocation failed.
-pub fn read_tables(alloc: Global, text: &[u8]) -> Result<Tables, BuildError>
-    ensures { TellsTables (tables_of text.now) result }
-{
-    let parts = read_parts(alloc, text)?;
-    Tables::build(alloc, parts)
 }

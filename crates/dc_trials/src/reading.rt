@@ -1,10 +1,10 @@
 //! The tables and certificates of texts.
 
 use crate::texts::push_small_tables;
+use dc_build::read_tables;
 use dc_cert::{CertFault, Certificate, read_cert};
 use dc_parts::BuildError;
 use dc_tables::Tables;
-use dc_toml::read_tables;
 use std::alloc::Global;
 
 /// The tables of a text.

@@ -1,0 +1,12 @@
+pub mod RowsMade
+pub mod Intervals
+pub mod ValidBuses
+pub mod ValidRouters
+pub mod ValidLabels
+pub mod ValidApart
+pub mod ValidVisits
+pub mod ValidFormats
+pub mod ValidEntries
+pub mod ValidOutputs
+pub mod Valid
+pub mod Split

@@ -1,0 +1,4 @@
+pub mod RowsOf
+pub mod Written
+pub mod Placed
+pub mod Reported
