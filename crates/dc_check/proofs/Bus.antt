@@ -34,7 +34,7 @@ use Rattle.dc_event.specs.lemmas.RunPush.{moves-push, let_in-some}
 use Rattle.dc_event.specs.Time.{ends, tick_after, route_of, routes, route_ticks}
 use Rattle.dc_event.specs.declared.event.Event.{Event}
 use Rattle.dc_event.specs.declared.event.Event.TheVariants.{Tick, Arrive, Route, Send}
-use Rattle.dc_tables.specs.Declares.{fits, stream_of}
+use Rattle.dc_tables.specs.Declares.{stream_of}
 use Rattle.dc_tables.specs.TableRows.{TableRows, AreValid, bus_row, stream_row, router_row, bus_streams, visited, stream_cap, streams_cap, bus_cap, bus_floor, is_policed}
 use Rattle.dc_tables.specs.declared.rows.Stream.{Stream}
 use Rattle.dc_word.specs.Word.{is_odd}

@@ -1,6 +1,7 @@
 -- When a certificate is accepted, what the verdict on it is, and what an accepted one means.
 pub mod Accepts
 pub mod Verdict
+pub mod Jobs
 pub mod FaultText
 pub mod Placed
 pub mod Certified

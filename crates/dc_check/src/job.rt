@@ -3,6 +3,7 @@
 ghost use Rattle.std.specs.Prelude.{◌≡◌, ℕ, ◌+◌, ◌<◌, length, None, Some, IfErr, MatchResult};
 ghost use Rattle.dc_cert.specs.Bounds.{certificate_rows};
 ghost use Rattle.dc_cert.specs.NamedRows.{named_rows};
+ghost use Rattle.dc_check.specs.Jobs.{IsJob};
 ghost use Rattle.dc_check.specs.Placed.{IsPlaced};
 ghost use Rattle.dc_check.specs.Verdict.{IsSized, job_count, job_ranges, job_verdict, job_backlog_failure, job_delay_failure, first_job_fault, verdict_of};
 
@@ -13,35 +14,59 @@ use crate::queues::{input_fault, input_job, output_fault, output_job};
 use dc_cert::Certificate;
 use dc_tables::Tables;
 
+/// What is judged in a job: an input, an output or a label, by its number in its list.
+#[derive(Clone, Copy, Debug, PartialEq, Eq)]
+pub enum Job {
+    /// An input.
+    Input(usize),
+    /// An output.
+    Output(usize),
+    /// A label.
+    Label(usize),
+}
+
+impl Job {
+    /// The job that has this number.
+    pub fn of(tables: &Tables, number: usize) -> Job
+        requires { number < job_count tables.now }
+        ensures { IsJob tables.now number result }
+    {
+        tables.valid();
+        let buses = tables.bus_count();
+        let outputs = tables.output_count();
+        if number < buses {
+            return Job::Input(number);
+        }
+        if number < buses + outputs {
+            return Job::Output(number - buses);
+        }
+        Job::Label(number - (buses + outputs))
+    }
+}
+
 /// The first condition that fails in a job, of C02 to C12; `None` where none does.
 pub fn job_fault(tables: &Tables, certificate: &Certificate, job: usize) -> Option<CheckFault>
     requires sized { IsSized tables.now (certificate_rows certificate.now) }
     requires there { job < job_count tables.now }
     ensures { result ≡ job_verdict tables.now (certificate_rows certificate.now) job }
 {
-    tables.valid();
-    let buses = tables.bus_count();
-    let outputs = tables.output_count();
-    if job < buses {
-        return input_job(
+    match Job::of(tables, job) {
+        Job::Input(bus) => input_job(
             tables,
             certificate,
-            job,
-            &tables.bus_bound(job),
-            &tables.bus_service(job),
-        );
-    }
-    if job < buses + outputs {
-        let output = job - buses;
-        return output_job(
+            bus,
+            &tables.bus_bound(bus),
+            &tables.bus_service(bus),
+        ),
+        Job::Output(output) => output_job(
             tables,
             certificate,
             output,
             &tables.output_bound(output),
             &tables.output_service(output),
-        );
+        ),
+        Job::Label(label) => label_fault(tables, certificate, label),
     }
-    label_fault(tables, certificate, job - (buses + outputs))
 }
 
 /// The same, given the job's first failing windows: that of its backlog, where it is an input, and that of its delay,
@@ -60,32 +85,26 @@ pub fn job_fault_given(
     requires first06 { first06 ≡ job_delay_failure tables.now (certificate_rows certificate.now) job }
     ensures { result ≡ job_verdict tables.now (certificate_rows certificate.now) job }
 {
-    tables.valid();
-    let buses = tables.bus_count();
-    let outputs = tables.output_count();
-    if job < buses {
-        return input_fault(
+    match Job::of(tables, job) {
+        Job::Input(bus) => input_fault(
             tables,
             certificate,
-            job,
-            &tables.bus_bound(job),
-            &tables.bus_service(job),
+            bus,
+            &tables.bus_bound(bus),
+            &tables.bus_service(bus),
             first04,
             first06,
-        );
-    }
-    if job < buses + outputs {
-        let output = job - buses;
-        return output_fault(
+        ),
+        Job::Output(output) => output_fault(
             tables,
             certificate,
             output,
             &tables.output_bound(output),
             &tables.output_service(output),
             first06,
-        );
+        ),
+        Job::Label(label) => label_fault(tables, certificate, label),
     }
-    label_fault(tables, certificate, job - (buses + outputs))
 }
 
 /// The first fault of all jobs.

@@ -13,6 +13,6 @@ mod rules;
 
 pub use certified::Certified;
 pub use fault::{CertificateList, CheckFault, Condition};
-pub use job::{job_fault, job_fault_given, verdict};
+pub use job::{Job, job_fault, job_fault_given, verdict};
 pub use judge::{certify, check};
 pub use names::misnamed;

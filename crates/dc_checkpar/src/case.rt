@@ -13,7 +13,7 @@ use crate::long::first_failures;
 use dc_bound::{ArrivalBound, ServiceBound};
 use dc_busy::LONGEST_WINDOW;
 use dc_cert::Certificate;
-use dc_check::{CheckFault, job_fault, job_fault_given};
+use dc_check::{CheckFault, Job, job_fault, job_fault_given};
 use dc_tables::Tables;
 use std::marker::Sync;
 use std::thread::Threads;
@@ -107,32 +107,27 @@ fn case_fault<R: Threads + Sync>(
     requires there { job < job_count tables.now }
     ensures { result ≡ job_verdict tables.now (certificate_rows certificate.now) job }
 {
-    tables.valid();
-    let buses = tables.bus_count();
-    let outputs = tables.output_count();
-    if job < buses {
-        return input_fault(
+    match Job::of(tables, job) {
+        Job::Input(bus) => input_fault(
             rt,
             in_pieces,
             tables,
             certificate,
-            job,
-            &tables.bus_bound(job),
-            &tables.bus_service(job),
-        );
-    }
-    if job < buses + outputs {
-        return output_fault(
+            bus,
+            &tables.bus_bound(bus),
+            &tables.bus_service(bus),
+        ),
+        Job::Output(output) => output_fault(
             rt,
             in_pieces,
             tables,
             certificate,
-            job - buses,
-            &tables.output_bound(job - buses),
-            &tables.output_service(job - buses),
-        );
+            output,
+            &tables.output_bound(output),
+            &tables.output_service(output),
+        ),
+        Job::Label(_) => job_fault(tables, certificate, job),
     }
-    job_fault(tables, certificate, job)
 }
 
 /// The first fault of an input, given the bounds of its bus.

@@ -1,13 +1,14 @@
 -- The first fault of the jobs, as a loop finds it.
-use Rattle.std.proofs.Common.{◌≡◌, ℕ, zero, suc, ◌+◌, ◌-◌, ◌<◌, ◌≤◌, true, false, Option, Some, None, is_some, length, inl, inr, refl, sym, ap, ◌∙◌, arith, add-one}
+use Rattle.std.proofs.Common.{◌≡◌, ℕ, zero, suc, ◌+◌, ◌-◌, ◌<◌, true, false, Option, Some, None, is_some, length, inl, inr, refl, sym, ap, ◌∙◌, arith, add-one}
 use Rattle.std.specs.Option.{option_or}
 use Rattle.std.proofs.lemmas.Bool.{cases_lt, lt-ltb, le-ltb}
 use Rattle.dc_cert.specs.Bounds.{CertificateRows, input_bound, output_bound, numbers_of}
 use Rattle.dc_cert.specs.NamedRows.{NamedRows}
 use Rattle.dc_check.specs.lemmas.Exact.{none-or}
 use Rattle.dc_check.specs.lemmas.Firsts.{at_front, nothing}
-use Rattle.dc_check.specs.Verdict.{first_of, misnaming, input_rules, output_rules, label_rules, job_count, job_ranges, job_rules, job_verdict, first_job_fault, verdict_of}
+use Rattle.dc_check.specs.Verdict.{first_of, misnaming, range_rules, input_rules, output_rules, label_rules, input_backlog_failure, input_delay_failure, output_delay_failure, job_count, job_ranges, job_rules, job_backlog_failure, job_delay_failure, job_verdict, first_job_fault, verdict_of}
 use Rattle.dc_check.specs.declared.fault.CheckFault.{CheckFault}
+use Rattle.dc_check.specs.declared.fault.CertificateList.TheVariants.{Inputs, Outputs}
 use Rattle.dc_tables.specs.TableRows.{TableRows}
 
 -- a job in whose ranges there is no fault
@@ -15,15 +16,39 @@ pub job-in_range : (t : TableRows) (c : CertificateRows) (job : ℕ) → job_ran
 unfolding job_verdict
 job-in_range t c job h = ap (λ o. option_or o (job_rules t c job)) h
 
-pub rules-input : (t : TableRows) (c : CertificateRows) (b : ℕ) → b < length t.buses → job_rules t c b ≡ first_of (input_rules t b (input_bound c b))
-rules-input t c b h = rw (lt-ltb b (length t.buses) h) refl
+-- what is left of a number without those before it
+own : (before n : ℕ) → before + n - before ≡ n
+own before n = omega arith
 
-pub rules-output : (t : TableRows) (c : CertificateRows) (job : ℕ) → length t.buses ≤ job → job < length t.buses + length t.outputs
-    → job_rules t c job ≡ first_of (output_rules t (job - length t.buses) (output_bound c (job - length t.buses)))
-rules-output t c job low high = rw (le-ltb job (length t.buses) low, lt-ltb job (length t.buses + length t.outputs) high) refl
+-- what the rules say of an input, and which windows they name
+module _ (t : TableRows) (c : CertificateRows) (b : ℕ) (there : b < length t.buses) where
+  pub ranges-input : job_ranges t c b ≡ first_of (range_rules Inputs b (input_bound c b).window (input_bound c b).delay)
+  ranges-input = rw (lt-ltb b (length t.buses) there) refl
 
-pub rules-label : (t : TableRows) (c : CertificateRows) (job : ℕ) → length t.buses + length t.outputs ≤ job → job_rules t c job ≡ first_of (label_rules t (job - (length t.buses + length t.outputs)) c)
-rules-label t c job low = rw (le-ltb job (length t.buses) (omega arith), le-ltb job (length t.buses + length t.outputs) low) refl
+  pub rules-input : job_rules t c b ≡ first_of (input_rules t b (input_bound c b))
+  rules-input = rw (lt-ltb b (length t.buses) there) refl
+
+  pub backlog-input : job_backlog_failure t c b ≡ input_backlog_failure t b (input_bound c b)
+  backlog-input = rw (lt-ltb b (length t.buses) there) refl
+
+  pub delay-input : job_delay_failure t c b ≡ input_delay_failure t b (input_bound c b)
+  delay-input = rw (lt-ltb b (length t.buses) there) refl
+
+-- of an output
+module _ (t : TableRows) (c : CertificateRows) (o : ℕ) (there : o < length t.outputs) where
+  pub ranges-output : job_ranges t c (length t.buses + o) ≡ first_of (range_rules Outputs o (output_bound c o).window (output_bound c o).delay)
+  ranges-output = rw (le-ltb (length t.buses + o) (length t.buses) (omega arith), lt-ltb (length t.buses + o) (length t.buses + length t.outputs) (omega arith), own (length t.buses) o) refl
+
+  pub rules-output : job_rules t c (length t.buses + o) ≡ first_of (output_rules t o (output_bound c o))
+  rules-output = rw (le-ltb (length t.buses + o) (length t.buses) (omega arith), lt-ltb (length t.buses + o) (length t.buses + length t.outputs) (omega arith), own (length t.buses) o) refl
+
+  pub delay-output : job_delay_failure t c (length t.buses + o) ≡ output_delay_failure t o (output_bound c o)
+  delay-output = rw (le-ltb (length t.buses + o) (length t.buses) (omega arith), lt-ltb (length t.buses + o) (length t.buses + length t.outputs) (omega arith), own (length t.buses) o) refl
+
+-- of a label
+pub rules-label : (t : TableRows) (c : CertificateRows) (x : ℕ) → job_rules t c (length t.buses + length t.outputs + x) ≡ first_of (label_rules t x c)
+rules-label t c x =
+    rw (le-ltb (length t.buses + length t.outputs + x) (length t.buses) (omega arith), le-ltb (length t.buses + length t.outputs + x) (length t.buses + length t.outputs) (omega arith), own (length t.buses + length t.outputs) x) refl
 
 -- a loop over the jobs
 pub jobs-zero : (f : ℕ → Option CheckFault) → first_job_fault f 0 ≡ None

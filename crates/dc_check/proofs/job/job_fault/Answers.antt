@@ -1,13 +1,17 @@
-use Rattle.std.proofs.Common.{◌≡◌, ◌+◌, ◌-◌, length, sym, ap, ◌∙◌, arith}
+use Rattle.std.proofs.Common.{sym, ap, ◌∙◌}
 use Rattle.dc_cert.specs.Bounds.{certificate_rows}
 use Rattle.dc_check.specs.lemmas.Exact.{job-label}
 use Rattle.dc_check.specs.Verdict.{job_verdict}
 use Rattle.dc_check.proofs.job.job_fault.Goals as goal
 
-pub returns : goal.returns
-returns c =
-    let at : length c.args.tables.now.buses + length c.args.tables.now.outputs + (c.args.job - (c.bus_count-buses.result + c.output_count-outputs.result)) ≡ c.args.job =
-    omega (arith, c.bus_count-buses.ensures, c.output_count-outputs.ensures, c.if-job-buses-2.false) in
+pub returns-in-Input : goal.returns-in-Input
+returns-in-Input c = c.input_job.ensures ∙ ap (job_verdict c.args.tables.now (certificate_rows c.args.certificate.now)) (sym (c.in-Input.ensures).1)
+
+pub returns-in-Output : goal.returns-in-Output
+returns-in-Output c = c.output_job.ensures ∙ ap (job_verdict c.args.tables.now (certificate_rows c.args.certificate.now)) (sym (c.in-Output.ensures).1)
+
+pub returns-in-Label : goal.returns-in-Label
+returns-in-Label c =
     c.label_fault.ensures
-    ∙ sym (job-label c.args.tables.now (certificate_rows c.args.certificate.now) (c.args.job - (c.bus_count-buses.result + c.output_count-outputs.result)))
-    ∙ ap (job_verdict c.args.tables.now (certificate_rows c.args.certificate.now)) at
+    ∙ sym (job-label c.args.tables.now (certificate_rows c.args.certificate.now) c.in-Label.label)
+    ∙ ap (job_verdict c.args.tables.now (certificate_rows c.args.certificate.now)) (sym (c.in-Label.ensures).1)

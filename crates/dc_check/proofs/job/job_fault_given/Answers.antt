@@ -1,27 +1,29 @@
-use Rattle.std.proofs.Common.{◌≡◌, ◌+◌, ◌-◌, length, sym, ap, ◌∙◌, arith}
-use Rattle.dc_cert.specs.Bounds.{output_bound, certificate_rows}
+use Rattle.std.proofs.Common.{sym, ap, ◌∙◌}
+use Rattle.dc_cert.specs.Bounds.{certificate_rows}
 use Rattle.dc_check.specs.lemmas.Jobs.{job-in_range, rules-input, rules-output, rules-label}
-use Rattle.dc_check.specs.Verdict.{first_of, output_rules, label_rules}
+use Rattle.dc_check.specs.Verdict.{job_rules}
 use Rattle.dc_check.proofs.job.job_fault_given.Goals as goal
 
-pub returns-then-job-buses : goal.returns-then-job-buses
-returns-then-job-buses c =
+pub returns-in-Input : goal.returns-in-Input
+returns-in-Input c =
+    let t = c.args.tables.now in
+    let rows = certificate_rows c.args.certificate.now in
+    let at = c.in-Input.ensures in
     c.input_fault.ensures
-    ∙ sym (job-in_range c.args.tables.now (certificate_rows c.args.certificate.now) c.args.job c.requires.ranges
-    ∙ rules-input c.args.tables.now (certificate_rows c.args.certificate.now) c.args.job (omega (arith, c.if-job-buses.true, c.bus_count-buses.ensures)))
+    ∙ sym (job-in_range t rows c.args.job c.requires.ranges ∙ ap (job_rules t rows) at.1 ∙ rules-input t rows c.in-Input.bus at.0)
 
-pub returns-then-job-buses-2 : goal.returns-then-job-buses-2
-returns-then-job-buses-2 c =
+pub returns-in-Output : goal.returns-in-Output
+returns-in-Output c =
+    let t = c.args.tables.now in
+    let rows = certificate_rows c.args.certificate.now in
+    let at = c.in-Output.ensures in
     c.output_fault.ensures
-    ∙ ap (λ o. first_of (output_rules c.args.tables.now (c.args.job - o) (output_bound (certificate_rows c.args.certificate.now) (c.args.job - o)))) c.bus_count-buses.ensures
-    ∙ sym (job-in_range c.args.tables.now (certificate_rows c.args.certificate.now) c.args.job c.requires.ranges
-    ∙ rules-output c.args.tables.now (certificate_rows c.args.certificate.now) c.args.job (omega (arith, c.if-job-buses.false, c.bus_count-buses.ensures))
-    (omega (arith, c.if-job-buses-2.true, c.bus_count-buses.ensures, c.output_count-outputs.ensures)))
+    ∙ sym (job-in_range t rows c.args.job c.requires.ranges ∙ ap (job_rules t rows) at.1 ∙ rules-output t rows c.in-Output.output at.0)
 
-pub returns : goal.returns
-returns c =
-    let sum : c.bus_count-buses.result + c.output_count-outputs.result ≡ length c.args.tables.now.buses + length c.args.tables.now.outputs = omega (arith, c.bus_count-buses.ensures, c.output_count-outputs.ensures) in
+pub returns-in-Label : goal.returns-in-Label
+returns-in-Label c =
+    let t = c.args.tables.now in
+    let rows = certificate_rows c.args.certificate.now in
+    let at = c.in-Label.ensures in
     c.label_fault.ensures
-    ∙ ap (λ n. first_of (label_rules c.args.tables.now (c.args.job - n) (certificate_rows c.args.certificate.now))) sum
-    ∙ sym (job-in_range c.args.tables.now (certificate_rows c.args.certificate.now) c.args.job c.requires.ranges
-    ∙ rules-label c.args.tables.now (certificate_rows c.args.certificate.now) c.args.job (omega (arith, c.if-job-buses-2.false, sum)))
+    ∙ sym (job-in_range t rows c.args.job c.requires.ranges ∙ ap (job_rules t rows) at.1 ∙ rules-label t rows c.in-Label.label)

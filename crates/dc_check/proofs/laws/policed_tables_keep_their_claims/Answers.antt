@@ -1,5 +1,5 @@
-use Rattle.std.proofs.Common.{◌≡◌, true, false, sym, ◌∙◌}
-use Rattle.dc_tables.specs.TableRows.{stream_row, is_policed}
+use Rattle.std.proofs.Common.{sym, ◌∙◌}
+use Rattle.dc_tables.specs.TableRows.{stream_row}
 use Rattle.dc_check.proofs.laws.policed_tables_keep_their_claims.Goals as goal
 
 -- of a policed bus nothing is asked
