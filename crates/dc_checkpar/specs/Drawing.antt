@@ -2,6 +2,7 @@
 use Rattle.std.specs.Prelude.{◌≡◌, ℕ, ◌+◌, ◌≤◌, true, false, if◌then◌else◌, ◌==◌, nat_le, nat_lt, List, [], ◌∷◌, ◌++◌, length, slice_index}
 use mathlib.Core.Option.{some}
 use lib.ListN.{get_elem?}
+use Rattle.atomic_table.specs.Seated.{TableId}
 use Rattle.atomic_table.specs.Table.{State, Me, Step}
 use Rattle.dc_checkpar.specs.declared.view.View.{View}
 use Rattle.dc_checkpar.specs.declared.limits.TheConstants.{MOST_WORKERS}
@@ -31,6 +32,14 @@ times x (y ∷ ys) = (if y == x then 1 else 0) + times x ys
 abbrev pub past : ℕ → List ℕ → ℕ
 past jobs [] = 0
 past jobs (y ∷ ys) = (if nat_le jobs y then 1 else 0) + past jobs ys
+
+-- a drawer of this counter, which has drawn no number past the last job
+abbrev pub IsFresh : TableId × ℕ → TableId × View → Type 0
+IsFresh counter drawer = (drawer.0 ≡ counter.0) × (drawer.1.jobs ≡ counter.1) × (past counter.1 drawer.1.drawn ≡ 0)
+
+-- the first drawer of this counter, before it draws
+abbrev pub IsLeader : TableId × ℕ → TableId × View → Type 0
+IsLeader counter drawer = (drawer.0 ≡ counter.0) × (drawer.1 ≡ leader counter.1)
 
 -- f of each view, added up
 abbrev pub total : (View → ℕ) → List View → ℕ

@@ -3,7 +3,7 @@
 ghost use Rattle.std.specs.Prelude.{◌≡◌, ℕ, ◌+◌, ◌^◌, ◌<◌, ◌≤◌, ◌≢◌, ◌⊎◌, Option, true, Err, IfOk, IfErr, vec_len, vec_capacity};
 ghost use Rattle.dc_check.specs.Verdict.{first_job_fault};
 ghost use Rattle.dc_check.specs.declared.fault.CheckFault.{CheckFault};
-ghost use Rattle.dc_checkpar.specs.Drawing.{leader as leader_of, past};
+ghost use Rattle.dc_checkpar.specs.Drawing.{IsFresh, IsLeader};
 ghost use Rattle.dc_checkpar.specs.Reports.{AreJudged, AreKnown, ArePromised, IsReport, MayStick};
 ghost use Rattle.dc_checkpar.specs.declared.worker.Halt.TheVariants.{GateStuck};
 ghost use Rattle.dc_checkpar.specs.declared.limits.TheConstants.{MOST_WORKERS};
@@ -11,7 +11,7 @@ ghost use Rattle.dc_checkpar.specs.declared.limits.TheConstants.{MOST_WORKERS};
 use crate::gate::{Gate, Stuck};
 use crate::jobs::Jobs;
 use crate::laws::{Counter, Drawer};
-use crate::worker::{Halt, IsRight, Judged, Report, judge, work};
+use crate::worker::{Halt, IsRight, Judged, Report, Shared, judge, work};
 use dc_check::CheckFault;
 use std::alloc::{AllocError, Global};
 use std::snapshot::Snapshot;
@@ -26,28 +26,37 @@ type Child<J, G> = PromisedHandle<Report, IsRight<J, G>>;
 fn start<'s, E, J: Jobs + 's, G: Gate + 's>(
     scope: &Scope<'s, E>,
     alloc: Global,
-    jobs: &'s J,
-    gate: &'s G,
-    source: &'s Counter,
-    stop: &'s AtomicBool,
+    shared: &Shared<'s, J, G>,
     drawer: Drawer,
 ) -> Result<Child<J, G>, Halt>
-    requires drawer { (drawer.0 ≡ source.now.0) × (drawer.1.jobs ≡ source.now.1) × (past source.now.1 drawer.1.drawn ≡ 0) }
-    requires jobs { J.may_ask jobs.now × (source.now.1 ≡ J.jobs jobs.now) }
-    ensures ok { IfOk result (λ h. (h.promise.jobs.value ≡ jobs.now) × (h.promise.gate.value ≡ gate.now)) }
+    requires drawer { IsFresh shared.now.source.now drawer }
+    requires jobs { J.may_ask shared.now.jobs.now × (shared.now.source.now.1 ≡ J.jobs shared.now.jobs.now) }
+    ensures ok { IfOk result (λ h. (h.promise.jobs.value ≡ shared.now.jobs.now) × (h.promise.gate.value ≡ shared.now.gate.now)) }
     ensures err { IfErr result (λ halt. halt ≢ GateStuck) }
 {
     let promise = IsRight {
-        jobs: Snapshot::of(jobs),
-        gate: Snapshot::of(gate),
+        jobs: Snapshot::of(shared.jobs),
+        gate: Snapshot::of(shared.gate),
     };
+    let jobs = shared.jobs;
+    let gate = shared.gate;
+    let source = shared.source;
+    let stop = shared.stop;
     let spawned = scope.spawn_with(
         promise,
         move || -> Report
-            requires drawer { (drawer.0 ≡ source.now.0) × (drawer.1.jobs ≡ source.now.1) × (past source.now.1 drawer.1.drawn ≡ 0) }
+            requires drawer { IsFresh source.now drawer }
             requires jobs { J.may_ask jobs.now × (source.now.1 ≡ J.jobs jobs.now) }
             ensures { IsReport (J.jobs jobs.entry.now) (J.verdict jobs.entry.now) (G.may_stick gate.entry.now) result }
-        { work(alloc, jobs, gate, source, stop, drawer) },
+        {
+            let shared = Shared {
+                jobs,
+                gate,
+                source,
+                stop,
+            };
+            work(alloc, &shared, drawer)
+        },
     );
     let Ok(child) = spawned else {
         stop.store(true, Ordering::SeqCst);
@@ -60,25 +69,22 @@ fn start<'s, E, J: Jobs + 's, G: Gate + 's>(
 fn start_all<'s, E, J: Jobs + 's, G: Gate + 's>(
     scope: &Scope<'s, E>,
     alloc: Global,
-    jobs: &'s J,
-    gate: &'s G,
-    source: &'s Counter,
-    stop: &'s AtomicBool,
+    shared: &Shared<'s, J, G>,
     leader: &mut Drawer,
     others: usize,
     children: &mut Vec<Child<J, G>>,
 ) -> Result<(), Halt>
-    requires leader { (leader.old.0 ≡ source.now.0) × (leader.old.1 ≡ leader_of source.now.1) }
+    requires leader { IsLeader shared.now.source.now leader.old }
     requires others { others < MOST_WORKERS }
-    requires jobs { J.may_ask jobs.now × (source.now.1 ≡ J.jobs jobs.now) }
+    requires jobs { J.may_ask shared.now.jobs.now × (shared.now.source.now.1 ≡ J.jobs shared.now.jobs.now) }
     requires room { (vec_len children.old ≡ 0) × (others ≤ vec_capacity children.old) }
-    ensures leader { (leader.new.0 ≡ source.now.0) × (leader.new.1.jobs ≡ source.now.1) × (past source.now.1 leader.new.1.drawn ≡ 0) }
-    ensures children { ArePromised jobs.now gate.now (λ h. h.promise.jobs.value) (λ h. h.promise.gate.value) children.new.items }
+    ensures leader { IsFresh shared.now.source.now leader.new }
+    ensures children { ArePromised shared.now.jobs.now shared.now.gate.now (λ h. h.promise.jobs.value) (λ h. h.promise.gate.value) children.new.items }
     ensures err { IfErr result (λ halt. halt ≢ GateStuck) }
 {
     for _ in 0..others {
-        let drawer = source.split(leader);
-        match start(scope, alloc, jobs, gate, source, stop, drawer) {
+        let drawer = shared.source.split(leader);
+        match start(scope, alloc, shared, drawer) {
             Ok(child) => children.push_reserved(child),
             Err(halt) => return Err(halt),
         }
@@ -101,17 +107,15 @@ fn note(known: &mut Vec<Option<Option<CheckFault>>>, judged: &Vec<Judged>)
 /// Joins the workers, and puts what they judged beside its jobs.
 fn join_all<J: Jobs, G: Gate, R: Threads>(
     rt: &R,
-    jobs: &J,
-    gate: &G,
+    shared: &Shared<'_, J, G>,
     children: &mut Vec<Child<J, G>>,
     known: &mut Vec<Option<Option<CheckFault>>>,
 ) -> Result<(), Halt>
-    requires { ArePromised jobs.now gate.now (λ h. h.promise.jobs.value) (λ h. h.promise.gate.value) children.old.items }
-    ensures known { AreKnown (J.verdict jobs.now) known.old.items → AreKnown (J.verdict jobs.now) known.new.items }
-    ensures stuck { result ≡ Err GateStuck → MayStick (J.jobs jobs.now) (G.may_stick gate.now) }
+    requires { ArePromised shared.now.jobs.now shared.now.gate.now (λ h. h.promise.jobs.value) (λ h. h.promise.gate.value) children.old.items }
+    ensures known { AreKnown (J.verdict shared.now.jobs.now) known.old.items → AreKnown (J.verdict shared.now.jobs.now) known.new.items }
+    ensures stuck { result ≡ Err GateStuck → MayStick (J.jobs shared.now.jobs.now) (G.may_stick shared.now.gate.now) }
 {
-    let _jobs = jobs;
-    let _gate = gate;
+    let _shared = shared;
     let mut end = Ok(());
     while let Some(child) = children.pop() {
         let Report {
@@ -143,38 +147,28 @@ fn work_together<'s, E, J: Jobs + 's, G: Gate + 's, R: Threads>(
     scope: &Scope<'s, E>,
     rt: &R,
     alloc: Global,
-    jobs: &'s J,
-    gate: &'s G,
-    source: &'s Counter,
-    stop: &'s AtomicBool,
+    shared: &Shared<'s, J, G>,
     mut leader: Drawer,
     others: usize,
-    mut children: Vec<Child<J, G>>,
     mut known: Vec<Option<Option<CheckFault>>>,
 ) -> Found
-    requires leader { (leader.0 ≡ source.now.0) × (leader.1 ≡ leader_of source.now.1) }
+    requires leader { IsLeader shared.now.source.now leader }
     requires others { others < MOST_WORKERS }
-    requires jobs { J.may_ask jobs.now × (source.now.1 ≡ J.jobs jobs.now) }
-    requires room { (vec_len children ≡ 0) × (others ≤ vec_capacity children) }
-    requires known { AreKnown (J.verdict jobs.now) known.items }
-    ensures known { AreKnown (J.verdict jobs.now) result.known.items }
-    ensures stuck { result.end ≡ Err GateStuck → MayStick (J.jobs jobs.now) (G.may_stick gate.now) }
+    requires jobs { J.may_ask shared.now.jobs.now × (shared.now.source.now.1 ≡ J.jobs shared.now.jobs.now) }
+    requires known { AreKnown (J.verdict shared.now.jobs.now) known.items }
+    ensures known { AreKnown (J.verdict shared.now.jobs.now) result.known.items }
+    ensures stuck { result.end ≡ Err GateStuck → MayStick (J.jobs shared.now.jobs.now) (G.may_stick shared.now.gate.now) }
 {
-    let own = &mut leader;
-    let started = start_all(
-        scope,
-        alloc,
-        jobs,
-        gate,
-        source,
-        stop,
-        own,
-        others,
-        &mut children,
-    );
-    let Report { judged, end } = work(alloc, jobs, gate, source, stop, leader);
+    let Ok(mut children) = Vec::with_capacity(alloc, others) else {
+        return Found {
+            known,
+            end: Err(Halt::Memory),
+        };
+    };
+    let started = start_all(scope, alloc, shared, &mut leader, others, &mut children);
+    let Report { judged, end } = work(alloc, shared, leader);
     note(&mut known, &judged);
-    let joined = join_all(rt, jobs, gate, &mut children, &mut known);
+    let joined = join_all(rt, shared, &mut children, &mut known);
     Found {
         known,
         end: first_halt(started, first_halt(end, joined)),
@@ -185,39 +179,40 @@ fn work_together<'s, E, J: Jobs + 's, G: Gate + 's, R: Threads>(
 fn in_threads<J: Jobs, G: Gate, R: Threads + Wait + Sync>(
     rt: &R,
     alloc: Global,
-    jobs: &J,
-    gate: &G,
-    source: &Counter,
+    shared: &Shared<'_, J, G>,
     leader: Drawer,
     others: usize,
-    children: Vec<Child<J, G>>,
     known: Vec<Option<Option<CheckFault>>>,
 ) -> Found
-    requires leader { (leader.0 ≡ source.now.0) × (leader.1 ≡ leader_of source.now.1) }
+    requires leader { IsLeader shared.now.source.now leader }
     requires others { others < MOST_WORKERS }
-    requires jobs { J.may_ask jobs.now × (source.now.1 ≡ J.jobs jobs.now) }
-    requires room { (vec_len children ≡ 0) × (others ≤ vec_capacity children) }
-    requires known { AreKnown (J.verdict jobs.now) known.items }
-    ensures known { AreKnown (J.verdict jobs.now) result.known.items }
-    ensures stuck { result.end ≡ Err GateStuck → MayStick (J.jobs jobs.now) (G.may_stick gate.now) }
+    requires jobs { J.may_ask shared.now.jobs.now × (shared.now.source.now.1 ≡ J.jobs shared.now.jobs.now) }
+    requires known { AreKnown (J.verdict shared.now.jobs.now) known.items }
+    ensures known { AreKnown (J.verdict shared.now.jobs.now) result.known.items }
+    ensures stuck { result.end ≡ Err GateStuck → MayStick (J.jobs shared.now.jobs.now) (G.may_stick shared.now.gate.now) }
 {
-    let stop = AtomicBool::new(false);
-    let stop = &stop;
+    let jobs = shared.jobs;
+    let gate = shared.gate;
+    let source = shared.source;
+    let stop = shared.stop;
     thread::scope(
         thread::scope_env(),
         rt,
         |scope| -> Found
-            requires leader { (leader.0 ≡ source.now.0) × (leader.1 ≡ leader_of source.now.1) }
+            requires leader { IsLeader source.now leader }
             requires others { others < MOST_WORKERS }
             requires jobs { J.may_ask jobs.now × (source.now.1 ≡ J.jobs jobs.now) }
-            requires room { (vec_len children ≡ 0) × (others ≤ vec_capacity children) }
             requires known { AreKnown (J.verdict jobs.now) known.items }
             ensures known { AreKnown (J.verdict jobs.entry.now) result.known.items }
             ensures stuck { result.end ≡ Err GateStuck → MayStick (J.jobs jobs.entry.now) (G.may_stick gate.entry.now) }
         {
-            work_together(
-                scope, rt, alloc, jobs, gate, source, stop, leader, others, children, known,
-            )
+            let shared = Shared {
+                jobs,
+                gate,
+                source,
+                stop,
+            };
+            work_together(scope, rt, alloc, &shared, leader, others, known)
         },
     )
 }
@@ -288,18 +283,20 @@ pub(crate) fn first_fault<J: Jobs, G: Gate, R: Threads + Wait + Sync>(
     ensures stuck { result ≡ Err GateStuck → MayStick (J.jobs jobs.now) (G.may_stick gate.now) }
 {
     let others = workers - 1;
-    let Ok(children) = Vec::with_capacity(alloc, others) else {
-        return Err(Halt::Memory);
-    };
     let Ok(known) = unknown(alloc, jobs.len()) else {
         return Err(Halt::Memory);
     };
     let Ok((source, leader)) = Counter::new(alloc, jobs.len() as u64) else {
         return Err(Halt::Memory);
     };
-    let Found { known, end } = in_threads(
-        rt, alloc, jobs, gate, &source, leader, others, children, known,
-    );
+    let stop = AtomicBool::new(false);
+    let shared = Shared {
+        jobs,
+        gate,
+        source: &source,
+        stop: &stop,
+    };
+    let Found { known, end } = in_threads(rt, alloc, &shared, leader, others, known);
     if let Err(halt) = end {
         return Err(halt);
     }

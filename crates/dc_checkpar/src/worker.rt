@@ -1,7 +1,7 @@
 //! A worker: it draws jobs and judges them.
 
 ghost use Rattle.std.specs.Prelude.{◌≡◌, ℕ, ◌<◌, Err, IfOk, IfErr};
-ghost use Rattle.dc_checkpar.specs.Drawing.{past};
+ghost use Rattle.dc_checkpar.specs.Drawing.{IsFresh};
 ghost use Rattle.dc_checkpar.specs.Reports.{AreJudged, IsReport, MayStick};
 ghost use Rattle.dc_checkpar.specs.declared.worker.Halt.TheVariants.{GateStuck};
 
@@ -27,6 +27,16 @@ pub(crate) enum Halt {
     Memory,
     Spawn,
     GateStuck,
+}
+
+/// What all workers share: the jobs, the gate before each, the counter that hands them out, and whether all have to
+/// stop.
+#[derive(Drop)]
+pub(crate) struct Shared<'a, J, G> {
+    pub jobs: &'a J,
+    pub gate: &'a G,
+    pub source: &'a Counter,
+    pub stop: &'a AtomicBool,
 }
 
 /// What a worker has judged, and whether it gave up.
@@ -68,50 +78,44 @@ pub(crate) fn judge<J: Jobs, G: Gate>(
 /// Draws jobs until none is left, and judges them.
 pub(crate) fn work<J: Jobs, G: Gate>(
     alloc: Global,
-    jobs: &J,
-    gate: &G,
-    source: &Counter,
-    stop: &AtomicBool,
+    shared: &Shared<'_, J, G>,
     drawer: Drawer,
 ) -> Report
-    requires drawer { (drawer.0 ≡ source.now.0) × (drawer.1.jobs ≡ source.now.1) × (past source.now.1 drawer.1.drawn ≡ 0) }
-    requires jobs { J.may_ask jobs.now × (source.now.1 ≡ J.jobs jobs.now) }
-    ensures { IsReport (J.jobs jobs.now) (J.verdict jobs.now) (G.may_stick gate.now) result }
+    requires drawer { IsFresh shared.now.source.now drawer }
+    requires jobs { J.may_ask shared.now.jobs.now × (shared.now.source.now.1 ≡ J.jobs shared.now.jobs.now) }
+    ensures { IsReport (J.jobs shared.now.jobs.now) (J.verdict shared.now.jobs.now) (G.may_stick shared.now.gate.now) result }
 {
     let mut judged = Vec::new(alloc);
-    let end = judge_all(jobs, gate, source, stop, drawer, &mut judged);
+    let end = judge_all(shared, drawer, &mut judged);
     if end.is_err() {
-        stop.store(true, Ordering::SeqCst);
+        shared.stop.store(true, Ordering::SeqCst);
     }
     Report { judged, end }
 }
 
 /// Judges what it draws, until none is left or it has to stop.
 fn judge_all<J: Jobs, G: Gate>(
-    jobs: &J,
-    gate: &G,
-    source: &Counter,
-    stop: &AtomicBool,
+    shared: &Shared<'_, J, G>,
     mut drawer: Drawer,
     judged: &mut Vec<Judged>,
 ) -> Result<(), Halt>
-    requires drawer { (drawer.0 ≡ source.now.0) × (drawer.1.jobs ≡ source.now.1) × (past source.now.1 drawer.1.drawn ≡ 0) }
-    requires jobs { J.may_ask jobs.now × (source.now.1 ≡ J.jobs jobs.now) }
-    ensures judged { AreJudged (J.verdict jobs.now) judged.old.items → AreJudged (J.verdict jobs.now) judged.new.items }
-    ensures stuck { result ≡ Err GateStuck → MayStick (J.jobs jobs.now) (G.may_stick gate.now) }
+    requires drawer { IsFresh shared.now.source.now drawer }
+    requires jobs { J.may_ask shared.now.jobs.now × (shared.now.source.now.1 ≡ J.jobs shared.now.jobs.now) }
+    ensures judged { AreJudged (J.verdict shared.now.jobs.now) judged.old.items → AreJudged (J.verdict shared.now.jobs.now) judged.new.items }
+    ensures stuck { result ≡ Err GateStuck → MayStick (J.jobs shared.now.jobs.now) (G.may_stick shared.now.gate.now) }
 {
-    for _ in 0..jobs.len() {
-        if stop.load(Ordering::SeqCst) {
+    for _ in 0..shared.jobs.len() {
+        if shared.stop.load(Ordering::SeqCst) {
             break;
         }
         if judged.reserve(1).is_err() {
             return Err(Halt::Memory);
         }
-        let job = source.draw(&mut drawer) as usize;
-        if job >= jobs.len() {
+        let job = shared.source.draw(&mut drawer) as usize;
+        if job >= shared.jobs.len() {
             break;
         }
-        let Ok(fault) = judge(jobs, gate, job) else {
+        let Ok(fault) = judge(shared.jobs, shared.gate, job) else {
             return Err(Halt::GateStuck);
         };
         judged.push_reserved(Judged { job, fault });

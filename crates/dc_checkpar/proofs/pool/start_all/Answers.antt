@@ -15,6 +15,6 @@ loop-preserved g c =
       omega (arith, ap (λ v. v.splits) left.1, before.4),
       omega (arith, pushed.len, before.5),
       omega (arith, pushed.capacity, before.6),
-      subst (λ hs. ArePromised c.args.jobs.now c.args.gate.now (λ h. h.promise.jobs.value) (λ h. h.promise.gate.value) hs) (sym pushed.items)
-          (promised-one c.loop.children.items c.in-Ok.child c.args.jobs.now c.args.gate.now (λ h. h.promise.jobs.value) (λ h. h.promise.gate.value) before.7 c.in-Ok.ensures.ok),
+      subst (λ hs. ArePromised c.args.shared.now.jobs.now c.args.shared.now.gate.now (λ h. h.promise.jobs.value) (λ h. h.promise.gate.value) hs) (sym pushed.items)
+          (promised-one c.loop.children.items c.in-Ok.child c.args.shared.now.jobs.now c.args.shared.now.gate.now (λ h. h.promise.jobs.value) (λ h. h.promise.gate.value) before.7 c.in-Ok.ensures.ok),
     )

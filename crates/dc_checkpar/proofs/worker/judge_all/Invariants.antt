@@ -5,5 +5,5 @@ use Rattle.dc_checkpar.proofs.worker.judge_all.Given as goal
 
 abbrev pub invariant-loop : goal.invariant-loop
 invariant-loop g l =
-    ((l.drawer.0 ≡ l.source.0) × (l.drawer.1.jobs ≡ l.source.1) × (past l.source.1 l.drawer.1.drawn ≡ 0))
-    × (AreJudged (g.J.Jobs.verdict l.jobs) l.fn.judged.items → AreJudged (g.J.Jobs.verdict l.jobs) l.judged.items)
+    ((l.drawer.0 ≡ l.shared.source.now.0) × (l.drawer.1.jobs ≡ l.shared.source.now.1) × (past l.shared.source.now.1 l.drawer.1.drawn ≡ 0))
+    × (AreJudged (g.J.Jobs.verdict l.shared.jobs.now) l.fn.judged.items → AreJudged (g.J.Jobs.verdict l.shared.jobs.now) l.judged.items)
