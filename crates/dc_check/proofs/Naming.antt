@@ -1,15 +1,17 @@
 -- The names of a certificate against those of the tables, one by one.
-use Rattle.std.proofs.Common.{◌≡◌, ◌≢◌, ℕ, ◌+◌, ◌<◌, Bool, true, false, List, [], length, map, get_or, refl, sym, ap, ◌∙◌, arith, below_more}
+use Rattle.std.proofs.Common.{◌≡◌, ◌≢◌, ℕ, ◌+◌, ◌<◌, Bool, true, false, List, [], ◌∷◌, length, map, get_or, refl, sym, ap, ◌∙◌, arith, below_more}
 use Rattle.std.proofs.lemmas.List.{length-map, get_or-map, same_lists}
 use Rattle.std.specs.Prelude.{not, nat_eq}
 use Rattle.std.specs.Cmp.Lexicographic.{pointwise, same_text, other_text}
-use Rattle.dc_cert.specs.NamedRows.{NamedInput, NamedOutput, NamedLabel, named_input, named_output, named_label}
-use Rattle.dc_cert.specs.declared.certificate.InputRow.{InputRow}
-use Rattle.dc_cert.specs.declared.certificate.OutputRow.{OutputRow}
-use Rattle.dc_cert.specs.declared.certificate.LabelRow.{LabelRow}
 use Rattle.dc_check.specs.lemmas.Exact.{named-is, is-named}
+use Rattle.dc_check.specs.Names.{names_of}
+use Rattle.dc_check.specs.Placed.{part_count}
 use Rattle.dc_check.specs.Verdict.{is_named}
+use Rattle.dc_check.specs.declared.fault.CertificateList.{CertificateList}
+use Rattle.dc_check.specs.declared.fault.CertificateList.TheVariants.{Inputs, Outputs, Labels}
 use Rattle.dc_parts.specs.Names.{text_of}
+use Rattle.dc_tables.specs.Named.{HaveNames}
+use Rattle.dc_tables.specs.TableRows.{TableRows}
 
 -- the names below n are the texts of the keys
 abbrev pub AreSame : List (List ℕ) → List (List ℕ) → ℕ → Type 0
@@ -62,25 +64,19 @@ other_name count names keys n name key there read at h =
     let named = named-is count names keys yes in
     h (sym (read []) ∙ ap (λ l. get_or l n []) named.same ∙ get_or-map text_of keys n [] [] there ∙ ap text_of (sym at)))
 
+-- the tables have a name for each row
+pub names_counted : (t : TableRows) (list : CertificateList) → HaveNames t → length (names_of t list) ≡ part_count t list
+names_counted t Inputs named = named.buses
+names_counted t Outputs named = named.outputs
+names_counted t Labels named = named.labels
+
 -- ---- the names of a certificate's rows
 
-pub bus_read : (rows : List InputRow) (n : ℕ) (row : InputRow) → n < length rows → row ≡ get_or rows n row
-    → (d : List ℕ) → get_or (map (λ (i : NamedInput). i.bus) (map named_input rows)) n d ≡ text_of row.bus
-bus_read rows n row there is d =
-    get_or-map (λ (i : NamedInput). i.bus) (map named_input rows) n (named_input row) d (omega (arith, length-map rows named_input))
-    ∙ ap (λ (i : NamedInput). i.bus) (get_or-map named_input rows n row (named_input row) there)
-    ∙ ap (λ (r : InputRow). text_of r.bus) (sym is)
+pub row_read : {T : Type 0} (name : T → List ℕ) (rows : List T) (n : ℕ) (row : T) → n < length rows → row ≡ get_or rows n row
+    → (d : List ℕ) → get_or (map (λ r. text_of (name r)) rows) n d ≡ text_of (name row)
+row_read name rows n row there is d = get_or-map (λ r. text_of (name r)) rows n row d there ∙ ap (λ r. text_of (name r)) (sym is)
 
-pub output_read : (rows : List OutputRow) (n : ℕ) (row : OutputRow) → n < length rows → row ≡ get_or rows n row
-    → (d : List ℕ) → get_or (map (λ (o : NamedOutput). o.output) (map named_output rows)) n d ≡ text_of row.output
-output_read rows n row there is d =
-    get_or-map (λ (o : NamedOutput). o.output) (map named_output rows) n (named_output row) d (omega (arith, length-map rows named_output))
-    ∙ ap (λ (o : NamedOutput). o.output) (get_or-map named_output rows n row (named_output row) there)
-    ∙ ap (λ (r : OutputRow). text_of r.output) (sym is)
-
-pub label_read : (rows : List LabelRow) (n : ℕ) (row : LabelRow) → n < length rows → row ≡ get_or rows n row
-    → (d : List ℕ) → get_or (map (λ (l : NamedLabel). l.label) (map named_label rows)) n d ≡ text_of row.label
-label_read rows n row there is d =
-    get_or-map (λ (l : NamedLabel). l.label) (map named_label rows) n (named_label row) d (omega (arith, length-map rows named_label))
-    ∙ ap (λ (l : NamedLabel). l.label) (get_or-map named_label rows n row (named_label row) there)
-    ∙ ap (λ (r : LabelRow). text_of r.label) (sym is)
+-- a name of a row, read from what the row says
+pub map-map : {A B C : Type 0} (g : B → C) (f : A → B) (xs : List A) → map g (map f xs) ≡ map (λ x. g (f x)) xs
+map-map g f [] = refl
+map-map g f (x ∷ xs) = ap (λ l. g (f x) ∷ l) (map-map g f xs)

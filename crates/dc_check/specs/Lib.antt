@@ -4,6 +4,7 @@ pub mod Verdict
 pub mod Jobs
 pub mod FaultText
 pub mod Placed
+pub mod Names
 pub mod Certified
 pub mod Lent
 pub mod Small

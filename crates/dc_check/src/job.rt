@@ -75,14 +75,14 @@ pub fn job_fault_given(
     tables: &Tables,
     certificate: &Certificate,
     job: usize,
-    first04: Option<u32>,
-    first06: Option<u32>,
+    overfull: Option<u32>,
+    overdue: Option<u32>,
 ) -> Option<CheckFault>
     requires sized { IsSized tables.now (certificate_rows certificate.now) }
     requires there { job < job_count tables.now }
     requires ranges { job_ranges tables.now (certificate_rows certificate.now) job ≡ None }
-    requires first04 { first04 ≡ job_backlog_failure tables.now (certificate_rows certificate.now) job }
-    requires first06 { first06 ≡ job_delay_failure tables.now (certificate_rows certificate.now) job }
+    requires overfull { overfull ≡ job_backlog_failure tables.now (certificate_rows certificate.now) job }
+    requires overdue { overdue ≡ job_delay_failure tables.now (certificate_rows certificate.now) job }
     ensures { result ≡ job_verdict tables.now (certificate_rows certificate.now) job }
 {
     match Job::of(tables, job) {
@@ -92,8 +92,8 @@ pub fn job_fault_given(
             bus,
             &tables.bus_bound(bus),
             &tables.bus_service(bus),
-            first04,
-            first06,
+            overfull,
+            overdue,
         ),
         Job::Output(output) => output_fault(
             tables,
@@ -101,7 +101,7 @@ pub fn job_fault_given(
             output,
             &tables.output_bound(output),
             &tables.output_service(output),
-            first06,
+            overdue,
         ),
         Job::Label(label) => label_fault(tables, certificate, label),
     }

@@ -1,13 +1,17 @@
 //! The rule on names: a certificate lists the tables' buses, outputs and labels, once each and in their order.
 
-ghost use Rattle.std.specs.Prelude.{◌≡◌, IfNone, length, map};
+ghost use Rattle.std.specs.Prelude.{◌≡◌, ℕ, ◌<◌, [], List, IfNone, map, slice_index_or};
 ghost use Rattle.dc_cert.specs.Bounds.{certificate_rows};
-ghost use Rattle.dc_cert.specs.NamedRows.{named_rows, named_input, named_output, named_label};
+ghost use Rattle.dc_cert.specs.NamedRows.{named_rows};
+ghost use Rattle.dc_check.specs.Names.{names_of};
+ghost use Rattle.dc_check.specs.Placed.{part_count};
 ghost use Rattle.dc_check.specs.Verdict.{IsSized, is_named, misnaming};
+ghost use Rattle.dc_parts.specs.Names.{text_of};
 
 use crate::fault::{CertificateList, CheckFault, Condition};
 use crate::rules::{fault, fault_unless, first_fault};
 use dc_cert::{Certificate, InputRow, LabelRow, OutputRow};
+use dc_parts::Name;
 use dc_tables::Tables;
 
 /// The fault of a certificate's names, if any: `NamesDiffer` at the inputs, the outputs or the labels. Where there is
@@ -18,65 +22,87 @@ pub fn misnamed(tables: &Tables, certificate: &Certificate) -> Option<CheckFault
 {
     first_fault(&[
         fault_unless(
-            are_buses(tables, &certificate.inputs),
+            are_named(tables, CertificateList::Inputs, &certificate.inputs),
             fault(CertificateList::Inputs, 0, Condition::NamesDiffer),
         ),
         fault_unless(
-            are_outputs(tables, &certificate.outputs),
+            are_named(tables, CertificateList::Outputs, &certificate.outputs),
             fault(CertificateList::Outputs, 0, Condition::NamesDiffer),
         ),
         fault_unless(
-            are_labels(tables, &certificate.labels),
+            are_named(tables, CertificateList::Labels, &certificate.labels),
             fault(CertificateList::Labels, 0, Condition::NamesDiffer),
         ),
     ])
 }
 
-/// Whether these are the tables' buses, once each and in their order.
-fn are_buses(tables: &Tables, inputs: &[InputRow]) -> bool
-    ensures { result ≡ is_named (length tables.now.buses) (map (λ i. i.bus) (map named_input inputs.now)) tables.now.names.buses }
-{
-    tables.named();
-    if inputs.len() != tables.bus_count() {
-        return false;
-    }
-    for (bus, input) in inputs.iter().enumerate() {
-        let name = tables.bus_name(bus);
-        if input.bus.text() != name.text() {
-            return false;
-        }
-    }
-    true
+/// The claim for an input, an output or a label, with its name.
+trait Row {
+    // its name
+    ghost name: { Self → List ℕ };
+
+    fn name(&self) -> &Name
+        ensures { result.now ≡ name self.now };
 }
 
-/// Whether these are the tables' outputs, once each and in their order.
-fn are_outputs(tables: &Tables, outputs: &[OutputRow]) -> bool
-    ensures { result ≡ is_named (length tables.now.outputs) (map (λ o. o.output) (map named_output outputs.now)) tables.now.names.outputs }
-{
-    tables.named();
-    if outputs.len() != tables.output_count() {
-        return false;
+impl Row for InputRow {
+    ghost name = { λ row. row.bus };
+
+    fn name(&self) -> &Name {
+        &self.bus
     }
-    for (number, output) in outputs.iter().enumerate() {
-        let name = tables.output_name(number);
-        if output.output.text() != name.text() {
-            return false;
-        }
-    }
-    true
 }
 
-/// Whether these are the tables' labels, once each and in their order.
-fn are_labels(tables: &Tables, labels: &[LabelRow]) -> bool
-    ensures { result ≡ is_named (length tables.now.labels) (map (λ l. l.label) (map named_label labels.now)) tables.now.names.labels }
+impl Row for OutputRow {
+    ghost name = { λ row. row.output };
+
+    fn name(&self) -> &Name {
+        &self.output
+    }
+}
+
+impl Row for LabelRow {
+    ghost name = { λ row. row.label };
+
+    fn name(&self) -> &Name {
+        &self.label
+    }
+}
+
+/// How many inputs, outputs or labels the tables have.
+fn count(tables: &Tables, list: CertificateList) -> usize
+    ensures { result ≡ part_count tables.now list }
+{
+    match list {
+        CertificateList::Inputs => tables.bus_count(),
+        CertificateList::Outputs => tables.output_count(),
+        CertificateList::Labels => tables.label_count(),
+    }
+}
+
+/// The name of an input, an output or a label of the tables.
+fn name_of(tables: &Tables, list: CertificateList, number: usize) -> &Name
+    requires { number < part_count tables.now list }
+    ensures { result.now ≡ slice_index_or (names_of tables.now list) number [] }
+{
+    match list {
+        CertificateList::Inputs => tables.bus_name(number),
+        CertificateList::Outputs => tables.output_name(number),
+        CertificateList::Labels => tables.label_name(number),
+    }
+}
+
+/// Whether these rows are of the tables' inputs, outputs or labels, once each and in their order.
+fn are_named<T: Row>(tables: &Tables, list: CertificateList, rows: &[T]) -> bool
+    ensures { result ≡ is_named (part_count tables.now list) (map (λ row. text_of (T.name row)) rows.now) (names_of tables.now list) }
 {
     tables.named();
-    if labels.len() != tables.label_count() {
+    if rows.len() != count(tables, list) {
         return false;
     }
-    for (number, label) in labels.iter().enumerate() {
-        let name = tables.label_name(number);
-        if label.label.text() != name.text() {
+    for (number, row) in rows.iter().enumerate() {
+        let name = name_of(tables, list, number);
+        if row.name().text() != name.text() {
             return false;
         }
     }

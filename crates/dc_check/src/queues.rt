@@ -22,16 +22,16 @@ pub(crate) fn input_fault<A: ArrivalBound, S: ServiceBound>(
     bus: usize,
     arrivals: &A,
     service: &S,
-    first_backlog: Option<u32>,
-    first_delay: Option<u32>,
+    overfull: Option<u32>,
+    overdue: Option<u32>,
 ) -> Option<CheckFault>
     requires sized { IsSized tables.now (certificate_rows certificate.now) }
     requires there { bus < length tables.now.buses }
     requires ranges { first_of (range_rules Inputs bus (input_bound (certificate_rows certificate.now) bus).window (input_bound (certificate_rows certificate.now) bus).delay) ≡ None }
     requires arrivals { (d : ℕ) → A.cap arrivals.now d ≡ bus_cap tables.now bus d }
     requires service { (d : ℕ) → S.floor service.now d ≡ bus_floor tables.now bus d }
-    requires first_backlog { first_backlog ≡ input_backlog_failure tables.now bus (input_bound (certificate_rows certificate.now) bus) }
-    requires first_delay { first_delay ≡ input_delay_failure tables.now bus (input_bound (certificate_rows certificate.now) bus) }
+    requires overfull { overfull ≡ input_backlog_failure tables.now bus (input_bound (certificate_rows certificate.now) bus) }
+    requires overdue { overdue ≡ input_delay_failure tables.now bus (input_bound (certificate_rows certificate.now) bus) }
     ensures { result ≡ first_of (input_rules tables.now bus (input_bound (certificate_rows certificate.now) bus)) }
 {
     let window = certificate.inputs[bus].window;
@@ -42,7 +42,7 @@ pub(crate) fn input_fault<A: ArrivalBound, S: ServiceBound>(
             CertificateList::Inputs,
             bus,
             Condition::BacklogTooSmall,
-            first_backlog,
+            overfull,
         ),
         fault_unless(
             backlog <= tables.queue(bus),
@@ -52,7 +52,7 @@ pub(crate) fn input_fault<A: ArrivalBound, S: ServiceBound>(
             CertificateList::Inputs,
             bus,
             Condition::DelayTooSmall,
-            first_delay,
+            overdue,
         ),
     ])
 }
@@ -64,14 +64,14 @@ pub(crate) fn output_fault<A: ArrivalBound, S: ServiceBound>(
     output: usize,
     arrivals: &A,
     service: &S,
-    first_delay: Option<u32>,
+    overdue: Option<u32>,
 ) -> Option<CheckFault>
     requires sized { IsSized tables.now (certificate_rows certificate.now) }
     requires there { output < length tables.now.outputs }
     requires ranges { first_of (range_rules Outputs output (output_bound (certificate_rows certificate.now) output).window (output_bound (certificate_rows certificate.now) output).delay) ≡ None }
     requires arrivals { (d : ℕ) → A.cap arrivals.now d ≡ output_cap tables.now output d }
     requires service { (d : ℕ) → S.floor service.now d ≡ output_floor tables.now output d }
-    requires first_delay { first_delay ≡ output_delay_failure tables.now output (output_bound (certificate_rows certificate.now) output) }
+    requires overdue { overdue ≡ output_delay_failure tables.now output (output_bound (certificate_rows certificate.now) output) }
     ensures { result ≡ first_of (output_rules tables.now output (output_bound (certificate_rows certificate.now) output)) }
 {
     let window = certificate.outputs[output].window;
@@ -81,7 +81,7 @@ pub(crate) fn output_fault<A: ArrivalBound, S: ServiceBound>(
             CertificateList::Outputs,
             output,
             Condition::DelayTooSmall,
-            first_delay,
+            overdue,
         ),
     ])
 }
@@ -107,15 +107,15 @@ pub(crate) fn input_job<A: ArrivalBound, S: ServiceBound>(
     if ranges.is_some() {
         return ranges;
     }
-    let (first_backlog, first_delay) = first_failing(arrivals, service, window, backlog, delay);
+    let (overfull, overdue) = first_failing(arrivals, service, window, backlog, delay);
     input_fault(
         tables,
         certificate,
         bus,
         arrivals,
         service,
-        first_backlog,
-        first_delay,
+        overfull,
+        overdue,
     )
 }
 
@@ -139,6 +139,6 @@ pub(crate) fn output_job<A: ArrivalBound, S: ServiceBound>(
     if ranges.is_some() {
         return ranges;
     }
-    let first_delay = first_overdue(arrivals, service, window, delay);
-    output_fault(tables, certificate, output, arrivals, service, first_delay)
+    let overdue = first_overdue(arrivals, service, window, delay);
+    output_fault(tables, certificate, output, arrivals, service, overdue)
 }

@@ -30,6 +30,6 @@ returns g c =
     c.first_fault.ensures
     ∙ ap first_of
     (rules-same _ _ _ _ closes
-    (rules-same _ _ _ _ (c.window_fault.ensures ∙ ap (at_window Inputs c.args.bus BacklogTooSmall) c.requires.first_backlog)
+    (rules-same _ _ _ _ (c.window_fault.ensures ∙ ap (at_window Inputs c.args.bus BacklogTooSmall) c.requires.overfull)
     (rules-same _ _ _ _ fits
-    (rules-same _ _ [] [] (c.window_fault-2.ensures ∙ ap (at_window Inputs c.args.bus DelayTooSmall) c.requires.first_delay) refl))))
+    (rules-same _ _ [] [] (c.window_fault-2.ensures ∙ ap (at_window Inputs c.args.bus DelayTooSmall) c.requires.overdue) refl))))

@@ -26,4 +26,4 @@ returns g c =
     c.first_fault.ensures
     ∙ ap first_of
     (rules-same _ _ _ _ closes
-    (rules-same _ _ [] [] (c.window_fault.ensures ∙ ap (at_window Outputs c.args.output DelayTooSmall) c.requires.first_delay) refl))
+    (rules-same _ _ [] [] (c.window_fault.ensures ∙ ap (at_window Outputs c.args.output DelayTooSmall) c.requires.overdue) refl))

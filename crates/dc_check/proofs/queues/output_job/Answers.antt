@@ -19,20 +19,20 @@ returns-then-is_some g c =
     ∙ ap (λ o. option_or o (first_of (output_rules c.args.tables.now c.args.output (output_bound (certificate_rows c.args.certificate.now) c.args.output)))) ranges
     ∙ sym (job-output c.args.tables.now (certificate_rows c.args.certificate.now) c.args.output c.requires.there)
 
-pub first_overdue-first_delay-requires-clause-least : goal.first_overdue-first_delay-requires-clause-least
-first_overdue-first_delay-requires-clause-least g c =
+pub first_overdue-overdue-requires-clause-least : goal.first_overdue-overdue-requires-clause-least
+first_overdue-overdue-requires-clause-least g c =
     let none = nothing c.range_fault-ranges.result (sym c.is_some.ensures ∙ c.if-is_some.false) in
     let r = ranges-none Outputs c.args.output c.index.result.now.window c.index-2.result.now.delay (sym c.range_fault-ranges.ensures ∙ none) in
     r.0
 
-pub first_overdue-first_delay-requires-clause-most : goal.first_overdue-first_delay-requires-clause-most
-first_overdue-first_delay-requires-clause-most g c =
+pub first_overdue-overdue-requires-clause-most : goal.first_overdue-overdue-requires-clause-most
+first_overdue-overdue-requires-clause-most g c =
     let none = nothing c.range_fault-ranges.result (sym c.is_some.ensures ∙ c.if-is_some.false) in
     let r = ranges-none Outputs c.args.output c.index.result.now.window c.index-2.result.now.delay (sym c.range_fault-ranges.ensures ∙ none) in
     r.1
 
-pub first_overdue-first_delay-requires-clause-short : goal.first_overdue-first_delay-requires-clause-short
-first_overdue-first_delay-requires-clause-short g c =
+pub first_overdue-overdue-requires-clause-short : goal.first_overdue-overdue-requires-clause-short
+first_overdue-overdue-requires-clause-short g c =
     let none = nothing c.range_fault-ranges.result (sym c.is_some.ensures ∙ c.if-is_some.false) in
     let r = ranges-none Outputs c.args.output c.index.result.now.window c.index-2.result.now.delay (sym c.range_fault-ranges.ensures ∙ none) in
     r.2
@@ -46,12 +46,12 @@ output_fault-requires-clause-ranges g c =
     let ranges = ranges-read Outputs c.args.output c.index.result.now.window c.index-2.result.now.delay (output_bound (certificate_rows c.args.certificate.now) c.args.output).window (output_bound (certificate_rows c.args.certificate.now) c.args.output).delay c.range_fault-ranges.result c.range_fault-ranges.ensures window delay in
     sym ranges ∙ none
 
-pub output_fault-requires-clause-first_delay : goal.output_fault-requires-clause-first_delay
-output_fault-requires-clause-first_delay g c =
+pub output_fault-requires-clause-overdue : goal.output_fault-requires-clause-overdue
+output_fault-requires-clause-overdue g c =
     let there : c.args.output < length c.args.certificate.now.outputs.items = omega (arith, c.requires.there, c.requires.sized.outputs, outputs-count c.args.certificate.now) in
     let window = ap (λ r. r.window) (sym (output-read c.args.certificate.now c.args.output c.index.result.now there c.index.ensures)) in
     let delay = ap (λ r. r.delay) (sym (output-read c.args.certificate.now c.args.output c.index-2.result.now there c.index-2.ensures)) in
-    delay-read (g.A.ArrivalBound.cap c.args.arrivals.now) (g.S.ServiceBound.floor c.args.service.now) (output_cap c.args.tables.now c.args.output) (output_floor c.args.tables.now c.args.output) c.requires.arrivals c.requires.service c.index.result.now.window c.index-2.result.now.delay (output_bound (certificate_rows c.args.certificate.now) c.args.output).window (output_bound (certificate_rows c.args.certificate.now) c.args.output).delay c.first_overdue-first_delay.result c.first_overdue-first_delay.ensures window delay
+    delay-read (g.A.ArrivalBound.cap c.args.arrivals.now) (g.S.ServiceBound.floor c.args.service.now) (output_cap c.args.tables.now c.args.output) (output_floor c.args.tables.now c.args.output) c.requires.arrivals c.requires.service c.index.result.now.window c.index-2.result.now.delay (output_bound (certificate_rows c.args.certificate.now) c.args.output).window (output_bound (certificate_rows c.args.certificate.now) c.args.output).delay c.first_overdue-overdue.result c.first_overdue-overdue.ensures window delay
 
 pub returns : goal.returns
 returns g c =

@@ -14,8 +14,8 @@ job_fault_given-requires-clause-ranges g c =
     ranges-input c.args.tables.now (certificate_rows c.args.certificate.now) c.args.bus c.requires.there
     (omega (arith, ap (λ r. r.window) row, long.0)) (omega (arith, ap (λ r. r.window) row, long.1)) (omega (arith, ap (λ r. r.delay) row, long.2))
 
-pub job_fault_given-requires-clause-first04 : goal.job_fault_given-requires-clause-first04
-job_fault_given-requires-clause-first04 g c =
+pub job_fault_given-requires-clause-overfull : goal.job_fault_given-requires-clause-overfull
+job_fault_given-requires-clause-overfull g c =
     let there : c.args.bus < length c.args.certificate.now.inputs.items = omega (arith, c.requires.there, c.requires.sized.inputs, inputs-count c.args.certificate.now) in
     let row = input-read c.args.certificate.now c.args.bus c.index-row.result.now there c.index-row.ensures in
     let cap = g.A.ArrivalBound.cap c.args.arrivals.now in
@@ -27,8 +27,8 @@ job_fault_given-requires-clause-first04 g c =
     c.first_failures-overfull.result.0 found (ap (λ r. r.window) (sym row)) (c.from.ensures ∙ ap (λ r. r.backlog) (sym row))
     ∙ backlog-input c.args.tables.now (certificate_rows c.args.certificate.now) c.args.bus c.requires.there
 
-pub job_fault_given-requires-clause-first06 : goal.job_fault_given-requires-clause-first06
-job_fault_given-requires-clause-first06 g c =
+pub job_fault_given-requires-clause-overdue : goal.job_fault_given-requires-clause-overdue
+job_fault_given-requires-clause-overdue g c =
     let there : c.args.bus < length c.args.certificate.now.inputs.items = omega (arith, c.requires.there, c.requires.sized.inputs, inputs-count c.args.certificate.now) in
     let row = input-read c.args.certificate.now c.args.bus c.index-row.result.now there c.index-row.ensures in
     let cap = g.A.ArrivalBound.cap c.args.arrivals.now in

@@ -19,8 +19,8 @@ job_fault_given-requires-clause-ranges g c =
     ranges-output t rows job (omega (arith, c.bus_count.ensures)) (omega (arith, c.bus_count.ensures, c.requires.there))
     (omega (arith, ap (λ r. r.window) row, long.0)) (omega (arith, ap (λ r. r.window) row, long.1)) (omega (arith, ap (λ r. r.delay) row, long.2))
 
-pub job_fault_given-requires-clause-first06 : goal.job_fault_given-requires-clause-first06
-job_fault_given-requires-clause-first06 g c =
+pub job_fault_given-requires-clause-overdue : goal.job_fault_given-requires-clause-overdue
+job_fault_given-requires-clause-overdue g c =
     let there : c.args.output < length c.args.certificate.now.outputs.items = omega (arith, c.requires.there, c.requires.sized.outputs, outputs-count c.args.certificate.now) in
     let t = c.args.tables.now in
     let rows = certificate_rows c.args.certificate.now in
