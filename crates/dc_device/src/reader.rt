@@ -80,6 +80,22 @@ impl LineReader {
         }
     }
 
+    /// The bytes that are held.
+    #[inline]
+    pub fn held(&self) -> &[u8]
+        ensures { result.now ≡ self.now.bytes }
+    {
+        &self.block[self.at..self.end]
+    }
+
+    /// How many more bytes of the text may be read.
+    #[inline]
+    pub fn room(&self) -> u64
+        ensures { result ≡ self.now.room }
+    {
+        self.room
+    }
+
     /// The next byte of those that are held.
     fn held_byte(&mut self) -> Option<u8>
         ensures bytes { MatchOption result ((self.old.bytes ≡ []) × (self.new.bytes ≡ []))
@@ -109,6 +125,7 @@ impl LineReader {
     }
 
     /// Passes over this many of the held bytes.
+    #[inline]
     pub fn pass(&mut self, count: usize)
         requires held { count ≤ length self.old.bytes }
         requires room { count ≤ self.old.room }

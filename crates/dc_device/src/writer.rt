@@ -1,27 +1,40 @@
 //! Lines to a sink, through one fixed buffer.
-ghost use Rattle.std.specs.Prelude.{◌≡◌, ◌∷◌, [], ◌++◌, ◌+◌, ◌<◌, MatchBool, IfErr, true};
+ghost use Rattle.std.specs.Prelude.{◌≡◌, ◌∷◌, [], ◌++◌, ◌+◌, ◌<◌, ◌≤◌, MatchBool, IfErr, length, take, true};
 ghost use Rattle.dc_device.specs.Bytes.{Gathers, Writes};
 ghost use Rattle.dc_device.specs.Device.{Settles, failures_of};
 ghost use Rattle.dc_device.specs.States.{CanFail};
 
 use crate::device::{Broken, Sink};
 use crate::reader::BLOCK;
-use arrayvec::ArrayVec;
 use std::marker::Model;
 
 /// Gathers lines for a sink: those that were not pushed yet wait, and go out where its owner says so. Contracts see
 /// what waits.
 #[derive(Drop)]
 pub struct LineWriter {
-    waiting: ArrayVec<u8, BLOCK>,
+    block: [u8; BLOCK],
+    len: usize,
 }
 
 impl Model for LineWriter {
-    ghost use Rattle.std.specs.Prelude.{List, ℕ};
+    ghost use Rattle.std.specs.Prelude.{List, ℕ, take, ◌≤◌};
+    ghost use Rattle.dc_device.specs.declared.reader.TheConstants.{BLOCK};
 
     ghost Value = { List ℕ };
 
-    ghost view = { λ w. w.waiting.items };
+    ghost view = { λ w. take w.len w.block };
+
+    ghost invariant = { λ w. w.len ≤ BLOCK };
+}
+
+/// Copies bytes over those from a place on.
+#[inline(always)]
+fn copy_over(block: &mut [u8], at: usize, bytes: &[u8])
+    requires { at + length bytes.now ≤ length block.old }
+    ensures front { take (at + length bytes.now) block.new ≡ take at block.old ++ bytes.now }
+    ensures len { length block.new ≡ length block.old }
+{
+    block[at..at + bytes.len()].copy_from_slice(bytes);
 }
 
 /// Pushes all the bytes, by as many pushes as it takes. It is called once a block: kept apart, so that `put` stays
@@ -49,7 +62,8 @@ impl LineWriter {
         ensures { result ≡ [] }
     {
         LineWriter {
-            waiting: ArrayVec::new(),
+            block: [0; BLOCK],
+            len: 0,
         }
     }
 
@@ -66,20 +80,26 @@ impl LineWriter {
         ensures settled { Settles result (K.state sink.new).last_failed (K.state sink.new).hidden }
         ensures answered { (K.state sink.new).answered ≡ (K.state sink.old).answered }
     {
-        if self.waiting.is_empty() && !sink.hides() {
+        if self.len == 0 && !sink.hides() {
             return Ok(());
         }
-        let pushed = push_all(sink, self.waiting.as_slice());
-        self.waiting.clear();
+        let pushed = push_all(sink, &self.block[..self.len]);
+        self.len = 0;
         pushed?;
         sink.flush()
     }
 
     /// Puts the bytes after those that wait, where there is room, and says whether there was.
+    #[inline(always)]
     fn hold(&mut self, bytes: &[u8]) -> bool
         ensures { MatchBool result (self.new ≡ self.old ++ bytes.now) (self.new ≡ self.old) }
     {
-        self.waiting.try_extend_from_slice(bytes).is_ok()
+        if bytes.len() > BLOCK - self.len {
+            return false;
+        }
+        copy_over(&mut self.block, self.len, bytes);
+        self.len += bytes.len();
+        true
     }
 
     /// Puts the bytes after those that wait, which first go out where there is no room. It is called twice a line.
@@ -106,6 +126,7 @@ impl LineWriter {
     ///
     /// # Errors
     /// `Broken` where the sink failed: it took a front of what waited and the line, and nothing waits.
+    #[inline(always)]
     pub fn line<K: Sink>(&mut self, sink: &mut K, line: &[u8]) -> Result<(), Broken>
         requires { CanFail (K.state sink.old) }
         ensures bytes { Gathers (K.state sink.old).contents self.old (K.state sink.new).contents self.new
