@@ -8,3 +8,4 @@ pub mod FieldLemmas
 pub mod TraceAnswers
 pub mod TraceSteps
 pub mod TraceNext
+mod HexValues

@@ -17,6 +17,11 @@ abbrev pub number_behind : ℕ → List ℕ → Option ℕ
 number_behind n [] = Some n
 number_behind n (c ∷ cs) = option_and_then (λ d. number_behind (n * 16 + d) cs) (digit_in 16 c)
 
+-- the value of a digit, or more than any word where a byte is none
+abbrev pub value_or_much : Option ℕ → ℕ
+value_or_much (Some d) = d
+value_or_much None = 2 ^ 32
+
 -- the word that a text of eight digits writes
 unfoldable pub word_of : List ℕ → Option ℕ
 word_of text = if length text == 8 then number_behind 0 text else None

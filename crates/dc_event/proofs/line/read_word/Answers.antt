@@ -1,41 +1,31 @@
-use Rattle.std.proofs.Common.{◌≡◌, ℕ, ◌+◌, ◌*◌, ◌^◌, ◌<◌, ◌≤◌, List, ◌∷◌, Option, Some, arith, drop, get_or, length, refl, sym, ◌∙◌, ap}
-use Rattle.std.proofs.Math.Pow.{pow_mono}
-use Rattle.std.proofs.lemmas.List.{drop_more}
-use Rattle.std.proofs.lemmas.Nat.{pow-add}
-use Rattle.dc_word.specs.Digits.{digit_in}
-use Rattle.dc_event.specs.WordText.{number_behind}
+use Rattle.std.proofs.Common.{arith, refl, sym}
+use Rattle.dc_event.proofs.HexValues.{fits_64, much, reads_first, reads_fits, reads_next, word_read, word_unread}
 use Rattle.dc_event.proofs.line.read_word.Goals as goal
 
--- one more digit of a number of i digits
-one_more_small : (n d i : ℕ) → n < 2 ^ (4 * i) → d < 16 → n * 16 + d < 2 ^ (4 * (i + 1))
-one_more_small n d i p q =
-    let e : 2 ^ (4 * i + 4) ≡ 2 ^ (4 * i) * 2 ^ 4 = pow-add 2 (4 * i) 4 in
-    let f : 4 * (i + 1) ≡ 4 * i + 4 = omega arith in
-    rw (f, e) (omega arith)
-
--- a number of fewer than eight digits has room for one more
-fits_32 : (n i : ℕ) → n < 2 ^ (4 * i) → i < 8 → n * 16 + 15 < 2 ^ 32
-fits_32 n i p q =
-    let h : 2 ^ (4 * i) ≤ 2 ^ 28 = pow_mono {i = 4 * i} {j = 28} (omega arith) in
-    omega arith
-
-one_more_digit : (n i d m : ℕ) (line : List ℕ) (all : Option ℕ) → i < length line → digit_in 16 (get_or line i 0) ≡ Some d → m ≡ d
-    → number_behind n (drop i line) ≡ all → number_behind (n * 16 + m) (drop (i + 1) line) ≡ all
-one_more_digit n i d m line all p is same e =
-    let f : number_behind n (get_or line i 0 ∷ drop (i + 1) line) ≡ all = ap (number_behind n) (sym (drop_more line i 0 p)) ∙ e in
-    let g = rw is at f in
-    rw same g
-
 pub overflow_mul-n : goal.overflow_mul-n
-overflow_mul-n c = let h = fits_32 _ _ c.loop-c.invariant.small (omega arith) in omega (arith, h)
+overflow_mul-n c = let h = fits_64 _ _ 0 c.loop-c.invariant.fits (omega arith) (omega arith) in omega (arith, h)
 
 pub overflow_add-n : goal.overflow_add-n
 overflow_add-n c =
-    let h = fits_32 _ _ c.loop-c.invariant.small (omega arith) in
-    omega (arith, h, c.in_ok-n.ensures.below)
+    let h = fits_64 _ _ _ c.loop-c.invariant.fits (much _ c.value_of.ensures.small) (omega arith) in
+    omega (arith, h, c.value_of.ensures.value)
+
+pub loop-c-init : goal.loop-c-init
+loop-c-init c = record {
+  fits = omega arith;
+  reads = reads_first c.args.text.now;
+}
 
 pub loop-c-preserved : goal.loop-c-preserved
-loop-c-preserved c = record {
-  small = one_more_small _ _ _ c.loop-c.invariant.small (omega (arith, c.in_ok-n.ensures.below));
-  same = one_more_digit _ _ _ _ _ _ c.loop-c-test.true (sym c.in_ok-n.ensures.value) refl c.loop-c.invariant.same;
-}
+loop-c-preserved c = rw c.value_of.ensures.value (record {
+  fits = reads_fits _ _ _ c.loop-c.invariant.fits (much _ c.value_of.ensures.small) (omega arith);
+  reads = reads_next _ _ _ _ _ c.loop-c-test.true refl c.value_of.ensures.small (omega arith) c.loop-c.invariant.reads;
+})
+
+pub returns-then-n-lt4294967296 : goal.returns-then-n-lt4294967296
+returns-then-n-lt4294967296 c =
+    sym (word_read c.args.text.now c.loop-c.n c.loop-c.c-index (omega arith) (omega arith) c.loop-c.invariant.reads c.if-n-lt4294967296.true)
+
+pub returns-else-n-lt4294967296 : goal.returns-else-n-lt4294967296
+returns-else-n-lt4294967296 c =
+    sym (word_unread c.args.text.now c.loop-c.n c.loop-c.c-index (omega arith) (omega arith) c.loop-c.invariant.reads (omega arith))
