@@ -12,7 +12,7 @@ use dc_parts::Name;
 use dc_tables::Tables;
 use dc_word::Word;
 
-// The value of each hexadecimal digit, and 2^32 for each other byte.
+/// The value of each hexadecimal digit, and 2^32 for each other byte.
 static HEX_VALUES: [u64; 256] = [
     4294967296, 4294967296, 4294967296, 4294967296, 4294967296, 4294967296, 4294967296, 4294967296,
     4294967296, 4294967296, 4294967296, 4294967296, 4294967296, 4294967296, 4294967296, 4294967296,
@@ -47,7 +47,7 @@ static HEX_VALUES: [u64; 256] = [
     4294967296,
 ];
 
-// The value of a hexadecimal digit, or 2^32.
+/// The value of a hexadecimal digit, or 2^32.
 #[inline(always)]
 fn value_of(byte: u8) -> u64
     ensures value { result ≡ value_or_much (digit_in 16 byte) }
