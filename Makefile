@@ -6,7 +6,7 @@ RT := rt
 # How many crates are proved side by side by `make build`: one a processor, at most four. Each takes 1 to 4 GB.
 JOBS := $(shell n=$$(nproc 2>/dev/null || echo 1); [ "$$n" -lt 4 ] || n=4; echo $$n)
 
-.PHONY: run quick build test trials rows edits edits-apply
+.PHONY: run quick build install test trials rows edits edits-apply
 
 # Decodes one word, with no proof: about a minute from a fresh clone.
 run:
@@ -24,6 +24,13 @@ build:
 	@cd crates/dc429 && $(RT) run -- decode bnr < stdin
 	@cp crates/dc429/out/dc429 build/dc429
 	@echo "built build/dc429"
+
+# Puts the built program and its texts below a folder: make install PREFIX=.. It must print the version of the sources.
+install:
+	@[ -n "$(PREFIX)" ] || { echo "say where to, as make install PREFIX=.."; exit 1; }
+	@scripts/version build/dc429
+	@install -D -t "$(PREFIX)/bin" build/dc429
+	@install -D -m 644 -t "$(PREFIX)/share/doc/dc429" README.md CHANGELOG.md LICENSE-MIT LICENSE-APACHE docs/formats.md
 
 test:
 	@$(RT) ci

@@ -1,9 +1,11 @@
-"""What the scripts that try the built program share: which program that is, and how they end."""
+"""What the scripts that try the built program share: which program that is, its version, and how they end."""
+import re
 import sys
 from pathlib import Path
 
 ROOT = Path(__file__).resolve().parent.parent
 OUT = ROOT / "crates/dc429/out"
+VERSIONED = ROOT / "crates/dc_command/src/known.rt"
 BUILT = [OUT / "dc429", ROOT / "build/dc429"]
 
 
@@ -19,6 +21,12 @@ def all_built(named=()):
     """The programs that are named, else those of both compilers that the gate builds, else that of `make build`."""
     by_both = [path for path in (OUT / "dc429", OUT / "dc429.by-rattle") if path.is_file()]
     return [Path(it).resolve() for it in named] or by_both or [built()]
+
+
+def version():
+    """The version that the program prints, as its source has it: the one place where it is written."""
+    (said,) = re.findall(r'\.version\("([0-9.]+)"\)', VERSIONED.read_text())
+    return said
 
 
 def ended(count, tried, faults, said="faults", shown=None):
