@@ -46,9 +46,9 @@ try-%:
 rows:
 	@scripts/rows $(if $(ONLY),--only '$(ONLY)')
 
-# The edits outside the gate, of one crate or of all: the prover must refuse each.
+# The edits outside the gate whose line of edits/tried.tsv is not fresh, of one crate or of all: the prover must refuse each.
 edits:
-	@scripts/edits $(CRATE)
+	@scripts/edits --jobs $(JOBS) $(CRATE)
 
 # Whether each edit, in the gate and outside, still applies: a second, no proof.
 edits-apply:

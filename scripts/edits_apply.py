@@ -14,6 +14,7 @@ import sys
 
 TOP = os.path.dirname(os.path.dirname(os.path.abspath(__file__)))
 MOST = 8
+TRIED = "tried.tsv"
 NAME = re.compile(r"[A-Za-z0-9_-][A-Za-z0-9_.-]*\.edit")
 
 
@@ -21,8 +22,8 @@ def names_in(folder):
     return sorted(os.listdir(folder)) if os.path.isdir(folder) else []
 
 
-def refusal(edit, crate):
-    """Returns why the edit cannot be applied to the crate, or nothing."""
+def applied(edit, crate):
+    """Returns the texts of the files that the edit changes in the crate, by their path, and why it cannot be applied, or nothing."""
     texts, path, old, pairs = {}, None, None, 0
     with open(edit, encoding="utf-8") as it:
         lines = it.read().split("\n")
@@ -30,38 +31,38 @@ def refusal(edit, crate):
         if line.startswith("file: "):
             path = line[len("file: ") :].strip()
             if os.path.normpath(path) != path or not path.startswith(("src/", "specs/", "proofs/")):
-                return f"{path} is no file below src/, specs/ or proofs/"
+                return {}, f"{path} is no file below src/, specs/ or proofs/"
         elif line.startswith("old: "):
             if old is not None:
-                return f"no new text for: {old}"
+                return {}, f"no new text for: {old}"
             old = line[len("old: ") :]
         elif line.startswith("new:"):
             new = re.sub(r"\A ", "", line[len("new:") :])
             if not path or not old:
-                return "a new text stands before its file or its old text"
+                return {}, "a new text stands before its file or its old text"
             if path not in texts:
                 try:
                     with open(f"{crate}/{path}", encoding="utf-8") as it:
                         texts[path] = it.read()
                 except OSError:
-                    return f"there is no {path}"
+                    return {}, f"there is no {path}"
             found = texts[path].count(old)
             if found != 1:
-                return f"in {path}, {found} times and not once: {old}"
+                return {}, f"in {path}, {found} times and not once: {old}"
             if old == new:
-                return f"old and new text are the same: {old}"
+                return {}, f"old and new text are the same: {old}"
             texts[path] = texts[path].replace(old, new)
             old, pairs = None, pairs + 1
     if old is not None:
-        return f"no new text for: {old}"
-    return None if pairs else "it has no pair of an old and a new text"
+        return {}, f"no new text for: {old}"
+    return texts, None if pairs else "it has no pair of an old and a new text"
 
 
 def main(wanted):
     crates = [it for it in names_in(f"{TOP}/crates") if os.path.isdir(f"{TOP}/crates/{it}/src")]
     reported, tried = [], 0
     reported += [f"there is no crate {it}" for it in wanted if it not in crates]
-    reported += [f"edits/{it}: there is no crate of this name" for it in names_in(f"{TOP}/edits") if it not in crates and not wanted]
+    reported += [f"edits/{it}: there is no crate of this name" for it in names_in(f"{TOP}/edits") if it not in crates + [TRIED] and not wanted]
     for crate in [it for it in crates if it in wanted or not wanted]:
         folder = f"{TOP}/crates/{crate}"
         places = {f"crates/{crate}/must-fail": f"{folder}/must-fail", f"edits/{crate}": f"{TOP}/edits/{crate}"}
@@ -72,7 +73,7 @@ def main(wanted):
         for place, where in places.items():
             for name in names_in(where):
                 tried += 1
-                why = refusal(f"{where}/{name}", folder) if NAME.fullmatch(name) else "no edit: its name does not end in .edit"
+                why = applied(f"{where}/{name}", folder)[1] if NAME.fullmatch(name) else "no edit: its name does not end in .edit"
                 reported += [f"{place}/{name}: {why}"] if why else []
     for line in reported:
         print(line)
