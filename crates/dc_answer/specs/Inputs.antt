@@ -1,15 +1,18 @@
 -- Tables and certificates from a source.
-use Rattle.std.specs.Prelude.{◌≡◌, ◌⊎◌, ℕ, ◌<◌, List, length, Result, Ok, Err}
+use Rattle.std.specs.Prelude.{◌≡◌, ◌⊎◌, ℕ, ◌<◌, List, [], ◌∷◌, length, Result, Ok, Err}
 use Rattle.std.specs.Global.{Vec}
+use Rattle.dc_cert.specs.Faults.{fault_text}
 use Rattle.dc_cert.specs.NamedRows.{NamedRows, named_rows}
-use Rattle.dc_cert.specs.Reading.{Reading as CertificateReading}
+use Rattle.dc_cert.specs.Reading.{Reading as CertificateReading, certificate_of}
 use Rattle.dc_cert.specs.declared.certificate.Certificate.{Certificate}
 use Rattle.dc_cert.specs.declared.fault.Fault.{Fault}
 use Rattle.dc_parts.specs.FaultText.{table_fault_text}
-use Rattle.dc_parts.specs.declared.fault.BuildError.TheVariants.{Refused as RefusedTables}
+use Rattle.dc_parts.specs.declared.fault.BuildError.{BuildError}
+use Rattle.dc_parts.specs.declared.fault.BuildError.TheVariants.{Refused as RefusedTables, Memory as NoTables}
 use Rattle.dc_parts.specs.declared.fault.TableFault.{TableFault}
 use Rattle.dc_tables.specs.TableRows.{TableRows}
 use Rattle.dc_toml.specs.Faults.{Reading}
+use Rattle.dc_toml.specs.Reading.{tables_of}
 use Rattle.dc_build.specs.Reported.{AreTablesOf, TellsTables}
 use Rattle.dc_toml.specs.Written.{Written}
 use Rattle.dc_parts.specs.declared.limits.TheConstants.{TEXT_LIMIT}
@@ -51,3 +54,36 @@ failed_in (Err (Failed Memory)) = 0
 -- what comes after the tables is asked for only where their text, that reads so, is that of tables; else it is untouched
 abbrev pub OnlyBehind : Reading Written → Type 0 → Type 0
 OnlyBehind reading untouched = ((rows : TableRows) × AreTablesOf reading rows) ⊎ untouched
+
+-- ---- what is answered to texts
+
+-- to tables that were read, and the texts behind theirs; or to their first fault
+abbrev pub AnswersRead : (TableRows → List (List ℕ) → Answer → Type 0) → List (List ℕ) → Answer → Result TableRows BuildError → Type 0
+AnswersRead Is texts answer (Ok t) = Is t texts answer
+AnswersRead Is texts answer (Err (RefusedTables fault)) = answer ≡ tables_end fault
+AnswersRead Is texts answer (Err (NoTables e)) = ⊥
+
+-- to the text of tables and those behind it: the tables are judged first
+abbrev pub AnswersTables : (TableRows → List (List ℕ) → Answer → Type 0) → List (List ℕ) → Answer → Type 0
+AnswersTables Is [] answer = ⊥
+AnswersTables Is (text ∷ texts) answer = (read : Result TableRows BuildError) × TellsTables (tables_of text) read × AnswersRead Is texts answer read
+
+-- they are asked for where the first text is that of tables, and so on
+abbrev pub TablesGoOn : (TableRows → List (List ℕ) → Type 0) → List (List ℕ) → Type 0
+TablesGoOn GoesOn [] = Unit {0}
+TablesGoOn GoesOn (text ∷ texts) = (t : TableRows) × AreTablesOf (tables_of text) t × GoesOn t texts
+
+-- to a certificate that reads so, and the texts behind it; or to its first fault
+abbrev pub AnswersClaims : (Certificate → List (List ℕ) → Answer → Type 0) → List (List ℕ) → Answer → CertificateReading NamedRows → Type 0
+AnswersClaims Is texts answer (Ok claims) = (certificate : Certificate) × (named_rows certificate ≡ claims) × Is certificate texts answer
+AnswersClaims Is texts answer (Err fault) = answer ≡ unreadable (fault_text fault)
+
+-- to the text of a certificate and those behind it
+abbrev pub AnswersCertificate : (Certificate → List (List ℕ) → Answer → Type 0) → List (List ℕ) → Answer → Type 0
+AnswersCertificate Is [] answer = ⊥
+AnswersCertificate Is (text ∷ texts) answer = AnswersClaims Is texts answer (certificate_of text)
+
+-- they are asked for where it is one, and so on
+abbrev pub CertificateGoesOn : (Certificate → List (List ℕ) → Type 0) → List (List ℕ) → Type 0
+CertificateGoesOn GoesOn [] = Unit {0}
+CertificateGoesOn GoesOn (text ∷ texts) = (certificate : Certificate) × (certificate_of text ≡ Ok (named_rows certificate)) × GoesOn certificate texts

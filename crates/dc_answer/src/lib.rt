@@ -4,8 +4,18 @@
 
 mod answer;
 mod exit;
+mod given;
 mod inputs;
+mod judge;
+mod page;
+mod runner;
+mod stages;
 
 pub use answer::{Failure, ask, end_at, end_with, print_fault, report, say};
 pub use exit::{Exit, Outcome};
+pub use given::{End, Given, With};
 pub use inputs::{Unloaded, load, load_certificate};
+pub use judge::{Judge, Tell, Then, Unjudged, unread};
+pub use page::Page;
+pub use runner::run;
+pub use stages::{ReadCertificate, ReadTables};

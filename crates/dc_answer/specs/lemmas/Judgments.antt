@@ -2,7 +2,7 @@
 use Rattle.std.proofs.Common.{◌≡◌, ◌≢◌, ℕ, ◌+◌, ◌≤◌, ◌++◌, List, [], ◌∷◌, refl, sym, ◌∙◌, ap, subst, Option, IfErr, IfOk, Result, Ok, Err, inl, inr}
 use Rattle.dc_answer.specs.Answer.{Answer, Any, Ends, Raises, Reported, ReportsBy, WholeOrNone, judged_answer, nothing, one_line, sink_failures_of}
 use Rattle.dc_answer.specs.Exits.{exit_of, is_answered, is_whole}
-use Rattle.dc_answer.specs.Judging.{Judged}
+use Rattle.dc_answer.specs.Judging.{Judged, Keeps}
 use Rattle.dc_answer.specs.declared.answer.Failure.{Failure}
 use Rattle.dc_answer.specs.declared.answer.Failure.TheVariants.{Source, Sink, Memory}
 use Rattle.dc_answer.specs.declared.exit.Exit.{Exit}
@@ -19,6 +19,16 @@ judged_as Is Such text (Ok outcome) f (answer, is, same, ends) = (answer, f answ
 judged_as Is Such text (Err Source) f h = tt
 judged_as Is Such text (Err Memory) f h = tt
 judged_as Is Such text (Err Sink) f h = h
+
+-- what a page keeps of one answer it keeps of another
+pub kept_as : {E : Type 0} (Is Such : Answer → Type 0) (text : List ℕ) (result : Result Outcome E) → ((answer : Answer) → Is answer → Such answer) → Keeps Is text result → Keeps Such text result
+kept_as Is Such text (Ok outcome) f (answer, is, same, ends) = (answer, f answer is, same, ends)
+kept_as Is Such text (Err e) f h = tt
+
+-- whatever it keeps is some answer
+pub some_kept : {E : Type 0} (text : List ℕ) (result : Result Outcome E) → Keeps Any text result
+some_kept text (Ok outcome) = (one_line text outcome, tt, refl, refl)
+some_kept text (Err e) = tt
 
 -- nothing was judged
 pub failed_judged : (Is : Answer → Type 0) (text : List ℕ) (failure : Failure) → failure ≢ Sink → Judged Is text (Err failure)
