@@ -117,7 +117,9 @@ fn a_line_is_read_where_it_stands(rt: HostRuntime) {
     for (limit, first, second) in [(4, Some(2), Some(0)), (3, Some(2), None), (2, None, None)] {
         let mut source = MemSource::new(b"ab\n\nc", 9, 0);
         let mut reader = LineReader::new(limit);
+        assert!(rt; reader.room() == limit);
         assert!(rt; reader.fill(&mut source, &nothing, &mut Nowhere) == Ok(true));
+        assert!(rt; reader.held() == b"ab\n\nc".as_slice());
         assert!(rt; held_length(&mut reader) == first, "up to {limit}");
         assert!(rt; held_length(&mut reader) == second, "up to {limit}");
         assert!(rt; held_length(&mut reader).is_none(), "up to {limit}");
@@ -156,17 +158,15 @@ impl DripSink {
 }
 
 impl Sink for DripSink {
-    ghost contents = { λ s. Some s.0.bytes.items };
-
-    ghost failed = { λ s. s.0.failures };
-
-    ghost last_failed = { λ s. s.0.has_failed };
+    ghost state = { λ s. record {
+      contents = Some s.0.bytes.items;
+      failed = s.0.failures;
+      last_failed = s.0.has_failed;
+      hidden = nat_lt s.0.shown (length s.0.bytes.items);
+      answered = Some (take s.0.answered s.0.bytes.items);
+    } };
 
     ghost has_readers = { true };
-
-    ghost hidden = { λ s. nat_lt s.0.shown (length s.0.bytes.items) };
-
-    ghost answered = { λ s. Some (take s.0.answered s.0.bytes.items) };
 
     fn push(&mut self, bytes: &[u8]) -> Result<usize, Broken> {
         let DripSink(sink) = self;
@@ -200,8 +200,9 @@ fn a_line_goes_out_byte_by_byte(rt: HostRuntime) -> Result<(), Fail> {
     writer.line(&mut sink, b"abc")?;
     writer.line(&mut sink, b"")?;
     writer.line(&mut sink, b"de")?;
+    writer.line_of(&mut sink, b"f", b"gh")?;
     writer.flush(&mut sink)?;
-    assert!(rt; sink.0.bytes() == b"abc\n\nde\n".as_slice());
+    assert!(rt; sink.0.bytes() == b"abc\n\nde\nfgh\n".as_slice());
     Ok(())
 }
 
