@@ -4,6 +4,7 @@ ghost use Rattle.dc_rules.specs.Rules.{Tells, first_rules, later_rules, quantiti
 ghost use Rattle.dc_parts.specs.Keys.{same_parameter, parameter_key};
 ghost use Rattle.dc_rules.specs.Rules.{first_inverted, first_quick, first_narrow, first_unknown_stream, first_unknown_label};
 ghost use Rattle.dc_rules.specs.Rules.{bus_names, stream_names, router_names, output_names, label_names, names, references, schedules, entries_from};
+ghost use Rattle.dc_rules.specs.Passed.{ArePassed};
 ghost use Rattle.dc_rules.specs.Rules.{earlier, at_owner, breach_reported, first_overfull, entry_owners, first_doubled_offset, first_doubled_label};
 ghost use Rattle.dc_parts.specs.Document.{stream_owners, label_owners};
 ghost use Rattle.dc_parts.specs.declared.limits.TheConstants.{MOST_LABELS, MOST_STREAMS};
@@ -12,6 +13,7 @@ use crate::breach::{Breach, earlier_of, refuse, refuse_breach};
 use crate::index::{Parameters, distinct, first_doubled_parameter, index_of};
 use crate::keys::PlacedEntry;
 use crate::overlaps::first_overlap;
+use crate::passed::Passed;
 use crate::quantities::{
     first_inverted, first_narrow, first_quick, first_unknown_label, first_unknown_stream,
 };
@@ -224,51 +226,6 @@ fn with_labels(
     })
 }
 
-/// What tables name of one another, given the first stream that overlaps with one before it and the first bus that no
-/// router visits, or two.
-fn check_references(
-    parts: &Parts,
-    parameters: &Parameters,
-    names: &Names,
-    overlap: Option<usize>,
-    unserved: Option<usize>,
-) -> Result<(), BuildError>
-    requires parameters { parameters.now ≡ parts.now.parameters }
-    requires buses { names.now.buses ≡ bus_names parts.now }
-    requires streams { names.now.streams ≡ stream_names parts.now }
-    requires overlap { overlap ≡ doubled overlap_of parts.now.streams }
-    requires unserved { unserved ≡ unserved_bus parts.now.routers parts.now.buses }
-    ensures { result ≡ references parts.now }
-{
-    refuse(
-        TableRule::ParameterAbsent,
-        Section::Stream,
-        first_unknown_stream(parameters, parts.streams()),
-    )?;
-    refuse(
-        TableRule::ParameterAbsent,
-        Section::Label,
-        first_unknown_label(parameters, parts.labels()),
-    )?;
-    refuse(TableRule::StreamsOverlap, Section::Stream, overlap)?;
-    refuse(
-        TableRule::NameAbsent,
-        Section::Router,
-        first_lost_router(&names.buses, parts.routers()),
-    )?;
-    refuse(
-        TableRule::NameAbsent,
-        Section::Label,
-        first_lost_label(&names.streams, parts.labels()),
-    )?;
-    refuse(TableRule::BusNotVisitedByOne, Section::Bus, unserved)?;
-    refuse(
-        TableRule::SourceDoubled,
-        Section::Label,
-        first_doubled_source(parts.labels()),
-    )
-}
-
 /// The label of the first entry at an offset that is taken.
 fn find_doubled_offset(alloc: Global, entries: &[PlacedEntry]) -> Result<Option<usize>, AllocError>
     ensures { IfOk result (λ r. r ≡ first_doubled_offset entries.now) }
@@ -293,64 +250,6 @@ fn find_doubled_label(alloc: Global, labels: &[LabelPart]) -> Result<Option<usiz
     let keys = label_keys(alloc, labels)?;
     let (_, found) = distinct(alloc, &keys)?;
     Ok(found)
-}
-
-/// Formats, entries and budgets.
-pub(crate) fn check_schedules(
-    alloc: Global,
-    parts: &Parts,
-    parameters: &Parameters,
-    names: &Names,
-    entries: &[PlacedEntry],
-) -> Result<(), BuildError>
-    requires tick { 1 ≤ parts.now.tick_us }
-    requires parameters { parameters.now ≡ parts.now.parameters }
-    requires streams { names.now.streams ≡ stream_names parts.now }
-    requires entries { entries.now ≡ entries_from 0 parts.now.labels }
-    ensures { Tells (schedules parts.now) result }
-{
-    let offset = find_doubled_offset(alloc, entries).map_err(BuildError::Memory)?;
-    let label = find_doubled_label(alloc, parts.labels()).map_err(BuildError::Memory)?;
-    check_schedules_of(parts, parameters, names, offset, label)
-}
-
-/// The same, given the first label at a doubled offset, and the first that is doubled itself.
-fn check_schedules_of(
-    parts: &Parts,
-    parameters: &Parameters,
-    names: &Names,
-    offset: Option<usize>,
-    label: Option<usize>,
-) -> Result<(), BuildError>
-    requires tick { 1 ≤ parts.now.tick_us }
-    requires parameters { parameters.now ≡ parts.now.parameters }
-    requires streams { names.now.streams ≡ stream_names parts.now }
-    requires offset { offset ≡ first_doubled_offset (entries_from 0 parts.now.labels) }
-    requires label { label ≡ first_doubled_label parts.now.labels }
-    ensures { result ≡ schedules parts.now }
-{
-    refuse(
-        TableRule::FormatsDiffer,
-        Section::Label,
-        first_different(parameters, parts.streams(), &names.streams, parts.labels()),
-    )?;
-    refuse(
-        TableRule::OffsetPastFrame,
-        Section::Label,
-        first_late(parts.outputs(), parts.labels()),
-    )?;
-    refuse(TableRule::OffsetDoubled, Section::Label, offset)?;
-    refuse(TableRule::LabelDoubled, Section::Label, label)?;
-    refuse(
-        TableRule::RouterCannotKeepPace,
-        Section::Router,
-        first_unable_router(parts.routers()),
-    )?;
-    refuse(
-        TableRule::OutputCannotKeepPace,
-        Section::Output,
-        first_unable_output(parts.tick_us(), parts.outputs()),
-    )
 }
 
 /// The rules up to T12: the entries in the order of the text, and the parameters to look up.
@@ -399,81 +298,159 @@ fn keep_parameters(alloc: Global, parts: &Parts) -> Result<Parameters, BuildErro
     Ok(parameters)
 }
 
-/// The rules from T13 on: the names to look up.
+/// A document beside what it is looked up by, while the rules from T14 on are asked.
+#[derive(Clone, Copy)]
+struct Indexed<'a> {
+    parts: &'a Parts,
+    passed: &'a Passed,
+    ghost tick: { 1 ≤ parts.now.tick_us },
+    ghost own: { ArePassed parts.now passed.now },
+}
+
+impl Indexed<'_> {
+    /// The rules from T14 on.
+    fn check(&self, alloc: Global) -> Result<(), BuildError>
+        ensures { Tells (then_reported (references self.now.parts.now) (schedules self.now.parts.now)) result }
+    {
+        self.check_references(alloc)?;
+        self.check_schedules(alloc)
+    }
+
+    /// What tables name of one another.
+    fn check_references(&self, alloc: Global) -> Result<(), BuildError>
+        ensures { Tells (references self.now.parts.now) result }
+    {
+        let overlap = first_overlap(alloc, self.parts.streams()).map_err(BuildError::Memory)?;
+        let unserved = first_unserved(alloc, self.parts.routers(), self.parts.buses()).map_err(
+            BuildError::Memory,
+        )?;
+        self.refuse_references(overlap, unserved)
+    }
+
+    /// The same, where the first stream that overlaps with one before it is known, and the first bus that no router
+    /// visits, or two.
+    fn refuse_references(
+        &self,
+        overlap: Option<usize>,
+        unserved: Option<usize>,
+    ) -> Result<(), BuildError>
+        requires overlap { overlap ≡ doubled overlap_of self.now.parts.now.streams }
+        requires unserved { unserved ≡ unserved_bus self.now.parts.now.routers self.now.parts.now.buses }
+        ensures { result ≡ references self.now.parts.now }
+    {
+        let Indexed { parts, passed } = self;
+        refuse(
+            TableRule::ParameterAbsent,
+            Section::Stream,
+            first_unknown_stream(&passed.parameters, parts.streams()),
+        )?;
+        refuse(
+            TableRule::ParameterAbsent,
+            Section::Label,
+            first_unknown_label(&passed.parameters, parts.labels()),
+        )?;
+        refuse(TableRule::StreamsOverlap, Section::Stream, overlap)?;
+        refuse(
+            TableRule::NameAbsent,
+            Section::Router,
+            first_lost_router(&passed.names.buses, parts.routers()),
+        )?;
+        refuse(
+            TableRule::NameAbsent,
+            Section::Label,
+            first_lost_label(&passed.names.streams, parts.labels()),
+        )?;
+        refuse(TableRule::BusNotVisitedByOne, Section::Bus, unserved)?;
+        refuse(
+            TableRule::SourceDoubled,
+            Section::Label,
+            first_doubled_source(parts.labels()),
+        )
+    }
+
+    /// Formats, entries and budgets.
+    fn check_schedules(&self, alloc: Global) -> Result<(), BuildError>
+        ensures { Tells (schedules self.now.parts.now) result }
+    {
+        let offset = find_doubled_offset(alloc, &self.passed.entries).map_err(BuildError::Memory)?;
+        let label = find_doubled_label(alloc, self.parts.labels()).map_err(BuildError::Memory)?;
+        self.refuse_schedules(offset, label)
+    }
+
+    /// The same, where the first label at a doubled offset is known, and the first that is doubled itself.
+    fn refuse_schedules(
+        &self,
+        offset: Option<usize>,
+        label: Option<usize>,
+    ) -> Result<(), BuildError>
+        requires offset { offset ≡ first_doubled_offset (entries_from 0 self.now.parts.now.labels) }
+        requires label { label ≡ first_doubled_label self.now.parts.now.labels }
+        ensures { result ≡ schedules self.now.parts.now }
+    {
+        let Indexed { parts, passed } = self;
+        refuse(
+            TableRule::FormatsDiffer,
+            Section::Label,
+            first_different(
+                &passed.parameters,
+                parts.streams(),
+                &passed.names.streams,
+                parts.labels(),
+            ),
+        )?;
+        refuse(
+            TableRule::OffsetPastFrame,
+            Section::Label,
+            first_late(parts.outputs(), parts.labels()),
+        )?;
+        refuse(TableRule::OffsetDoubled, Section::Label, offset)?;
+        refuse(TableRule::LabelDoubled, Section::Label, label)?;
+        refuse(
+            TableRule::RouterCannotKeepPace,
+            Section::Router,
+            first_unable_router(parts.routers()),
+        )?;
+        refuse(
+            TableRule::OutputCannotKeepPace,
+            Section::Output,
+            first_unable_output(parts.tick_us(), parts.outputs()),
+        )
+    }
+}
+
+/// The rules from T13 on: what the document is looked up by, its names now too.
 pub(crate) fn check_later(
     alloc: Global,
     parts: &Parts,
-    parameters: &Parameters,
-    entries: &[PlacedEntry],
-) -> Result<Names, BuildError>
+    parameters: Parameters,
+    entries: Vec<PlacedEntry>,
+) -> Result<Passed, BuildError>
     requires tick { 1 ≤ parts.now.tick_us }
-    requires parameters { parameters.now ≡ parts.now.parameters }
-    requires entries { entries.now ≡ entries_from 0 parts.now.labels }
+    requires parameters { parameters ≡ parts.now.parameters }
+    requires entries { entries.items ≡ entries_from 0 parts.now.labels }
     ensures rule { Tells (later_rules parts.now) result }
-    ensures buses { IfOk result (λ n. n.buses ≡ bus_names parts.now) }
-    ensures streams { IfOk result (λ n. n.streams ≡ stream_names parts.now) }
-    ensures routers { IfOk result (λ n. n.routers ≡ router_names parts.now) }
-    ensures outputs { IfOk result (λ n. n.outputs ≡ output_names parts.now) }
-    ensures labels { IfOk result (λ n. n.labels ≡ label_names parts.now) }
+    ensures passed { IfOk result (λ p. ArePassed parts.now p) }
 {
     let names = index_names(alloc, parts)?;
-    pass_named(alloc, parts, parameters, names, entries)
+    let passed = Passed {
+        entries,
+        parameters,
+        names,
+    };
+    kept(alloc, parts, passed)
 }
 
-/// The names, where the rules from T14 on are kept.
-fn pass_named(
-    alloc: Global,
-    parts: &Parts,
-    parameters: &Parameters,
-    names: Names,
-    entries: &[PlacedEntry],
-) -> Result<Names, BuildError>
+/// What the document is looked up by, where the rules from T14 on are kept.
+fn kept(alloc: Global, parts: &Parts, passed: Passed) -> Result<Passed, BuildError>
     requires tick { 1 ≤ parts.now.tick_us }
-    requires parameters { parameters.now ≡ parts.now.parameters }
-    requires buses { names.buses ≡ bus_names parts.now }
-    requires streams { names.streams ≡ stream_names parts.now }
-    requires entries { entries.now ≡ entries_from 0 parts.now.labels }
+    requires passed { ArePassed parts.now passed }
     ensures rule { Tells (then_reported (references parts.now) (schedules parts.now)) result }
-    ensures same { IfOk result (λ n. n ≡ names) }
+    ensures passed { IfOk result (λ p. ArePassed parts.now p) }
 {
-    check_named(alloc, parts, parameters, &names, entries)?;
-    Ok(names)
-}
-
-/// The rules from T14 on.
-fn check_named(
-    alloc: Global,
-    parts: &Parts,
-    parameters: &Parameters,
-    names: &Names,
-    entries: &[PlacedEntry],
-) -> Result<(), BuildError>
-    requires tick { 1 ≤ parts.now.tick_us }
-    requires parameters { parameters.now ≡ parts.now.parameters }
-    requires buses { names.now.buses ≡ bus_names parts.now }
-    requires streams { names.now.streams ≡ stream_names parts.now }
-    requires entries { entries.now ≡ entries_from 0 parts.now.labels }
-    ensures { Tells (then_reported (references parts.now) (schedules parts.now)) result }
-{
-    tell_references(alloc, parts, parameters, names)?;
-    check_schedules(alloc, parts, parameters, names, entries)
-}
-
-/// What tables name of one another, as a verdict.
-fn tell_references(
-    alloc: Global,
-    parts: &Parts,
-    parameters: &Parameters,
-    names: &Names,
-) -> Result<(), BuildError>
-    requires parameters { parameters.now ≡ parts.now.parameters }
-    requires buses { names.now.buses ≡ bus_names parts.now }
-    requires streams { names.now.streams ≡ stream_names parts.now }
-    ensures { Tells (references parts.now) result }
-{
-    let overlap = first_overlap(alloc, parts.streams()).map_err(BuildError::Memory)?;
-    let unserved = first_unserved(alloc, parts.routers(), parts.buses()).map_err(
-        BuildError::Memory,
-    )?;
-    check_references(parts, parameters, names, overlap, unserved)
+    let indexed = Indexed {
+        parts,
+        passed: &passed,
+    };
+    indexed.check(alloc)?;
+    Ok(passed)
 }

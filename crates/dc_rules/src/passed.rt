@@ -33,11 +33,6 @@ impl Passed {
         ensures passed { IfOk result (λ p. ArePassed parts.now p) }
     {
         let (entries, parameters) = check_first(alloc, parts)?;
-        let names = check_later(alloc, parts, &parameters, &entries)?;
-        Ok(Passed {
-            entries,
-            parameters,
-            names,
-        })
+        check_later(alloc, parts, parameters, entries)
     }
 }
