@@ -43,8 +43,10 @@ try-%:
 	@scripts/$*
 
 # The built program on the rows of rows/ whose file or name has a word, as make rows ONLY=replay; with no word on all. No proof.
+# With QUICK=1 the program is not wanted: those that differ by their standard input alone run with no proof, by one build for each
+# such group.
 rows:
-	@scripts/rows $(if $(ONLY),--only '$(ONLY)')
+	@RT=$(RT) scripts/rows $(if $(ONLY),--only '$(ONLY)') $(if $(QUICK),--quick)
 
 # The edits outside the gate whose line of edits/tried.tsv is not fresh, of one crate or of all: the prover must refuse each.
 edits:
