@@ -60,44 +60,65 @@ fn at_owner(owners: &[usize], found: Option<Breach>) -> Option<Breach>
     })
 }
 
-/// Numbers in their ranges, lists in their limits.
-pub(crate) fn check_shape(alloc: Global, parts: &Parts) -> Result<(), BuildError>
-    ensures { Tells (shape parts.now) result }
-{
-    let streams = stream_owners(alloc, parts).map_err(BuildError::Memory)?;
-    let bus_counts = count_members(alloc, &streams, parts.bus_count()).map_err(BuildError::Memory)?;
-    let labels = label_owners(alloc, parts).map_err(BuildError::Memory)?;
-    let output_counts = count_members(alloc, &labels, parts.output_count()).map_err(
-        BuildError::Memory,
-    )?;
-    check_shape_of(parts, (&streams, &bus_counts), (&labels, &output_counts))
+/// A document beside the owner of each of its members, and how many members each owner has.
+#[derive(Drop)]
+struct Counted<'a> {
+    parts: &'a Parts,
+    buses_of_streams: Vec<usize>,
+    streams_of_buses: Vec<usize>,
+    outputs_of_labels: Vec<usize>,
+    labels_of_outputs: Vec<usize>,
+    ghost streams: { buses_of_streams.items ≡ stream_owners parts.now },
+    ghost stream_counts: { streams_of_buses.items ≡ counts (stream_owners parts.now) (length parts.now.buses) },
+    ghost labels: { outputs_of_labels.items ≡ label_owners parts.now },
+    ghost label_counts: { labels_of_outputs.items ≡ counts (label_owners parts.now) (length parts.now.outputs) },
 }
 
-/// The same, given the bus of each stream and how many streams each bus has, and the like of labels and outputs.
-fn check_shape_of(
-    parts: &Parts,
-    streams: (&[usize], &[usize]),
-    labels: (&[usize], &[usize]),
-) -> Result<(), BuildError>
-    requires streams { streams.0.now ≡ stream_owners parts.now }
-    requires stream_counts { streams.1.now ≡ counts (stream_owners parts.now) (length parts.now.buses) }
-    requires labels { labels.0.now ≡ label_owners parts.now }
-    requires label_counts { labels.1.now ≡ counts (label_owners parts.now) (length parts.now.outputs) }
-    ensures { result ≡ shape parts.now }
+impl<'a> Counted<'a> {
+    /// The document with its members counted.
+    fn of(alloc: Global, parts: &'a Parts) -> Result<Counted<'a>, AllocError>
+        ensures { IfOk result (λ c. c.parts.now ≡ parts.now) }
+    {
+        let buses_of_streams = stream_owners(alloc, parts)?;
+        let streams_of_buses = count_members(alloc, &buses_of_streams, parts.bus_count())?;
+        let outputs_of_labels = label_owners(alloc, parts)?;
+        let labels_of_outputs = count_members(alloc, &outputs_of_labels, parts.output_count())?;
+        Ok(Counted {
+            parts,
+            buses_of_streams,
+            streams_of_buses,
+            outputs_of_labels,
+            labels_of_outputs,
+        })
+    }
+
+    /// Numbers in their ranges, lists in their limits.
+    fn check_shape(&self) -> Result<(), BuildError>
+        ensures { result ≡ shape self.now.parts.now }
+    {
+        let parts = self.parts;
+        check_top(parts)?;
+        refuse(
+            TableRule::NumberOutOfRange,
+            Section::Parameter,
+            parameter_shape(parts.parameters()),
+        )?;
+        let bus = bus_shape(parts.buses(), &self.streams_of_buses);
+        let stream = at_owner(&self.buses_of_streams, stream_shape(parts.streams()));
+        refuse_breach(earlier_of(bus, stream))?;
+        refuse_breach(router_shape(parts.routers()))?;
+        let output = output_shape(parts.outputs(), &self.labels_of_outputs);
+        let label = at_owner(&self.outputs_of_labels, label_shape(parts.labels()));
+        refuse_breach(earlier_of(output, label))
+    }
+}
+
+/// Numbers in their ranges, lists in their limits.
+fn check_shape(alloc: Global, parts: &Parts) -> Result<(), BuildError>
+    ensures { Tells (shape parts.now) result }
 {
-    check_top(parts)?;
-    refuse(
-        TableRule::NumberOutOfRange,
-        Section::Parameter,
-        parameter_shape(parts.parameters()),
-    )?;
-    let bus = bus_shape(parts.buses(), streams.1);
-    let stream = at_owner(streams.0, stream_shape(parts.streams()));
-    refuse_breach(earlier_of(bus, stream))?;
-    refuse_breach(router_shape(parts.routers()))?;
-    let output = output_shape(parts.outputs(), labels.1);
-    let label = at_owner(labels.0, label_shape(parts.labels()));
-    refuse_breach(earlier_of(output, label))
+    let counted = Counted::of(alloc, parts).map_err(BuildError::Memory)?;
+    counted.check_shape()
 }
 
 /// The entries of all outputs in the order of the text.
@@ -108,24 +129,12 @@ pub(crate) fn place_all(alloc: Global, parts: &Parts) -> Result<Vec<PlacedEntry>
 }
 
 /// Totals over the tables.
-pub(crate) fn check_totals(
-    alloc: Global,
-    parts: &Parts,
-    entries: &[PlacedEntry],
-) -> Result<(), BuildError>
+fn check_totals(alloc: Global, parts: &Parts, entries: &[PlacedEntry]) -> Result<(), BuildError>
     requires { entries.now ≡ entries_from 0 parts.now.labels }
     ensures { Tells (totals parts.now) result }
 {
     let owners = entry_owners(alloc, entries).map_err(BuildError::Memory)?;
     let counted = count_members(alloc, &owners, parts.output_count()).map_err(BuildError::Memory)?;
-    check_totals_of(parts, &counted)
-}
-
-/// The same, given how many entries each output has.
-fn check_totals_of(parts: &Parts, entries: &[usize]) -> Result<(), BuildError>
-    requires { entries.now ≡ counts (entry_owners parts.now.labels) (length parts.now.outputs) }
-    ensures { result ≡ totals parts.now }
-{
     refuse(
         TableRule::CountOutOfRange,
         Section::Bus,
@@ -139,7 +148,7 @@ fn check_totals_of(parts: &Parts, entries: &[usize]) -> Result<(), BuildError>
     refuse(
         TableRule::CountOutOfRange,
         Section::Output,
-        first_overfull(entries),
+        first_overfull(&counted),
     )
 }
 
