@@ -14,7 +14,7 @@ use crate::page::Page;
 use dc_device::{LineWriter, Sink};
 use std::alloc::Global;
 
-// What is written of what was judged: nothing where no thread could be started.
+/// What is written of what was judged: nothing where no thread could be started.
 fn written(judged: Result<Outcome, Unjudged>) -> Option<Result<Outcome, Failure>>
     ensures { result ≡ to_write judged }
 {
@@ -26,7 +26,7 @@ fn written(judged: Result<Outcome, Unjudged>) -> Option<Result<Outcome, Failure>
     }
 }
 
-// Writes the page of what was judged, where there is one.
+/// Writes the page of what was judged, where there is one.
 fn say_page<K: Sink>(
     judged: Result<Outcome, Failure>,
     page: &Page,
@@ -53,7 +53,7 @@ fn say_page<K: Sink>(
     }
 }
 
-// Writes what was judged, and ends.
+/// Writes what was judged, and ends.
 fn finish<K: Sink>(judged: Result<Outcome, Failure>, page: &Page, sink: &mut K) -> Exit
     requires countable { CanFail (K.state sink.old) }
     requires sink { IfErr judged (λ e. e ≢ Failure.Sink) }
@@ -66,7 +66,7 @@ fn finish<K: Sink>(judged: Result<Outcome, Failure>, page: &Page, sink: &mut K) 
     report(ended, &mut writer, sink)
 }
 
-// Writes that a thread could not be started, and ends.
+/// Writes that a thread could not be started, and ends.
 fn end_without_thread<K: Sink>(sink: &mut K) -> Exit
     requires { CanFail (K.state sink.old) }
     ensures reports { (sources sources' : ℕ) → sources' ≡ sources

@@ -1,6 +1,5 @@
 pub mod Auditing
 pub mod Checking
-pub mod CheckingPar
 pub mod DecodeExits
 pub mod Finding
 pub mod LineAnswers
@@ -8,8 +7,10 @@ pub mod Numbers
 pub mod Recorded
 pub mod ReplayExits
 pub mod ReplayReports
+pub mod Reported
 pub mod Said
 pub mod Says
+pub mod Sharing
 pub mod Shown
 pub mod StepLemmas
 pub mod Threading

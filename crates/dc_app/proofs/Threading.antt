@@ -25,7 +25,7 @@ use Rattle.dc_answer.specs.declared.inputs.Unloaded.TheVariants.{Refused}
 use Rattle.dc_answer.specs.lemmas.Judgments.{judged_as, one_said}
 use Rattle.dc_answer.specs.lemmas.Reporting.{both_raised}
 use Rattle.dc_app.specs.Texts.{AnswersClaims, AnswersTexts}
-use Rattle.dc_app.specs.Threads.{ReportsThreads}
+use Rattle.dc_answer.specs.Threads.{ReportsThreads}
 
 -- memory was refused: nothing is said of any text
 pub none_said : (r : Option (List ℕ)) → IfSome r (λ text. Unit {0})

@@ -6,6 +6,7 @@ use Rattle.dc_cert.specs.NamedRows.{NamedRows}
 use Rattle.dc_cert.specs.Reading.{Reading, certificate_of}
 use Rattle.dc_check.specs.Verdict.{verdict_of}
 use Rattle.dc_check.specs.declared.fault.CheckFault.{CheckFault}
+use Rattle.dc_event.specs.Admissible.{IsRun}
 use Rattle.dc_event.specs.Breaks.{BreaksBudgetsAt, BreaksSourcesAt, BreaksClaimsAt}
 use Rattle.dc_event.specs.ClaimNumber.{claim_number}
 use Rattle.dc_event.specs.TraceText.{Trace, trace_of}
@@ -85,6 +86,10 @@ pub record AreFound (t : TableRows) (ages : List ℕ) (run : List Event) (f : Fi
 abbrev pub AnswersRun : TableRows → List ℕ → Answer → Result (List Event) TraceFault → Type 0
 AnswersRun t ages answer (Ok run) = (f : Findings) × AreFound t ages run f × (answer ≡ answer_findings f)
 AnswersRun t ages answer (Err fault) = answer ≡ trace_end (Some fault)
+
+-- what is said of a run, where its events have numbers of the tables
+abbrev pub TellsFindings : TableRows → List ℕ → List Event → Answer → Type 0
+TellsFindings t ages run answer = IsRun t run → AnswersRun t ages answer (Ok run)
 
 -- to a trace, where this is the verdict on the certificate: where it is refused, as `check`
 abbrev pub AnswersVerdict : TableRows → NamedRows → List ℕ → Answer → Option CheckFault → Type 0

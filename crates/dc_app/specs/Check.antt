@@ -16,11 +16,8 @@ use Rattle.dc_build.specs.Reported.{TellsTables, AreTablesOf}
 use Rattle.dc_answer.specs.Answer.{Answer, Reported, WholeOrNone, one_line, unreadable}
 use Rattle.dc_answer.specs.Exits.{is_answered}
 use Rattle.dc_answer.specs.Inputs.{tables_end}
-use Rattle.dc_answer.specs.declared.answer.Failure.{Failure}
-use Rattle.dc_answer.specs.declared.answer.Failure.TheVariants.{Source, Sink, Memory}
 use Rattle.dc_answer.specs.declared.exit.Exit.{Exit}
 use Rattle.dc_answer.specs.declared.exit.Exit.TheVariants.{Done}
-use Rattle.dc_answer.specs.declared.exit.Outcome.{Outcome}
 use Rattle.dc_answer.specs.declared.exit.Outcome.TheVariants.{Done as WasDone, Refused as WasRefused}
 
 -- ---- the answer
@@ -67,22 +64,6 @@ pub record AreCertified (tables certificate : List ℕ) : Type 0 where
   pub rows : TableRows
   pub read : AreTablesOf (tables_of tables) rows
   pub certified : Certifies rows (certificate_of certificate)
-
--- ---- what is judged, before it is written
-
--- the line and the outcome, with what it means to be done; or memory was refused, or the source failed
-abbrev pub Judges : TableRows → Reading NamedRows → List ℕ → Result Outcome Failure → Type 0
-Judges t reading line (Ok outcome) = (one_line line outcome ≡ answer_claims t reading) × (outcome ≡ WasDone → Certifies t reading)
-Judges t reading line (Err Source) = Unit {0}
-Judges t reading line (Err Memory) = Unit {0}
-Judges t reading line (Err Sink) = ⊥
-
--- the same for the texts of tables and of a certificate, whatever they say
-abbrev pub JudgesTexts : List ℕ → List ℕ → List ℕ → Result Outcome Failure → Type 0
-JudgesTexts tables certificate line (Ok outcome) = AnswersCheck tables certificate (one_line line outcome) × (outcome ≡ WasDone → AreCertified tables certificate)
-JudgesTexts tables certificate line (Err Source) = Unit {0}
-JudgesTexts tables certificate line (Err Memory) = Unit {0}
-JudgesTexts tables certificate line (Err Sink) = ⊥
 
 -- ---- what is reported
 

@@ -21,12 +21,9 @@ use Rattle.dc_toml.specs.Reading.{tables_of}
 use Rattle.dc_build.specs.Reported.{TellsTables}
 use Rattle.dc_answer.specs.Answer.{Answer, Reported, WholeOrNone, one_line}
 use Rattle.dc_print.specs.Verdicts.{member_name, member_text}
-use Rattle.dc_answer.specs.declared.answer.Failure.{Failure}
 use Rattle.dc_answer.specs.Exits.{is_answered}
 use Rattle.dc_answer.specs.Inputs.{tables_end}
-use Rattle.dc_answer.specs.Judging.{Judged}
 use Rattle.dc_answer.specs.declared.exit.Exit.{Exit}
-use Rattle.dc_answer.specs.declared.exit.Outcome.{Outcome}
 use Rattle.dc_answer.specs.declared.exit.Outcome.TheVariants.{Done, Refused as WasRefused}
 
 -- ---- the line
@@ -82,16 +79,6 @@ AnswersFind tables answer = (read : Result TableRows BuildError) × TellsTables 
 -- what `find` answers: where it is not whole, that or no line
 abbrev pub FindAnswers : List ℕ → Bool → Answer → Type 0
 FindAnswers tables = WholeOrNone (AnswersFind tables)
-
--- ---- what is judged, before it is written
-
--- the line of tables that read so; or memory was refused
-abbrev pub JudgesRows : TableRows → List ℕ → Result Outcome Failure → Type 0
-JudgesRows t = Judged (AnswersRows t)
-
--- the line of a text; or memory was refused, or the source failed
-abbrev pub JudgesTables : List ℕ → List ℕ → Result Outcome Failure → Type 0
-JudgesTables tables = Judged (AnswersFind tables)
 
 -- ---- what is reported
 

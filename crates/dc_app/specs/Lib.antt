@@ -6,4 +6,4 @@ pub mod Refusals
 pub mod Replay
 pub mod Steps
 pub mod Texts
-pub mod Threads
+pub mod Stages

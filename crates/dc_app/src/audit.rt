@@ -1,36 +1,26 @@
 //! `audit`: a recorded run judged by the definitions, against a certificate.
-ghost use Rattle.std.specs.Prelude.{◌≡◌, ◌≢◌, ℕ, List, [], ◌∷◌, ◌++◌, ◌⊎◌, ◌+◌, ◌-◌, ◌<◌, ◌≤◌, IfErr, IfOk, IfSome, Some, Ok, length};
+ghost use Rattle.std.specs.Prelude.{◌≡◌, ◌≢◌, ℕ, List, [], ◌∷◌, ◌++◌, ◌+◌, ◌-◌, ◌<◌, ◌≤◌, IfOk, IfSome, Some, length};
 ghost use Rattle.arrayvec.specs.ArrayVec.{array_vec_len};
+ghost use Rattle.dc_answer.specs.Answer.{Any, LeavesSink, Reported};
+ghost use Rattle.dc_answer.specs.Inputs.{OnlyBehind};
+ghost use Rattle.dc_answer.specs.Judging.{Keeps};
 ghost use Rattle.dc_cert.specs.Bounds.{certificate_rows};
-ghost use Rattle.dc_cert.specs.NamedRows.{named_rows};
-ghost use Rattle.dc_cert.specs.Reading.{certificate_of};
 ghost use Rattle.dc_device.specs.Lines.{spelled};
 ghost use Rattle.dc_device.specs.States.{AsksUpTo, CanFail, IsCountable};
 ghost use Rattle.dc_event.specs.Admissible.{IsRun};
-ghost use Rattle.dc_toml.specs.Reading.{tables_of};
 ghost use Rattle.dc_event.specs.declared.trace_reader.TheConstants.{TRACE_LIMIT};
 ghost use Rattle.dc_parts.specs.declared.limits.TheConstants.{TEXT_LIMIT};
-ghost use Rattle.dc_answer.specs.Answer.{Any, LeavesSink, Raises, Reported};
-ghost use Rattle.dc_app.specs.Audit.{AnswersAudit, AnswersClaims, AnswersRun, AreFound, OnlyCertified, ReportsAudit, answer_findings, claims_text, findings_lines, holds_text, run_of};
-ghost use Rattle.dc_app.specs.Check.{Certifies, Judges};
-ghost use Rattle.dc_answer.specs.Inputs.{OnlyBehind};
-ghost use Rattle.dc_answer.specs.Judging.{Judged};
 ghost use Rattle.dc_print.specs.declared.text.TheConstants.{TEXT_CAPACITY};
+ghost use Rattle.dc_toml.specs.Reading.{tables_of};
+ghost use Rattle.dc_app.specs.Audit.{AreFound, OnlyCertified, ReportsAudit, TellsFindings, answer_findings, claims_text, findings_lines, holds_text};
 
-use crate::recording::load_run;
-use crate::replay::code_of;
-use dc_answer::{
-    Exit, Failure, Outcome, Unloaded, load, load_certificate, print_fault, report, say,
-};
+use crate::stages::{OnlyAccepted, ReadRun};
+use dc_answer::{End, Exit, Outcome, Page, ReadCertificate, ReadTables, Tell, Then, With, run};
 use dc_cert::Certificate;
-use dc_check::laws::{accepted_certificates_keep_their_claims, no_fault_is_acceptance};
-use dc_check::verdict;
-use dc_device::{LineWriter, Sink, Source};
+use dc_device::{Sink, Source};
 use dc_event::{Claim, Event};
 use dc_oracle::{claims, keeps_budgets, keeps_sources};
-use dc_print::{
-    Text, append, append_number, print_accepted, print_cert_fault, print_refused, print_table_fault,
-};
+use dc_print::{Text, append, append_number};
 use dc_tables::Tables;
 use std::alloc::{AllocError, Global};
 
@@ -120,148 +110,50 @@ fn outcome(found: Findings) -> Outcome
     }
 }
 
-/// Judges a run, and prints what was found.
+/// Judges a run, and keeps what was found.
 fn audit_run(
     alloc: Global,
     tables: &Tables,
     certificate: &Certificate,
-    run: &[Event],
-    text: &mut Text,
-) -> Result<Outcome, Failure>
-    ensures answer { IsRun tables.now run.now → Judged (λ answer. AnswersRun tables.now (certificate_rows certificate.now).ages answer (Ok run.now)) text.new.items result }
-    ensures memory { IfErr result (λ e. e ≡ Failure.Memory) }
+    run: &Vec<Event>,
+    page: &mut Page,
+) -> Result<Outcome, AllocError>
+    ensures { Keeps (TellsFindings tables.now (certificate_rows certificate.now).ages run.now.items) page.new result }
 {
-    match findings_of(alloc, tables, certificate, run) {
+    match findings_of(alloc, tables, certificate, run.as_slice()) {
         Ok(found) => {
-            print_findings(text, found);
+            let mut text = Text::new();
+            print_findings(&mut text, found);
+            page.tell(text);
             Ok(outcome(found))
         }
-        Err(_) => Err(Failure::Memory),
+        Err(e) => Err(e),
     }
 }
 
-/// Judges the run of a trace.
-fn audit_trace<S: Source>(
-    alloc: Global,
-    tables: &Tables,
-    certificate: &Certificate,
-    trace: &mut S,
-    text: &mut Text,
-) -> Result<Outcome, Failure>
-    requires { IsCountable (S.state trace.old) }
-    ensures answer { IfSome (S.state trace.old).remaining (λ events. Judged (λ answer. AnswersRun tables.now (certificate_rows certificate.now).ages answer (run_of tables.now events)) text.new.items result) }
-    ensures source { Raises (S.state trace.old).failed (S.state trace.new).failed result }
-    ensures asks { AsksUpTo TRACE_LIMIT (S.state trace.old) (S.state trace.new) }
-    ensures sink { IfErr result (λ e. e ≢ Failure.Sink) }
-{
-    tables.named();
-    match load_run(alloc, tables, trace) {
-        Ok(run) => audit_run(alloc, tables, certificate, run.as_slice(), text),
-        Err(Unloaded::Refused(fault)) => {
-            print_fault(text, code_of(fault.rule), fault.line);
-            Ok(Outcome::Unreadable)
-        }
-        Err(Unloaded::Failed(failure)) => Err(failure),
+/// Judges a run by the definitions over the whole history: whether it keeps the budgets, what is asked of the sources,
+/// and the four claims by a certificate's ages, a line each, with the first place at which it fails.
+#[derive(Clone, Copy, Debug)]
+pub struct Audit;
+
+impl Tell<((Tables, Certificate), Vec<Event>)> for Audit {
+    ghost answers = { λ _ known. TellsFindings known.0.0 (certificate_rows known.0.1).ages known.1.items };
+
+    fn tell(
+        &self,
+        alloc: Global,
+        known: ((Tables, Certificate), Vec<Event>),
+        page: &mut Page,
+    ) -> Result<Outcome, AllocError> {
+        let ((tables, certificate), run) = known;
+        audit_run(alloc, &tables, &certificate, &run, page)
     }
 }
 
-/// Judges a certificate, and prints the verdict.
-fn judge(tables: &Tables, certificate: &Certificate, text: &mut Text) -> Outcome
-    ensures { Judges tables.now (Ok (named_rows certificate.now)) text.new.items (Ok result) }
-{
-    accepted_certificates_keep_their_claims(tables);
-    no_fault_is_acceptance(tables);
-    match verdict(tables, certificate) {
-        Ok(()) => {
-            print_accepted(text, tables);
-            Outcome::Done
-        }
-        Err(fault) => {
-            print_refused(text, tables, fault);
-            Outcome::Refused
-        }
-    }
-}
-
-/// Judges a certificate, and then the run of a trace.
-fn audit_certificate<S: Source>(
-    alloc: Global,
-    tables: &Tables,
-    certificate: &Certificate,
-    trace: &mut S,
-    text: &mut Text,
-) -> Result<Outcome, Failure>
-    requires { IsCountable (S.state trace.old) }
-    ensures answer { IfSome (S.state trace.old).remaining (λ events. Judged (λ answer. AnswersClaims tables.now events answer (Ok (named_rows certificate.now))) text.new.items result) }
-    ensures source { Raises (S.state trace.old).failed (S.state trace.new).failed result }
-    ensures asks { AsksUpTo TRACE_LIMIT (S.state trace.old) (S.state trace.new) }
-    ensures order { Certifies tables.now (Ok (named_rows certificate.now)) ⊎ (trace.new ≡ trace.old) }
-    ensures sink { IfErr result (λ e. e ≢ Failure.Sink) }
-{
-    match judge(tables, certificate, text) {
-        Outcome::Done => audit_trace(alloc, tables, certificate, trace, text),
-        refused => Ok(refused),
-    }
-}
-
-/// Judges the text of a certificate that a source gives, and then the run of a trace.
-fn audit_source<C: Source, S: Source>(
-    alloc: Global,
-    tables: &Tables,
-    certificate: &mut C,
-    trace: &mut S,
-    text: &mut Text,
-) -> Result<Outcome, Failure>
-    requires certificate { IsCountable (C.state certificate.old) }
-    requires trace { IsCountable (S.state trace.old) }
-    ensures answer { IfSome (C.state certificate.old).remaining (λ claims. IfSome (S.state trace.old).remaining (λ events.
-        Judged (λ answer. AnswersClaims tables.now events answer (certificate_of claims)) text.new.items result)) }
-    ensures source { Raises ((C.state certificate.old).failed + (S.state trace.old).failed) ((C.state certificate.new).failed + (S.state trace.new).failed) result }
-    ensures asks_certificate { AsksUpTo TEXT_LIMIT (C.state certificate.old) (C.state certificate.new) }
-    ensures asks_trace { AsksUpTo TRACE_LIMIT (S.state trace.old) (S.state trace.new) }
-    ensures order { IfSome (C.state certificate.old).remaining (λ claims. Certifies tables.now (certificate_of claims) ⊎ (trace.new ≡ trace.old)) }
-    ensures sink { IfErr result (λ e. e ≢ Failure.Sink) }
-{
-    match load_certificate(alloc, certificate) {
-        Ok(certificate) => audit_certificate(alloc, tables, &certificate, trace, text),
-        Err(Unloaded::Refused(fault)) => {
-            print_cert_fault(text, fault);
-            Ok(Outcome::Unreadable)
-        }
-        Err(Unloaded::Failed(failure)) => Err(failure),
-    }
-}
-
-/// Judges the texts of tables, of a certificate and of a trace, in this order.
-fn audit_sources<T: Source, C: Source, S: Source>(
-    alloc: Global,
-    tables: &mut T,
-    certificate: &mut C,
-    trace: &mut S,
-    text: &mut Text,
-) -> Result<Outcome, Failure>
-    requires tables { IsCountable (T.state tables.old) }
-    requires certificate { IsCountable (C.state certificate.old) }
-    requires trace { IsCountable (S.state trace.old) }
-    ensures answer { (rows claims events : List ℕ) → (T.state tables.old).remaining ≡ Some rows → (C.state certificate.old).remaining ≡ Some claims → (S.state trace.old).remaining ≡ Some events
-        → Judged (AnswersAudit rows claims events) text.new.items result }
-    ensures source { Raises ((T.state tables.old).failed + ((C.state certificate.old).failed + (S.state trace.old).failed)) ((T.state tables.new).failed + ((C.state certificate.new).failed + (S.state trace.new).failed)) result }
-    ensures asks_tables { AsksUpTo TEXT_LIMIT (T.state tables.old) (T.state tables.new) }
-    ensures asks_certificate { AsksUpTo TEXT_LIMIT (C.state certificate.old) (C.state certificate.new) }
-    ensures asks_trace { AsksUpTo TRACE_LIMIT (S.state trace.old) (S.state trace.new) }
-    ensures order_certificate { IfSome (T.state tables.old).remaining (λ rows. OnlyBehind (tables_of rows) (certificate.new ≡ certificate.old)) }
-    ensures order_trace { IfSome (T.state tables.old).remaining (λ rows. IfSome (C.state certificate.old).remaining (λ claims. OnlyCertified rows claims (trace.new ≡ trace.old))) }
-    ensures sink { IfErr result (λ e. e ≢ Failure.Sink) }
-{
-    match load(alloc, tables) {
-        Ok(tables) => audit_source(alloc, &tables, certificate, trace, text),
-        Err(Unloaded::Refused(fault)) => {
-            print_table_fault(text, fault);
-            Ok(Outcome::Unreadable)
-        }
-        Err(Unloaded::Failed(failure)) => Err(failure),
-    }
-}
+/// The engine of `audit`.
+pub const AUDIT: ReadTables<ReadCertificate<OnlyAccepted<ReadRun<Then<Audit>>>>> = ReadTables(
+    ReadCertificate(OnlyAccepted(ReadRun(Then(Audit)))),
+);
 
 /// Audits a recorded run: judges a certificate for tables, and then, by the definitions over the whole history, whether
 /// the run of a trace keeps the budgets, what is asked of the sources, and the four claims by the certificate's ages.
@@ -300,9 +192,15 @@ pub fn run_audit<T: Source, C: Source, S: Source, K: Sink>(
     ensures quiet { result ≢ Exit.Failed → ((T.state tables.new).failed + ((C.state certificate.new).failed + (S.state trace.new).failed)) + (K.state sink.new).failed
         ≡ ((T.state tables.old).failed + ((C.state certificate.old).failed + (S.state trace.old).failed)) + (K.state sink.old).failed }
 {
-    let mut text = Text::new();
-    let judged = audit_sources(alloc, tables, certificate, trace, &mut text);
-    let mut writer = LineWriter::new();
-    let ended = say(judged, text.as_slice(), &mut writer, sink);
-    report(ended, &mut writer, sink)
+    let mut given = With {
+        first: tables,
+        rest: With {
+            first: certificate,
+            rest: With {
+                first: trace,
+                rest: End,
+            },
+        },
+    };
+    run(&(), alloc, &AUDIT, &mut given, sink)
 }

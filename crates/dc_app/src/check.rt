@@ -1,133 +1,74 @@
 //! `check`: the verdict on a certificate, in one line.
-ghost use Rattle.std.specs.Prelude.{◌≡◌, ◌≢◌, ℕ, List, ◌+◌, ◌<◌, ◌≤◌, IfErr, IfOk, IfSome, MatchResult, None, Some, Ok};
-ghost use Rattle.std.specs.Arc.{arc_value};
-ghost use Rattle.dc_toml.specs.Reading.{tables_of};
-ghost use Rattle.dc_cert.specs.NamedRows.{named_rows};
-ghost use Rattle.dc_cert.specs.Reading.{certificate_of};
-ghost use Rattle.dc_check.specs.Certified.{KeepsItsClaims};
-ghost use Rattle.dc_check.specs.Placed.{IsPlaced};
-ghost use Rattle.dc_check.specs.Verdict.{verdict_of};
-ghost use Rattle.dc_parts.specs.declared.limits.TheConstants.{TEXT_LIMIT};
-ghost use Rattle.dc_answer.specs.Answer.{Any, LeavesSink, Raises, Reported};
-ghost use Rattle.dc_app.specs.Check.{Judges, JudgesTexts, ReportsCheck};
+ghost use Rattle.std.specs.Prelude.{◌≡◌, ◌≢◌, ℕ, List, ◌+◌, ◌<◌, ◌≤◌, IfSome, Some};
+ghost use Rattle.dc_answer.specs.Answer.{Any, LeavesSink, Reported};
 ghost use Rattle.dc_answer.specs.Inputs.{OnlyBehind};
+ghost use Rattle.dc_answer.specs.Judging.{Says};
+ghost use Rattle.dc_cert.specs.NamedRows.{named_rows};
 ghost use Rattle.dc_device.specs.States.{AsksUpTo, CanFail, IsCountable};
+ghost use Rattle.dc_parts.specs.declared.limits.TheConstants.{TEXT_LIMIT};
+ghost use Rattle.dc_toml.specs.Reading.{tables_of};
+ghost use Rattle.dc_app.specs.Check.{AnswersVerdict, ReportsCheck};
 
-use dc_answer::{Exit, Failure, Outcome, Unloaded, load, load_certificate, report, say};
+use dc_answer::{End, Exit, Outcome, Page, ReadCertificate, ReadTables, Tell, Then, With, run};
 use dc_cert::Certificate;
-use dc_check::laws::no_fault_is_acceptance;
-use dc_check::{CheckFault, check};
-use dc_device::{LineWriter, Sink, Source};
-use dc_print::{Text, print_accepted, print_cert_fault, print_refused, print_table_fault};
+use dc_check::laws::{accepted_certificates_keep_their_claims, no_fault_is_acceptance};
+use dc_check::verdict;
+use dc_device::{Sink, Source};
+use dc_print::{Text, print_accepted, print_refused};
 use dc_tables::Tables;
-use std::alloc::Global;
-use std::sync::Arc;
+use std::alloc::{AllocError, Global};
 
-/// Whether a certificate is accepted for tables, or its first fault.
-fn verdict_for(tables: Arc<Tables>, certificate: Certificate) -> Result<(), CheckFault>
-    ensures claims { IfOk result (λ _. KeepsItsClaims (arc_value tables) (named_rows certificate)) }
-    ensures place { IfErr result (λ fault. IsPlaced (arc_value tables) fault) }
-    ensures exact { MatchResult result (λ _. verdict_of (arc_value tables) (named_rows certificate) ≡ None) (λ fault. verdict_of (arc_value tables) (named_rows certificate) ≡ Some fault) }
+/// Judges a certificate, and prints the verdict.
+fn print_verdict(tables: &Tables, certificate: &Certificate, line: &mut Text) -> Outcome
+    ensures { Says (AnswersVerdict tables.now (named_rows certificate.now)) line.new.items result }
 {
-    match check(tables, certificate) {
-        Ok(_) => Ok(()),
-        Err(fault) => Err(fault),
-    }
-}
-
-/// Judges a certificate, and prints the verdict; or memory was refused.
-fn judge(
-    tables: &Arc<Tables>,
-    certificate: Certificate,
-    line: &mut Text,
-) -> Result<Outcome, Failure>
-    ensures answer { Judges (arc_value tables.now) (Ok (named_rows certificate)) line.new.items result }
-    ensures memory { IfErr result (λ e. e ≡ Failure.Memory) }
-{
-    let Ok(shared) = Arc::try_clone(tables) else {
-        return Err(Failure::Memory);
-    };
+    accepted_certificates_keep_their_claims(tables);
     no_fault_is_acceptance(tables);
-    match verdict_for(shared, certificate) {
+    match verdict(tables, certificate) {
         Ok(()) => {
             print_accepted(line, tables);
-            Ok(Outcome::Done)
+            Outcome::Done
         }
         Err(fault) => {
             print_refused(line, tables, fault);
-            Ok(Outcome::Refused)
+            Outcome::Refused
         }
     }
 }
 
-/// Judges the text of a certificate that a source gives.
-fn judge_source<C: Source>(
-    alloc: Global,
-    tables: &Arc<Tables>,
-    certificate: &mut C,
-    line: &mut Text,
-) -> Result<Outcome, Failure>
-    requires { IsCountable (C.state certificate.old) }
-    ensures answer { IfSome (C.state certificate.old).remaining (λ text. Judges (arc_value tables.now) (certificate_of text) line.new.items result) }
-    ensures source { Raises (C.state certificate.old).failed (C.state certificate.new).failed result }
-    ensures asks { AsksUpTo TEXT_LIMIT (C.state certificate.old) (C.state certificate.new) }
-    ensures sink { IfErr result (λ e. e ≢ Failure.Sink) }
+/// Judges a certificate, and keeps the verdict.
+pub fn judge(tables: &Tables, certificate: &Certificate, page: &mut Page) -> Outcome
+    ensures { Says (AnswersVerdict tables.now (named_rows certificate.now)) page.new result }
 {
-    match load_certificate(alloc, certificate) {
-        Ok(certificate) => judge(tables, certificate, line),
-        Err(Unloaded::Refused(fault)) => {
-            print_cert_fault(line, fault);
-            Ok(Outcome::Unreadable)
-        }
-        Err(Unloaded::Failed(cause)) => Err(cause),
+    let mut line = Text::new();
+    let outcome = print_verdict(tables, certificate, &mut line);
+    page.tell(line);
+    outcome
+}
+
+/// Judges a certificate for tables: the verdict in one line. It ends `Done` where the certificate is accepted, and then
+/// it keeps its claims in every admissible run of the tables; `Refused` where it is refused.
+#[derive(Clone, Copy, Debug)]
+pub struct Check;
+
+impl Tell<(Tables, Certificate)> for Check {
+    ghost answers = { λ _ known. AnswersVerdict known.0 (named_rows known.1) };
+
+    fn tell(
+        &self,
+        _alloc: Global,
+        known: (Tables, Certificate),
+        page: &mut Page,
+    ) -> Result<Outcome, AllocError> {
+        let (tables, certificate) = known;
+        Ok(judge(&tables, &certificate, page))
     }
 }
 
-/// The same, for tables that were read.
-fn judge_for<C: Source>(
-    alloc: Global,
-    tables: Tables,
-    certificate: &mut C,
-    line: &mut Text,
-) -> Result<Outcome, Failure>
-    requires { IsCountable (C.state certificate.old) }
-    ensures answer { IfSome (C.state certificate.old).remaining (λ text. Judges tables (certificate_of text) line.new.items result) }
-    ensures source { Raises (C.state certificate.old).failed (C.state certificate.new).failed result }
-    ensures asks { AsksUpTo TEXT_LIMIT (C.state certificate.old) (C.state certificate.new) }
-    ensures sink { IfErr result (λ e. e ≢ Failure.Sink) }
-{
-    match Arc::new(alloc, tables) {
-        Ok(tables) => judge_source(alloc, &tables, certificate, line),
-        Err(_) => Err(Failure::Memory),
-    }
-}
-
-/// Judges the texts of tables and of a certificate, the tables' first.
-fn judge_sources<T: Source, C: Source>(
-    alloc: Global,
-    tables: &mut T,
-    certificate: &mut C,
-    line: &mut Text,
-) -> Result<Outcome, Failure>
-    requires tables { IsCountable (T.state tables.old) }
-    requires certificate { IsCountable (C.state certificate.old) }
-    ensures answer { (rows text : List ℕ) → (T.state tables.old).remaining ≡ Some rows → (C.state certificate.old).remaining ≡ Some text
-        → JudgesTexts rows text line.new.items result }
-    ensures source { Raises ((T.state tables.old).failed + (C.state certificate.old).failed) ((T.state tables.new).failed + (C.state certificate.new).failed) result }
-    ensures asks_tables { AsksUpTo TEXT_LIMIT (T.state tables.old) (T.state tables.new) }
-    ensures asks_certificate { AsksUpTo TEXT_LIMIT (C.state certificate.old) (C.state certificate.new) }
-    ensures order { IfSome (T.state tables.old).remaining (λ rows. OnlyBehind (tables_of rows) (certificate.new ≡ certificate.old)) }
-    ensures sink { IfErr result (λ e. e ≢ Failure.Sink) }
-{
-    match load(alloc, tables) {
-        Ok(tables) => judge_for(alloc, tables, certificate, line),
-        Err(Unloaded::Refused(fault)) => {
-            print_table_fault(line, fault);
-            Ok(Outcome::Unreadable)
-        }
-        Err(Unloaded::Failed(failure)) => Err(failure),
-    }
-}
+/// The engine of `check`.
+pub const CHECK: ReadTables<ReadCertificate<Then<Check>>> = ReadTables(ReadCertificate(Then(
+    Check,
+)));
 
 /// Judges a certificate for tables, both read whole from their sources, the tables first, and writes the verdict as one
 /// line onto a sink.
@@ -160,9 +101,12 @@ pub fn run_check<T: Source, C: Source, K: Sink>(
     ensures quiet { result ≢ Exit.Failed → (T.state tables.new).failed + (C.state certificate.new).failed + (K.state sink.new).failed
         ≡ (T.state tables.old).failed + (C.state certificate.old).failed + (K.state sink.old).failed }
 {
-    let mut line = Text::new();
-    let judged = judge_sources(alloc, tables, certificate, &mut line);
-    let mut writer = LineWriter::new();
-    let ended = say(judged, line.as_slice(), &mut writer, sink);
-    report(ended, &mut writer, sink)
+    let mut given = With {
+        first: tables,
+        rest: With {
+            first: certificate,
+            rest: End,
+        },
+    };
+    run(&(), alloc, &CHECK, &mut given, sink)
 }

@@ -1,24 +1,25 @@
 //! `find`: the least certificate, or what stands in the way of one, in one line.
-ghost use Rattle.std.specs.Prelude.{◌≡◌, ◌≢◌, ℕ, List, ◌++◌, ◌+◌, ◌<◌, ◌≤◌, codes, length, IfErr, IfOk, IfSome, Some};
+ghost use Rattle.std.specs.Prelude.{◌≡◌, ◌≢◌, ℕ, List, ◌++◌, ◌+◌, ◌-◌, ◌<◌, ◌≤◌, codes, length, take, IfErr, IfOk, Some};
 ghost use Rattle.std.specs.Vec.{vec_len};
+ghost use Rattle.dc_answer.specs.Answer.{Any, LeavesSink, Reported};
+ghost use Rattle.dc_answer.specs.Judging.{Keeps};
 ghost use Rattle.dc_cert.specs.NamedRows.{named_rows};
+ghost use Rattle.dc_device.specs.States.{AsksUpTo, CanFail, IsCountable};
 ghost use Rattle.dc_find.specs.Ways.{IsFirstInTheWay};
 ghost use Rattle.dc_parts.specs.FaultText.{table_fault_text};
 ghost use Rattle.dc_parts.specs.declared.limits.TheConstants.{TEXT_LIMIT};
-ghost use Rattle.dc_answer.specs.Answer.{Any, LeavesSink, Raises, Reported};
-ghost use Rattle.dc_app.specs.Find.{JudgesRows, JudgesTables, ReportsFind, Tells, obstacle_text};
-ghost use Rattle.dc_device.specs.States.{AsksUpTo, CanFail, IsCountable};
+ghost use Rattle.dc_app.specs.Find.{AnswersRows, ReportsFind, Tells, obstacle_text};
 
 use crate::obstacles::print_obstacle;
-use dc_answer::{Exit, Failure, Outcome, Unloaded, load, report, say};
+use dc_answer::{End, Exit, Failure, Outcome, Page, ReadTables, Tell, Then, With, run};
 use dc_cert::{Certificate, cert_text};
 use dc_check::laws::accepted_certificates_keep_their_claims;
-use dc_device::{LineWriter, Sink, Source};
+use dc_device::{Sink, Source};
 use dc_find::FindFault;
 use dc_parts::TableFault;
 use dc_print::{Text, print_table_fault};
 use dc_tables::Tables;
-use std::alloc::Global;
+use std::alloc::{AllocError, Global};
 
 /// Keeps a text for an outcome.
 ///
@@ -33,26 +34,6 @@ pub fn keep(bytes: &[u8], outcome: Outcome, line: &mut Vec<u8>) -> Result<Outcom
     line.clear();
     match line.extend_from_slice(bytes) {
         Ok(()) => Ok(outcome),
-        Err(_) => Err(Failure::Memory),
-    }
-}
-
-/// Keeps the text of a certificate.
-fn keep_certificate(
-    alloc: Global,
-    certificate: &Certificate,
-    line: &mut Vec<u8>,
-) -> Result<Outcome, Failure>
-    ensures kept { IfOk result (λ _. Tells (named_rows certificate.now) line.new.items) }
-    ensures outcome { IfOk result (λ o. o ≡ Outcome.Done) }
-    ensures memory { IfErr result (λ e. e ≡ Failure.Memory) }
-{
-    match cert_text(alloc, certificate) {
-        Ok(text) => {
-            let kept = keep(text.as_bytes(), Outcome::Done, line);
-            let _ = line.pop();
-            kept
-        }
         Err(_) => Err(Failure::Memory),
     }
 }
@@ -94,36 +75,81 @@ pub fn keep_unreadable(fault: TableFault, line: &mut Vec<u8>) -> Result<Outcome,
     keep(text.as_slice(), Outcome::Unreadable, line)
 }
 
-/// Finds the least certificate for tables, and keeps the line.
-fn judge(alloc: Global, tables: &Tables, line: &mut Vec<u8>) -> Result<Outcome, Failure>
-    ensures answer { JudgesRows tables.now line.new.items result }
-    ensures memory { IfErr result (λ e. e ≡ Failure.Memory) }
+/// Keeps the line of a text that ends in a line feed.
+fn keep_line(text: &[u8], page: &mut Page) -> Result<Outcome, AllocError>
+    ensures kept { IfOk result (λ _. page.new ≡ take (length text.now - 1) text.now) }
+    ensures outcome { IfOk result (λ o. o ≡ Outcome.Done) }
 {
-    accepted_certificates_keep_their_claims(tables);
-    match dc_find::find(alloc, tables) {
-        Ok(certificate) => keep_certificate(alloc, &certificate, line),
-        Err(fault) => keep_obstacle(tables, fault, line),
+    let (line, _) = text.split_at(text.len().saturating_sub(1));
+    page.keep(line)?;
+    Ok(Outcome::Done)
+}
+
+/// Keeps the text of a certificate.
+fn keep_certificate(
+    alloc: Global,
+    certificate: &Certificate,
+    page: &mut Page,
+) -> Result<Outcome, AllocError>
+    ensures kept { IfOk result (λ _. Tells (named_rows certificate.now) page.new) }
+    ensures outcome { IfOk result (λ o. o ≡ Outcome.Done) }
+{
+    match cert_text(alloc, certificate) {
+        Ok(text) => keep_line(text.as_bytes(), page),
+        Err(e) => Err(e),
     }
 }
 
-/// Finds the least certificate for the tables that a source gives.
-fn judge_source<T: Source>(
-    alloc: Global,
-    tables: &mut T,
-    line: &mut Vec<u8>,
-) -> Result<Outcome, Failure>
-    requires { IsCountable (T.state tables.old) }
-    ensures answer { (rows : List ℕ) → (T.state tables.old).remaining ≡ Some rows → JudgesTables rows line.new.items result }
-    ensures source { Raises (T.state tables.old).failed (T.state tables.new).failed result }
-    ensures asks { AsksUpTo TEXT_LIMIT (T.state tables.old) (T.state tables.new) }
-    ensures sink { IfErr result (λ e. e ≢ Failure.Sink) }
+/// Tells the line of what stands in the way, for `Refused`.
+///
+/// # Errors
+/// `AllocError` where memory was refused before.
+pub fn tell_obstacle(
+    tables: &Tables,
+    fault: FindFault,
+    page: &mut Page,
+) -> Result<Outcome, AllocError>
+    requires { fault ≢ FindFault.Memory → IsFirstInTheWay tables.now fault }
+    ensures kept { IfOk result (λ _. page.new ≡ obstacle_text tables.now fault) }
+    ensures outcome { IfOk result (λ o. o ≡ Outcome.Refused) }
+    ensures fault { IfOk result (λ _. fault ≢ FindFault.Memory) }
 {
-    match load(alloc, tables) {
-        Ok(tables) => judge(alloc, &tables, line),
-        Err(Unloaded::Refused(fault)) => keep_unreadable(fault, line),
-        Err(Unloaded::Failed(failure)) => Err(failure),
+    if fault.obstacle().is_none() {
+        return Err(AllocError);
+    }
+    let mut line = Text::new();
+    print_obstacle(&mut line, tables, fault);
+    page.tell(line);
+    Ok(Outcome::Refused)
+}
+
+/// Finds the least certificate for tables, and keeps the line.
+fn find_for(alloc: Global, tables: &Tables, page: &mut Page) -> Result<Outcome, AllocError>
+    ensures { Keeps (AnswersRows tables.now) page.new result }
+{
+    accepted_certificates_keep_their_claims(tables);
+    match dc_find::find(alloc, tables) {
+        Ok(certificate) => keep_certificate(alloc, &certificate, page),
+        Err(fault) => tell_obstacle(tables, fault, page),
     }
 }
+
+/// Finds the least certificate for tables: its text; where none is accepted, one line that says what stands first in the
+/// way of every certificate. It ends `Done` where a certificate was found, and then it keeps its claims in every
+/// admissible run of the tables; `Refused` where none is accepted.
+#[derive(Clone, Copy, Debug)]
+pub struct Find;
+
+impl Tell<Tables> for Find {
+    ghost answers = { λ _. AnswersRows };
+
+    fn tell(&self, alloc: Global, tables: Tables, page: &mut Page) -> Result<Outcome, AllocError> {
+        find_for(alloc, &tables, page)
+    }
+}
+
+/// The engine of `find`.
+pub const FIND: ReadTables<Then<Find>> = ReadTables(Then(Find));
 
 /// Finds the least certificate for tables that are read whole from their source, and writes its text onto a sink; where
 /// none is accepted, one line that says what stands first in the way of every certificate.
@@ -145,9 +171,9 @@ pub fn run_find<T: Source, K: Sink>(alloc: Global, tables: &mut T, sink: &mut K)
     ensures left { LeavesSink (K.state sink.old).failed (K.state sink.new).failed (K.state sink.new).last_failed (K.state sink.new).hidden }
     ensures quiet { result ≢ Exit.Failed → (T.state tables.new).failed + (K.state sink.new).failed ≡ (T.state tables.old).failed + (K.state sink.old).failed }
 {
-    let mut line = Vec::new(alloc);
-    let judged = judge_source(alloc, tables, &mut line);
-    let mut writer = LineWriter::new();
-    let ended = say(judged, line.as_slice(), &mut writer, sink);
-    report(ended, &mut writer, sink)
+    let mut given = With {
+        first: tables,
+        rest: End,
+    };
+    run(&(), alloc, &FIND, &mut given, sink)
 }

@@ -1,22 +1,24 @@
 //! `check --workers`: the verdict on a certificate by several workers, in one line.
-ghost use Rattle.std.specs.Prelude.{◌≡◌, ◌≢◌, ◌⊎◌, ℕ, List, [], ◌+◌, ◌<◌, ◌≤◌, IfErr, IfOk, IfSome, MatchResult, None, Some, Ok};
+ghost use Rattle.std.specs.Prelude.{◌≡◌, ◌≢◌, ◌⊎◌, ℕ, List, [], ◌+◌, ◌<◌, ◌≤◌, IfErr, IfOk, IfSome, MatchResult, None, Some};
 ghost use Rattle.std.specs.Arc.{arc_value};
-ghost use Rattle.dc_toml.specs.Reading.{tables_of};
+ghost use Rattle.std.specs.Thread.{IsSync};
+ghost use Rattle.dc_answer.specs.Answer.{Any, LeavesSink, Reported};
+ghost use Rattle.dc_answer.specs.Inputs.{OnlyBehind};
+ghost use Rattle.dc_answer.specs.Judging.{Keeps};
+ghost use Rattle.dc_answer.specs.Threads.{ReportsThreads};
 ghost use Rattle.dc_cert.specs.NamedRows.{named_rows};
-ghost use Rattle.dc_cert.specs.Reading.{certificate_of};
 ghost use Rattle.dc_check.specs.Certified.{KeepsItsClaims};
 ghost use Rattle.dc_check.specs.Verdict.{verdict_of};
 ghost use Rattle.dc_checkpar.specs.Faults.{IsOfVerdict};
 ghost use Rattle.dc_checkpar.specs.declared.limits.TheConstants.{MOST_WORKERS};
-ghost use Rattle.dc_parts.specs.declared.limits.TheConstants.{TEXT_LIMIT};
-ghost use Rattle.dc_answer.specs.Answer.{Any, LeavesSink, Raises, Reported};
-ghost use Rattle.dc_app.specs.Check.{AnswersVerdict, Judges, ReportsCheck};
-ghost use Rattle.dc_answer.specs.Inputs.{OnlyBehind};
-ghost use Rattle.dc_app.specs.Threads.{ReportsThreads};
 ghost use Rattle.dc_device.specs.States.{AsksUpTo, CanFail, IsCountable};
+ghost use Rattle.dc_parts.specs.declared.limits.TheConstants.{TEXT_LIMIT};
+ghost use Rattle.dc_toml.specs.Reading.{tables_of};
+ghost use Rattle.dc_app.specs.Check.{AnswersVerdict, ReportsCheck};
 
-use crate::threads::{Judge, NoThread, run_in_threads};
-use dc_answer::{Exit, Failure, Outcome};
+use dc_answer::{
+    End, Exit, Judge, Outcome, Page, ReadCertificate, ReadTables, Unjudged, With, run,
+};
 use dc_cert::Certificate;
 use dc_check::laws::no_fault_is_acceptance;
 use dc_checkpar::{Open, ParFault, check_par};
@@ -47,7 +49,7 @@ fn verdict_by<R: Threads + Wait + Sync>(
     }
 }
 
-/// Judges a certificate by so many workers, and prints the verdict; or memory was refused.
+/// Judges a certificate by so many workers, and prints the verdict.
 fn judge_by<R: Threads + Wait + Sync>(
     rt: &R,
     alloc: Global,
@@ -55,51 +57,104 @@ fn judge_by<R: Threads + Wait + Sync>(
     tables: &Arc<Tables>,
     certificate: Certificate,
     line: &mut Text,
-) -> Result<Result<Outcome, Failure>, NoThread>
+) -> Result<Outcome, Unjudged>
     requires { (1 ≤ workers) × (workers ≤ MOST_WORKERS) }
-    ensures answer { IfOk result (Judges (arc_value tables.now) (Ok (named_rows certificate)) line.new.items) }
-    ensures memory { IfOk result (λ judged. IfErr judged (λ e. e ≡ Failure.Memory)) }
+    ensures answer { Keeps (AnswersVerdict (arc_value tables.now) (named_rows certificate)) line.new.items result }
+    ensures cause { IfErr result (λ e. e ≢ Unjudged.Device) }
 {
     let Ok(shared) = Arc::try_clone(tables) else {
-        return Ok(Err(Failure::Memory));
+        return Err(Unjudged::Memory);
     };
     no_fault_is_acceptance(tables);
     match verdict_by(rt, alloc, workers, shared, certificate) {
         Ok(()) => {
             print_accepted(line, tables);
-            Ok(Ok(Outcome::Done))
+            Ok(Outcome::Done)
         }
         Err(ParFault::Refused(fault)) => {
             print_refused(line, tables, fault);
-            Ok(Ok(Outcome::Refused))
+            Ok(Outcome::Refused)
         }
-        Err(ParFault::Memory) => Ok(Err(Failure::Memory)),
-        Err(ParFault::Spawn) => Err(NoThread),
+        Err(ParFault::Memory) => Err(Unjudged::Memory),
+        Err(ParFault::Spawn) => Err(Unjudged::Threads),
         Err(ParFault::GateStuck) => unreachable!(),
+    }
+}
+
+/// The same, kept on a page.
+fn keep_by<R: Threads + Wait + Sync>(
+    rt: &R,
+    alloc: Global,
+    workers: u8,
+    tables: &Arc<Tables>,
+    certificate: Certificate,
+    page: &mut Page,
+) -> Result<Outcome, Unjudged>
+    requires { (1 ≤ workers) × (workers ≤ MOST_WORKERS) }
+    ensures answer { Keeps (AnswersVerdict (arc_value tables.now) (named_rows certificate)) page.new result }
+    ensures cause { IfErr result (λ e. e ≢ Unjudged.Device) }
+{
+    let mut line = Text::new();
+    let judged = judge_by(rt, alloc, workers, tables, certificate, &mut line);
+    page.tell(line);
+    judged
+}
+
+/// The same, for tables that are to be shared.
+fn share_and_judge<R: Threads + Wait + Sync>(
+    rt: &R,
+    alloc: Global,
+    workers: u8,
+    tables: Tables,
+    certificate: Certificate,
+    page: &mut Page,
+) -> Result<Outcome, Unjudged>
+    requires { (1 ≤ workers) × (workers ≤ MOST_WORKERS) }
+    ensures answer { Keeps (AnswersVerdict tables (named_rows certificate)) page.new result }
+    ensures cause { IfErr result (λ e. e ≢ Unjudged.Device) }
+{
+    match Arc::new(alloc, tables) {
+        Ok(tables) => keep_by(rt, alloc, workers, &tables, certificate, page),
+        Err(_) => Err(Unjudged::Memory),
     }
 }
 
 /// The workers that judge, 1 to the most workers.
 #[derive(Clone, Copy, Debug, PartialEq, Eq)]
-struct Workers {
-    count: u8,
+pub struct Workers {
+    /// How many.
+    pub count: u8,
 }
 
-impl Judge for Workers {
-    ghost may_judge = { λ w. (1 ≤ w.count) × (w.count ≤ MOST_WORKERS) };
+impl<R: Threads + Wait + Sync> Judge<R, (Tables, Certificate), End> for Workers {
+    ghost may_judge = { λ w. (1 ≤ w.count) × (w.count ≤ MOST_WORKERS) × IsSync R.row };
 
-    ghost answers = { λ _. AnswersVerdict };
+    ghost starts_threads = { λ w. Unit {0} };
 
-    fn judge<R: Threads + Wait + Sync>(
+    ghost limits = { λ w. [] };
+
+    ghost goes_on = { λ w known texts. Unit {0} };
+
+    ghost answers = { λ w known texts answer. AnswersVerdict known.0 (named_rows known.1) answer };
+
+    fn judge(
         &self,
         rt: &R,
         alloc: Global,
-        tables: &Arc<Tables>,
-        certificate: Certificate,
-        text: &mut Text,
-    ) -> Result<Result<Outcome, Failure>, NoThread> {
-        judge_by(rt, alloc, self.count, tables, certificate, text)
+        known: (Tables, Certificate),
+        _given: &mut End,
+        page: &mut Page,
+    ) -> Result<Outcome, Unjudged> {
+        let (tables, certificate) = known;
+        share_and_judge(rt, alloc, self.count, tables, certificate, page)
     }
+}
+
+/// The engine of `check --workers`.
+pub fn workers_engine(count: u8) -> ReadTables<ReadCertificate<Workers>>
+    ensures { result.0.0.count ≡ count }
+{
+    ReadTables(ReadCertificate(Workers { count }))
 }
 
 /// Judges a certificate for tables by so many workers, 1 to [`MOST_WORKERS`](dc_checkpar::MOST_WORKERS), as
@@ -144,6 +199,13 @@ pub fn run_check_par<T: Source, C: Source, K: Sink, R: Threads + Wait + Sync>(
     ensures quiet { result ≢ Exit.Failed → (T.state tables.new).failed + (C.state certificate.new).failed + (K.state sink.new).failed
         ≡ (T.state tables.old).failed + (C.state certificate.old).failed + (K.state sink.old).failed }
 {
-    let workers = Workers { count: workers };
-    run_in_threads(rt, alloc, &workers, tables, certificate, sink)
+    let mut given = With {
+        first: tables,
+        rest: With {
+            first: certificate,
+            rest: End,
+        },
+    };
+    let engine = workers_engine(workers);
+    run(rt, alloc, &engine, &mut given, sink)
 }

@@ -7,7 +7,7 @@ ghost use Rattle.dc_answer.specs.Exits.{is_answered};
 ghost use Rattle.dc_answer.specs.Inputs.{OnlyBehind};
 ghost use Rattle.dc_answer.specs.Judging.{Judged};
 ghost use Rattle.dc_app.specs.Texts.{AnswersClaims, AnswersTexts};
-ghost use Rattle.dc_app.specs.Threads.{ReportsThreads};
+ghost use Rattle.dc_answer.specs.Threads.{ReportsThreads};
 ghost use Rattle.dc_cert.specs.NamedRows.{NamedRows, named_rows};
 ghost use Rattle.dc_cert.specs.Reading.{certificate_of};
 ghost use Rattle.dc_tables.specs.TableRows.{TableRows};

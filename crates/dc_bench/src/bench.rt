@@ -4,7 +4,7 @@ ghost use Rattle.std.specs.Arc.{arc_value};
 ghost use Rattle.dc_answer.specs.Answer.{Any, LeavesSink, Reported};
 ghost use Rattle.dc_answer.specs.Inputs.{OnlyBehind};
 ghost use Rattle.dc_answer.specs.Judging.{Judged};
-ghost use Rattle.dc_app.specs.Threads.{ReportsThreads};
+ghost use Rattle.dc_answer.specs.Threads.{ReportsThreads};
 ghost use Rattle.dc_bench.specs.Bench.{AnswersCertificate, ReportsBench};
 ghost use Rattle.dc_cert.specs.NamedRows.{named_rows};
 ghost use Rattle.dc_toml.specs.Reading.{tables_of};

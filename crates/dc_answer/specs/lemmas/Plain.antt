@@ -1,7 +1,12 @@
--- What the report of an engine that starts no thread says of its one, two or three sources.
-use Rattle.std.proofs.Common.{◌≡◌, ℕ, ◌+◌, List, [], ◌∷◌, ap, subst, add-zero, Bool, true, false, Option, Some, None, IfSome, inl, inr, ◌⊎◌}
-use Rattle.dc_answer.specs.Answer.{Answer, Reported, WholeOrNone}
+-- What the report of an engine says of its one, two or three sources.
+use Rattle.std.proofs.Common.{◌≡◌, ℕ, ◌+◌, List, [], ◌∷◌, ap, refl, subst, add-zero, Bool, true, false, Option, Some, None, IfSome, inl, inr, ◌⊎◌}
+use Rattle.dc_answer.specs.Answer.{Answer, Any, Reported, WholeOrNone}
+use Rattle.dc_answer.specs.Inputs.{OnlyBehind}
+use Rattle.dc_answer.specs.Threads.{ReportsThreads}
 use Rattle.dc_answer.specs.declared.exit.Exit.{Exit}
+use Rattle.dc_tables.specs.TableRows.{TableRows}
+use Rattle.dc_toml.specs.Reading.{tables_of}
+use Rattle.dc_build.specs.Reported.{AreTablesOf}
 
 -- no thread could have been missing
 pub plain : {P X : Type 0} → P ⊎ (⊥ × X) → P
@@ -31,3 +36,28 @@ pub whole_as : (Is Such : Answer → Type 0) (b : Bool) → ((answer : Answer) �
 whole_as Is Such true f answer is = f answer is
 whole_as Is Such false f answer (inl is) = inl (f answer is)
 whole_as Is Such false f answer (inr none) = inr none
+
+-- ---- where it may be that no thread could be started
+
+-- its failures of two sources, without a trailing zero
+pub threads_two : (old new : Option (List ℕ)) (k k' : ℕ) (exit : Exit) (a a' b b' : ℕ) → ReportsThreads old new (a + (b + 0)) (a' + (b' + 0)) k k' exit → ReportsThreads old new (a + b) (a' + b') k k' exit
+threads_two old new k k' exit a a' b b' r =
+    subst (λ n. ReportsThreads old new (a + n) (a' + b') k k' exit) (add-zero b) (subst (λ n. ReportsThreads old new (a + (b + 0)) (a' + n) k k' exit) (add-zero b') r)
+
+-- some answer of two sources, or that
+pub any_or : (old new : Option (List ℕ)) (a a' b b' k k' : ℕ) (exit : Exit)
+    → Reported Any old new (a + (b + 0)) (a' + (b' + 0)) k k' exit ⊎ (Unit {0} × ReportsThreads old new (a + (b + 0)) (a' + (b' + 0)) k k' exit)
+    → Reported Any old new (a + b) (a' + b') k k' exit ⊎ ReportsThreads old new (a + b) (a' + b') k k' exit
+any_or old new a a' b b' k k' exit (inl r) = inl (of_two Any old new k k' exit a a' b b' r)
+any_or old new a a' b b' k k' exit (inr h) = inr (threads_two old new k k' exit a a' b b' h.1)
+
+-- ---- what is asked for
+
+-- the second source only where the first text is that of tables
+pub order_one : {Y : Type 0} (r : Option (List ℕ)) (untouched : Type 0) → ((rows : List ℕ) → r ≡ Some rows → ((t : TableRows) × AreTablesOf (tables_of rows) t × Unit {0}) ⊎ (untouched × Y))
+    → IfSome r (λ rows. OnlyBehind (tables_of rows) untouched)
+order_one None untouched f = tt
+order_one (Some rows) untouched f = by (f rows refl) where
+  by : {Y : Type 0} → ((t : TableRows) × AreTablesOf (tables_of rows) t × Unit {0}) ⊎ (untouched × Y) → OnlyBehind (tables_of rows) untouched
+  by (inl (t, at, x)) = inl (t, at)
+  by (inr (u, y)) = inr u

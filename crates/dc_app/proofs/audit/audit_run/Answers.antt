@@ -1,5 +1,5 @@
-use Rattle.dc_app.proofs.Auditing.{found_judged}
+use Rattle.dc_app.proofs.Auditing.{found_said}
 use Rattle.dc_app.proofs.audit.audit_run.Goals as goal
 
-pub returns-in-Ok-clause-answer : goal.returns-in-Ok-clause-answer
-returns-in-Ok-clause-answer c = λ n. found_judged _ _ _ c.in-Ok.found _ _ (c.in-Ok.ensures n) c.print_findings.ensures c.outcome.ensures
+pub returns-in-Ok : goal.returns-in-Ok
+returns-in-Ok c = found_said _ _ _ c.in-Ok.found _ _ _ (rw c.as_slice.ensures.value at c.in-Ok.ensures) c.print_findings.ensures c.tell.ensures c.outcome.ensures

@@ -4,5 +4,4 @@ use Rattle.dc_app.proofs.Finding.{text_kept}
 use Rattle.dc_app.proofs.find.keep_certificate.Goals as goal
 
 pub returns-in-Ok-clause-kept : goal.returns-in-Ok-clause-kept
-returns-in-Ok-clause-kept c =
-    text_kept (named_rows c.args.certificate.now) _ _ _ _ c.keep-kept.result (c.as_bytes.ensures.value ∙ c.in-Ok.ensures.text) c.keep-kept.ensures.kept c.keep-kept.ensures.len c.pop.ensures.rest
+returns-in-Ok-clause-kept c = text_kept (named_rows c.args.certificate.now) _ _ c.keep_line.result (c.as_bytes.ensures.value ∙ c.in-Ok.ensures.text) c.keep_line.ensures.kept
