@@ -26,10 +26,10 @@ module _ (f : MarginLine → List ℕ) where
       ap (λ l. l ++ fed (map f ys)) is ∙ append_assoc old (fed (map f xs)) (fed (map f ys))
       ∙ ap (λ l. old ++ l) (sym (fed-append (map f xs) (map f ys)) ∙ ap fed (sym (map-append f xs ys)))
 
-  -- the lines of one part more
-  pub part-more : (lines : ℕ → List MarginLine) (n : ℕ) (old text next : List ℕ) (ls : List MarginLine) → text ≡ old ++ fed (map f (lines_below lines n)) → ls ≡ lines n → next ≡ text ++ fed (map f ls) →
+  -- the lines of one job more
+  pub job-more : (lines : ℕ → List MarginLine) (n : ℕ) (old text next : List ℕ) (ls : List MarginLine) → text ≡ old ++ fed (map f (lines_below lines n)) → ls ≡ lines n → next ≡ text ++ fed (map f ls) →
       next ≡ old ++ fed (map f (lines_below lines (n + 1)))
-  part-more lines n old text next ls is here step =
+  job-more lines n old text next ls is here step =
       step ∙ ap (λ l. text ++ fed (map f l)) here ∙ fed-more old text (lines_below lines n) (lines n) is
       ∙ ap (λ l. old ++ fed (map f l)) (sym (below-suc lines n) ∙ ap (lines_below lines) (sym (add-one n)))
 

@@ -14,7 +14,7 @@ use Rattle.dc_cert.specs.Bounds.{numbers_of}
 use Rattle.dc_cert.specs.NamedRows.{NamedRows}
 use Rattle.dc_check.specs.lemmas.Exact.{verdict-accepts}
 use Rattle.dc_find.specs.Least.{IsLeastAccepted, NoneAccepted}
-use Rattle.dc_find.specs.Reached.{IsReached, parts_reached}
+use Rattle.dc_find.specs.Reached.{IsReached, jobs_reached}
 use Rattle.dc_find.specs.Ways.{IsFirstInTheWay}
 use Rattle.dc_find.specs.declared.fault.FindFault.{FindFault}
 use Rattle.dc_parts.specs.FaultText.{table_fault_text}
@@ -34,11 +34,11 @@ found_judged t claims text result least judged =
     (λ answer is. inl (record { claims = claims; least = least; accepted = (verdict-accepts t claims).1 least.accepted; told = is })) judged
 
 -- none is accepted: the line, and those of the margins of what was reached
-pub obstacle_judged : (t : TableRows) (fault : FindFault) (claims : NamedRows) (parts : ℕ) (old text : List ℕ) (outcome : Outcome) → NoneAccepted t → IsFirstInTheWay t fault
-    → parts ≡ parts_reached t fault → IsReached t parts claims → old ≡ obstacle_text t fault → text ≡ old ++ fed (lines_of_first parts t (numbers_of claims)) → outcome ≡ WasRefused
+pub obstacle_judged : (t : TableRows) (fault : FindFault) (claims : NamedRows) (jobs : ℕ) (old text : List ℕ) (outcome : Outcome) → NoneAccepted t → IsFirstInTheWay t fault
+    → jobs ≡ jobs_reached t fault → IsReached t jobs claims → old ≡ obstacle_text t fault → text ≡ old ++ fed (lines_of_first jobs t (numbers_of claims)) → outcome ≡ WasRefused
     → Judged (AnswersReached t) text (Ok outcome)
-obstacle_judged t fault claims parts old text outcome none first count reached line lines is = (
-  record { lines = obstacle_text t fault ∷ lines_of_first (parts_reached t fault) t (numbers_of claims); outcome = WasRefused },
+obstacle_judged t fault claims jobs old text outcome none first count reached line lines is = (
+  record { lines = obstacle_text t fault ∷ lines_of_first (jobs_reached t fault) t (numbers_of claims); outcome = WasRefused },
   record {
     line = one_line (obstacle_text t fault) WasRefused;
     obstacle = record { fault = fault; none = none; first = first; said = refl };
@@ -46,8 +46,8 @@ obstacle_judged t fault claims parts old text outcome none first count reached l
     reached = subst (λ n. IsReached t n claims) count reached;
     told = refl;
   },
-  ap (λ l. l ++ 10 ∷ []) (lines ∙ ap (λ l. l ++ fed (lines_of_first parts t (numbers_of claims))) line ∙ ap (λ n. obstacle_text t fault ++ fed (lines_of_first n t (numbers_of claims))) count)
-      ∙ fed-spelled (obstacle_text t fault) (lines_of_first (parts_reached t fault) t (numbers_of claims)),
+  ap (λ l. l ++ 10 ∷ []) (lines ∙ ap (λ l. l ++ fed (lines_of_first jobs t (numbers_of claims))) line ∙ ap (λ n. obstacle_text t fault ++ fed (lines_of_first n t (numbers_of claims))) count)
+      ∙ fed-spelled (obstacle_text t fault) (lines_of_first (jobs_reached t fault) t (numbers_of claims)),
   is,
 )
 

@@ -15,11 +15,11 @@ use Rattle.dc_margin.specs.declared.margin.Margin.{Margin}
 use Rattle.dc_print.specs.Verdicts.{member_name}
 use Rattle.dc_tables.specs.TableRows.{TableRows}
 
--- a part, in seven places
-abbrev pub part_text : CertificateList → List ℕ
-part_text Inputs = codes "input  "
-part_text Outputs = codes "output "
-part_text Labels = codes "label  "
+-- what a member of a list is called, in seven places
+abbrev pub member_field : CertificateList → List ℕ
+member_field Inputs = codes "input  "
+member_field Outputs = codes "output "
+member_field Labels = codes "label  "
 
 -- a name, with blanks after it up to sixteen places
 abbrev pub name_field : List ℕ → List ℕ
@@ -59,5 +59,5 @@ by_text t (Some margin) = decider_text t margin.decider
 -- as `input  A                C04       0 words window=1`
 unfoldable pub margin_text : TableRows → MarginLine → List ℕ
 margin_text t line =
-    part_text line.part ++ name_field (member_name t line.part line.index) ++ codes " " ++ condition_code line.condition ++ codes " " ++ number_field (slack_text line.margin)
+    member_field line.list ++ name_field (member_name t line.list line.index) ++ codes " " ++ condition_code line.condition ++ codes " " ++ number_field (slack_text line.margin)
     ++ codes " " ++ measure_text (measure_of line.condition) ++ codes " " ++ by_text t line.margin

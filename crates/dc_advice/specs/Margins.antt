@@ -15,8 +15,8 @@ use Rattle.dc_cert.specs.Reading.{Reading, certificate_of}
 use Rattle.dc_check.specs.Verdict.{misnaming, verdict_of}
 use Rattle.dc_check.specs.declared.fault.CheckFault.{CheckFault}
 use Rattle.dc_find.specs.Least.{IsLeastAccepted}
-use Rattle.dc_find.specs.Reached.{IsReached, parts_reached}
-use Rattle.dc_margin.specs.Lines.{lines_below, margin_lines_of, part_lines_of}
+use Rattle.dc_find.specs.Reached.{IsReached, jobs_reached}
+use Rattle.dc_margin.specs.Lines.{lines_below, margin_lines_of, job_lines_of}
 use Rattle.dc_parts.specs.FaultText.{table_fault_text}
 use Rattle.dc_parts.specs.declared.fault.BuildError.{BuildError}
 use Rattle.dc_parts.specs.declared.fault.BuildError.TheVariants.{Refused, Memory as NoMemory}
@@ -81,18 +81,18 @@ pub record AnswersLeast (t : TableRows) (answer : Answer) : Type 0 where
   pub accepted : verdict_of t claims ≡ None
   pub told : answer ≡ answer_margins t claims
 
--- the lines of the margins of the first parts, the inputs, the outputs and the labels in one row
+-- the lines of the margins of the first jobs, the inputs, the outputs and the labels in one row
 abbrev pub lines_of_first : ℕ → TableRows → CertificateRows → List (List ℕ)
-lines_of_first parts t c = map (margin_text t) (lines_below (part_lines_of t c) parts)
+lines_of_first jobs t c = map (margin_text t) (lines_below (job_lines_of t c) jobs)
 
 -- to tables for which none is accepted: what `find` answers, the line of what stands first in the way of one, and then the
--- lines of the margins of the parts that are reached, with their least numbers
+-- lines of the margins of the jobs that are reached, with their least numbers
 pub record AnswersReached (t : TableRows) (answer : Answer) : Type 0 where
   pub line : Answer
   pub obstacle : AnswersObstacle t line
   pub claims : NamedRows
-  pub reached : IsReached t (parts_reached t obstacle.fault) claims
-  pub told : answer ≡ record { lines = line.lines ++ lines_of_first (parts_reached t obstacle.fault) t (numbers_of claims); outcome = line.outcome }
+  pub reached : IsReached t (jobs_reached t obstacle.fault) claims
+  pub told : answer ≡ record { lines = line.lines ++ lines_of_first (jobs_reached t obstacle.fault) t (numbers_of claims); outcome = line.outcome }
 
 -- one or the other
 abbrev pub AnswersRows : TableRows → Answer → Type 0

@@ -17,29 +17,29 @@ use dc_app::{keep_obstacle, keep_unreadable};
 use dc_cert::Certificate;
 use dc_device::{LineWriter, Sink, Source};
 use dc_find::{FindFault, find, reach};
-use dc_margin::part_lines;
+use dc_margin::job_lines;
 use dc_tables::Tables;
 use std::alloc::{AllocError, Global};
 
-/// Puts the lines of the margins of the first parts at the end, each after a line feed.
+/// Puts the lines of the margins of the first jobs at the end, each after a line feed.
 fn append_first(
     tables: &Tables,
     certificate: &Certificate,
-    parts: usize,
+    jobs: usize,
     text: &mut Vec<u8>,
 ) -> Result<(), AllocError>
     requires sized { IsSized tables.now (certificate_rows certificate.now) }
-    requires few { parts ≤ job_count tables.now }
-    ensures { IfOk result (λ _. text.new.items ≡ text.old.items ++ fed (lines_of_first parts tables.now (certificate_rows certificate.now))) }
+    requires few { jobs ≤ job_count tables.now }
+    ensures { IfOk result (λ _. text.new.items ≡ text.old.items ++ fed (lines_of_first jobs tables.now (certificate_rows certificate.now))) }
 {
-    for part in 0..parts {
-        let own = part_lines(tables, certificate, part);
+    for job in 0..jobs {
+        let own = job_lines(tables, certificate, job);
         append_lines(tables, own.as_slice(), text)?;
     }
     Ok(())
 }
 
-/// Keeps the line of what stands in the way, and the lines of the margins of the parts that the finder reached.
+/// Keeps the line of what stands in the way, and the lines of the margins of the jobs that the finder reached.
 fn judge_obstacle(
     alloc: Global,
     tables: &Tables,
@@ -55,7 +55,7 @@ fn judge_obstacle(
     let Ok(reached) = reach(alloc, tables, fault) else {
         return Err(Failure::Memory);
     };
-    match append_first(tables, &reached.certificate, reached.parts, text) {
+    match append_first(tables, &reached.certificate, reached.jobs, text) {
         Ok(()) => Ok(outcome),
         Err(_) => Err(Failure::Memory),
     }

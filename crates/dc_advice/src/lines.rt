@@ -2,8 +2,8 @@
 
 ghost use Rattle.std.specs.Prelude.{◌≡◌, ◌++◌, ◌+◌, ◌<◌, ◌≤◌, IfSome, codes, drop, length};
 ghost use Rattle.arrayvec.specs.ArrayVec.{array_vec_len};
-ghost use Rattle.dc_advice.specs.Lines.{by_text, decider_text, margin_text, measure_text, name_field, number_field, part_text, slack_text};
-ghost use Rattle.dc_check.specs.Placed.{part_count};
+ghost use Rattle.dc_advice.specs.Lines.{by_text, decider_text, margin_text, measure_text, name_field, number_field, member_field, slack_text};
+ghost use Rattle.dc_check.specs.Placed.{member_count};
 ghost use Rattle.dc_margin.specs.Lines.{IsDeciderThere, IsLinePlaced};
 ghost use Rattle.dc_print.specs.Verdicts.{member_name};
 ghost use Rattle.dc_parts.specs.declared.limits.TheConstants.{NAME_LIMIT};
@@ -27,12 +27,12 @@ fn rest(blanks: &'static [u8], used: usize) -> &'static [u8]
     }
 }
 
-/// The name of a part, with its blanks.
-fn part(part: CertificateList) -> &'static [u8]
-    ensures text { result.now ≡ part_text part }
+/// What a member of a list is called, with its blanks.
+fn member(list: CertificateList) -> &'static [u8]
+    ensures text { result.now ≡ member_field list }
     ensures short { length result.now ≤ 7 }
 {
-    match part {
+    match list {
         CertificateList::Inputs => b"input  ",
         CertificateList::Outputs => b"output ",
         CertificateList::Labels => b"label  ",
@@ -40,12 +40,12 @@ fn part(part: CertificateList) -> &'static [u8]
 }
 
 /// The name of a bus, an output or a label.
-fn name(tables: &Tables, part: CertificateList, index: usize) -> &[u8]
-    requires { index < part_count tables.now part }
-    ensures text { result.now ≡ member_name tables.now part index }
+fn name(tables: &Tables, list: CertificateList, index: usize) -> &[u8]
+    requires { index < member_count tables.now list }
+    ensures text { result.now ≡ member_name tables.now list index }
     ensures short { length result.now ≤ NAME_LIMIT }
 {
-    match part {
+    match list {
         CertificateList::Inputs => tables.bus_name(index).text(),
         CertificateList::Outputs => tables.output_name(index).text(),
         CertificateList::Labels => tables.label_name(index).text(),
@@ -139,15 +139,15 @@ fn append_by(text: &mut Text, tables: &Tables, margin: Option<Margin>)
     }
 }
 
-// The line of a margin: part, name, code, number, what it counts and what decides it, parted by spaces.
+// The line of a margin: list, name, code, number, what it counts and what decides it, parted by spaces.
 #[tactic(auto, unfolding(crate::specs::Lines::margin_text))]
 pub(crate) fn print_margin(text: &mut Text, tables: &Tables, line: &MarginLine)
     requires { IsLinePlaced tables.now line.now }
     ensures { text.new.items ≡ margin_text tables.now line.now }
 {
     text.clear();
-    append(text, part(line.part));
-    append_name(text, name(tables, line.part, line.index));
+    append(text, member(line.list));
+    append_name(text, name(tables, line.list, line.index));
     append(text, b" ");
     append(text, line.condition.code().as_bytes());
     append(text, b" ");

@@ -30,7 +30,7 @@ use Rattle.dc_answer.specs.declared.exit.Outcome.TheVariants.{Done, Refused as W
 
 -- as `refused F1 input A`
 unfoldable pub refusal_text : TableRows → Obstacle → CertificateList → ℕ → List ℕ
-refusal_text t obstacle part index = codes "refused " ++ obstacle_code obstacle ++ codes " " ++ member_text part ++ member_name t part index
+refusal_text t obstacle list index = codes "refused " ++ obstacle_code obstacle ++ codes " " ++ member_text list ++ member_name t list index
 
 -- the same, with the code of the condition where it is a label's
 abbrev pub obstacle_text : TableRows → FindFault → List ℕ

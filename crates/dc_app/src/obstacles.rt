@@ -1,7 +1,7 @@
 //! The printed line of what stands in the way of every certificate.
 ghost use Rattle.std.specs.Prelude.{◌≡◌, ◌≢◌, ◌++◌, ◌+◌, ◌<◌, ◌≤◌};
 ghost use Rattle.arrayvec.specs.ArrayVec.{array_vec_len};
-ghost use Rattle.dc_check.specs.Placed.{part_count};
+ghost use Rattle.dc_check.specs.Placed.{member_count};
 ghost use Rattle.dc_find.specs.Ways.{StandsInTheWay};
 ghost use Rattle.dc_app.specs.Find.{obstacle_text, refusal_text};
 
@@ -16,18 +16,18 @@ fn print_refusal(
     text: &mut Text,
     tables: &Tables,
     obstacle: Obstacle,
-    part: CertificateList,
+    list: CertificateList,
     index: usize,
 )
-    requires { index < part_count tables.now part }
-    ensures items { text.new.items ≡ refusal_text tables.now obstacle part index }
+    requires { index < member_count tables.now list }
+    ensures items { text.new.items ≡ refusal_text tables.now obstacle list index }
     ensures len { array_vec_len text.new ≤ 34 }
 {
     text.clear();
     append(text, b"refused ");
     append(text, obstacle.code().as_bytes());
     append(text, b" ");
-    append_member(text, tables, part, index);
+    append_member(text, tables, list, index);
 }
 
 /// The line of what stands in the way.

@@ -23,10 +23,10 @@ fn read(alloc: Global, row: &str) -> Result<(Tables, Certificate), Fail> {
 }
 
 /// A fault of the first member of a list.
-fn at(part: CertificateList, condition: Condition, window: u32) -> CheckFault {
+fn at(list: CertificateList, condition: Condition, window: u32) -> CheckFault {
     CheckFault {
         condition,
-        part,
+        list,
         index: 0,
         window,
     }

@@ -39,8 +39,8 @@ pub record IsFrame {E : Type 0} (off : E → ℕ) (z : E) (frame : ℕ) (es : Li
   pub below : (i : ℕ) → i < length es → off (slice_index_or es i z) < frame
 
 -- how many entries are due at a tick or before it. No entry of a greater number than the tick is, since due ticks ascend
-unfoldable pub due_by : (ℕ → ℕ) → ℕ → ℕ
-due_by due tick = count_below (λ n. nat_le (due n) tick) (tick + 1)
+unfoldable pub due_so_far : (ℕ → ℕ) → ℕ → ℕ
+due_so_far due tick = count_below (λ n. nat_le (due n) tick) (tick + 1)
 
 -- `least` is the least span of k + 1 neighbouring entries that begin with one below n, and is met
 pub record IsLeastSpan (frame : ℕ) (offsets : List ℕ) (k n least : ℕ) : Type 0 where

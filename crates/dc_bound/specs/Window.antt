@@ -3,13 +3,13 @@ use Rattle.std.specs.Prelude.{◌≡◌, ℕ, ◌+◌, ◌-◌, ◌*◌, ◌/◌
 use Rattle.dc_bound.specs.declared.limits.TheConstants.{LONGEST_SPAN}
 
 -- 1 if tick t is one of the d consecutive ticks from u on, else 0
-abbrev pub within : ℕ → ℕ → ℕ → ℕ
-within u d t = cond (nat_le u t && nat_lt t (u + d)) 1 0
+abbrev pub one_in : ℕ → ℕ → ℕ → ℕ
+one_in u d t = cond (nat_le u t && nat_lt t (u + d)) 1 0
 
 -- how many of these ticks are among the d consecutive ticks from u on
 unfoldable pub count_in : ℕ → ℕ → List ℕ → ℕ
 count_in u d [] = 0
-count_in u d (t ∷ ts) = within u d t + count_in u d ts
+count_in u d (t ∷ ts) = one_in u d t + count_in u d ts
 
 -- the ticks of a list of (tick, tag)
 abbrev pub ticks_of : {X : Type 0} → List (ℕ × X) → List ℕ

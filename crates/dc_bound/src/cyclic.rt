@@ -44,7 +44,7 @@ impl<'a> ArrivalBound for Cyclic<'a> {
     fn at_most(&self, d: u32) -> u64 {
         let rounds = d / self.frame;
         let rest = d % self.frame;
-        rounds as u64 * self.offsets.len() as u64 + most_in_part(self.frame, self.offsets, rest)
+        rounds as u64 * self.offsets.len() as u64 + most_in_rest(self.frame, self.offsets, rest)
     }
 
     fn at_most_and_jump(&self, d: u32) -> (u64, Option<u32>) {
@@ -82,7 +82,7 @@ fn due_of(frame: u32, offsets: &[u32], n: usize) -> u64
 }
 
 /// The greatest number of entries that are due in so many ticks, at most a frame.
-fn most_in_part(frame: u32, offsets: &[u32], ticks: u32) -> u64
+fn most_in_rest(frame: u32, offsets: &[u32], ticks: u32) -> u64
     requires framed { Offsets frame offsets.now }
     requires short { ticks ≤ frame }
     requires few { length offsets.now ≤ MOST_OFFSETS }
@@ -97,7 +97,7 @@ fn most_in_part(frame: u32, offsets: &[u32], ticks: u32) -> u64
     best as u64
 }
 
-/// The least span of k + 1 neighbouring entries: whole frames, and the part of the last.
+/// The least span of k + 1 neighbouring entries: whole frames, and the rest of the last.
 fn least_span(frame: u32, offsets: &[u32], k: usize) -> u64
     requires framed { Offsets frame offsets.now }
     requires few { length offsets.now ≤ MOST_OFFSETS }
@@ -107,14 +107,14 @@ fn least_span(frame: u32, offsets: &[u32], k: usize) -> u64
     let len = offsets.len();
     let rounds = k / len;
     let rest = k % len;
-    rounds as u64 * frame as u64 + least_span_in_part(frame, offsets, rest)
+    rounds as u64 * frame as u64 + least_span_in_rest(frame, offsets, rest)
 }
 
 /// The least span of k + 1 neighbouring entries, at most a frame's.
-fn least_span_in_part(frame: u32, offsets: &[u32], k: usize) -> u64
+fn least_span_in_rest(frame: u32, offsets: &[u32], k: usize) -> u64
     requires framed { Offsets frame offsets.now }
     requires few { length offsets.now ≤ MOST_OFFSETS }
-    requires part { k < length offsets.now }
+    requires rest { k < length offsets.now }
     ensures span { IsLeastSpan frame offsets.now k (length offsets.now) result }
     ensures small { result ≤ 2 * frame }
 {

@@ -147,7 +147,7 @@ fn visits_in_front(visits: &[usize], bus: usize, k: usize) -> u64
     count
 }
 
-/// The fewest visits of the bus among so many steps: whole rounds, and the part of the last.
+/// The fewest visits of the bus among so many steps: whole rounds, and the rest of the last.
 fn fewest(visits: &[usize], bus: usize, steps: u64) -> u64
     requires some { 1 ≤ length visits.now }
     requires few { length visits.now ≤ MOST_PLACES }
@@ -158,12 +158,12 @@ fn fewest(visits: &[usize], bus: usize, steps: u64) -> u64
     let rounds = steps / len as u64;
     let rest = (steps % len as u64) as usize;
     let round = visits_in_front(visits, bus, len);
-    let least = fewest_in_part(visits, bus, rest);
+    let least = fewest_in_rest(visits, bus, rest);
     rounds * round + least
 }
 
 /// The fewest visits of the bus among less steps than the list has: a window of so many steps slides along it.
-fn fewest_in_part(visits: &[usize], bus: usize, rest: usize) -> u64
+fn fewest_in_rest(visits: &[usize], bus: usize, rest: usize) -> u64
     requires some { 1 ≤ length visits.now }
     requires few { length visits.now ≤ MOST_PLACES }
     requires rest { rest < length visits.now }

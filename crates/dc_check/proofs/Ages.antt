@@ -15,7 +15,7 @@ use Rattle.dc_event.specs.Alive.{IsAlive, AreUsable}
 use Rattle.dc_event.specs.Buses.{moves, room, is_latched}
 use Rattle.dc_event.specs.Choice.{fresh_word, fresh, choice, chosen_source, chosen, word_for, fallback_for}
 use Rattle.dc_event.specs.Claims.{IsYoung, CopiesWithin}
-use Rattle.dc_event.specs.Latest.{latest_arrived, is_of, latest}
+use Rattle.dc_event.specs.Latest.{latest_arrived, is_of_stream, latest}
 use Rattle.dc_event.specs.Time.{tick_after}
 use Rattle.dc_event.specs.declared.event.Event.{Event}
 use Rattle.dc_tables.specs.TableRows.{TableRows, stream_row, label_row}
@@ -43,7 +43,7 @@ SourcesOnBuses t x = (k : ℕ) → k < length (label_row t x).sources → (strea
 
 -- the word that stands for a fresh source is word number `number` of those that came to its bus
 pub record IsFresh (t : TableRows) (x s : ℕ) (now : List Event) (a : ℕ × ℕ) (number : ℕ) : Type 0 where
-  pub last : latest_number (stream_room t s) (is_of s) (stream_moves t s now) ≡ Some number
+  pub last : latest_number (stream_room t s) (is_of_stream s) (stream_moves t s now) ≡ Some number
   pub value : a ≡ item (stream_room t s) (stream_moves t s now) number
   pub fresh_enough : tick_after now ≤ routed_tick (stream_room t s) number (stream_moves t s now) + (label_row t x).stale
 
@@ -60,7 +60,7 @@ fresh-number t x s now a h =
     elim (is_latched t (stream_row t s).bus now) as (λ v. Contains (cond v [] (fresh_word (label_row t x).stale (tick_after now) (latest t s now))) a → (n : ℕ) × IsFresh t x s now a n) [
       | true ↦ λ h. absurd (omega (arith, h.1))
       | false ↦ λ h.
-          elim (latest_number (stream_room t s) (is_of s) (stream_moves t s now)) as (λ o. latest_number (stream_room t s) (is_of s) (stream_moves t s now) ≡ o
+          elim (latest_number (stream_room t s) (is_of_stream s) (stream_moves t s now)) as (λ o. latest_number (stream_room t s) (is_of_stream s) (stream_moves t s now) ≡ o
           → Contains (fresh_word (label_row t x).stale (tick_after now) (option_map all o)) a → (n : ℕ) × IsFresh t x s now a n) [
             | None ↦ λ is h. absurd (omega (arith, h.1))
             | Some n ↦ λ is h.
@@ -75,7 +75,7 @@ fresh-number t x s now a h =
 pub record IsCopied (t : TableRows) (c : CertificateRows) (x : ℕ) (now : List Event) (a : ℕ × ℕ) (rank number : ℕ) : Type 0 where
   pub ranked : rank < length (label_row t x).sources
   pub source : a.0 ≡ get_or (label_row t x).sources rank 0
-  pub last : latest_number (stream_room t a.0) (is_of a.0) (stream_moves t a.0 now) ≡ Some number
+  pub last : latest_number (stream_room t a.0) (is_of_stream a.0) (stream_moves t a.0 now) ≡ Some number
   pub there : number < length (ins (stream_moves t a.0 now))
   pub arrival : word_at number (stream_moves t a.0 now) ≡ (arrived_tick number (stream_moves t a.0 now), a)
   pub by_now : arrived_tick number (stream_moves t a.0 now) ≤ tick_after now
@@ -89,7 +89,7 @@ copied_from t c x s rank now a n holds there ranked is f =
     let tag : a.0 ≡ s = ap (λ z. z.0) f.value ∙ eqb-true _ _ l.tagged in
     let time = ticks_in-moves t (stream_row t s).bus now in
     let whole : word_at n (stream_moves t s now) ≡ (arrived_tick n (stream_moves t s now), a) = l.arrival ∙ ap (λ z. (arrived_tick n (stream_moves t s now), z)) (sym f.value) in
-    let P : ℕ → Type 0 = λ s. (latest_number (stream_room t s) (is_of s) (stream_moves t s now) ≡ Some n) × (n < length (ins (stream_moves t s now))) × (word_at n (stream_moves t s now) ≡ (arrived_tick n (stream_moves t s now), a))
+    let P : ℕ → Type 0 = λ s. (latest_number (stream_room t s) (is_of_stream s) (stream_moves t s now) ≡ Some n) × (n < length (ins (stream_moves t s now))) × (word_at n (stream_moves t s now) ≡ (arrived_tick n (stream_moves t s now), a))
     × (arrived_tick n (stream_moves t s now) ≤ tick_after now) × (tick_after now ≤ arrived_tick n (stream_moves t s now) + (label_row t x).stale + delay_of t c s) in
     let p = subst P (sym tag) (f.last, l.there, whole, omega (arith, l.came_by_now), omega (arith, f.fresh_enough, l.in_time)) in
     record { ranked = ranked; source = tag ∙ is; last = p.0; there = p.1; arrival = p.2; by_now = p.3; young = p.4 }
@@ -127,7 +127,7 @@ young t c x age now holds there aged =
 pub record IsLive (t : TableRows) (x s : ℕ) (now : List Event) (w number : ℕ) : Type 0 where
   pub fresh_by : fresh t x now s ≡ (s, w) ∷ []
   pub useful : is_usable (label_row t x).format w ≡ true
-  pub last : latest_number (stream_room t s) (is_of s) (stream_moves t s now) ≡ Some number
+  pub last : latest_number (stream_room t s) (is_of_stream s) (stream_moves t s now) ≡ Some number
   pub arrival : word_at number (stream_moves t s now) ≡ (arrived_tick number (stream_moves t s now), (s, w))
   pub lately : tick_after now - (label_row t x).stale ≤ arrived_tick number (stream_moves t s now)
 

@@ -1,7 +1,7 @@
 -- The words that came to a bus, each with its tick, and how to find one of them.
 use Rattle.std.proofs.Common.{◌≡◌, ℕ, zero, suc, ◌+◌, ◌≤◌, ◌<◌, Bool, true, false, cond, List, [], ◌∷◌, length, get_or, refl, ap, inl, inr, ◌∙◌, arith}
 use Rattle.std.specs.List.{filter}
-use Rattle.dc_bound.specs.lemmas.Counts.{within_cases, count_in-nil, count_in-cons}
+use Rattle.dc_bound.specs.lemmas.Counts.{one_in_cases, count_in-nil, count_in-cons}
 use Rattle.dc_bound.specs.Moves.{Move, move_ends, came, tag_of, ticks_in, entries, ins, arrived_tick}
 use Rattle.dc_bound.specs.Moves.Move.{Tick, In, Visit}
 use Rattle.dc_bound.specs.lemmas.QueueTimes.{ticks_in-append, comes, comes-tick, stamped-arrived, stamped-items}
@@ -51,7 +51,7 @@ found_in p u d (x ∷ xs) z h =
     let later : 1 ≤ count_in u d (ticks_of (filter p xs)) → (n : ℕ) × (n < suc (length xs)) × (p (get_or (x ∷ xs) n z) ≡ true) × (u ≤ (get_or (x ∷ xs) n z).0) × ((get_or (x ∷ xs) n z).0 < u + d) =
     λ g. (let r = found_in p u d xs z g in (suc r.0, omega (arith, r.1), r.2, r.3, r.4)) in
     elim (p x) as (λ b. p x ≡ b → 1 ≤ count_in u d (ticks_of (cond b (x ∷ filter p xs) (filter p xs))) → (n : ℕ) × (n < suc (length xs)) × (p (get_or (x ∷ xs) n z) ≡ true) × (u ≤ (get_or (x ∷ xs) n z).0) × ((get_or (x ∷ xs) n z).0 < u + d)) [
-      | true ↦ λ is h. elim (within_cases u d x.0) [
+      | true ↦ λ is h. elim (one_in_cases u d x.0) [
         | inl w ↦ (0, omega arith, is, w.0, w.1)
         | inr v ↦ later (elim v [ inl w ↦ omega (arith, h, w.1, count_in-cons u d x.0 (ticks_of (filter p xs))) | inr w ↦ omega (arith, h, w.1, count_in-cons u d x.0 (ticks_of (filter p xs))) ])
       ]

@@ -25,7 +25,7 @@ use Rattle.dc_tables.specs.TableRows.{TableRows, AreValid, output_row, entry_row
 use Rattle.dc_tables.specs.declared.rows.Entry.{Entry}
 use Rattle.dc_transmit.specs.lemmas.GapLaws.{least_apart, greatest_apart, first_due}
 use Rattle.dc_transmit.specs.Gaps.{least_of, greatest_of}
-use Rattle.dc_transmit.specs.Schedule.{off, no_entry, is_of}
+use Rattle.dc_transmit.specs.Schedule.{off, no_entry, is_of_label}
 
 -- ---- gaps
 
@@ -66,12 +66,12 @@ label_spaced t v x h least =
     record {
       ascend = due_tick-ascends t v (label_row t x).output (v.labels_on_outputs x h);
       apart = λ i j l a b.
-          omega (arith, least_apart off (is_of x) no_entry (output_row t (label_row t x).output).frame (output_row t (label_row t x).output).entries f least i j l a b);
+          omega (arith, least_apart off (is_of_label x) no_entry (output_row t (label_row t x).output).frame (output_row t (label_row t x).output).entries f least i j l a b);
       next = λ i a.
-          let r = greatest_apart off (is_of x) no_entry (output_row t (label_row t x).output).frame (output_row t (label_row t x).output).entries f i a in
+          let r = greatest_apart off (is_of_label x) no_entry (output_row t (label_row t x).output).frame (output_row t (label_row t x).output).entries f i a in
           (r.0, r.1, r.2, omega (arith, r.3));
       first =
-          let r = first_due off (is_of x) no_entry (output_row t (label_row t x).output).frame (output_row t (label_row t x).output).entries f some.0 some.1 (eq_test (entry_row t (label_row t x).output some.0).label x some.2) in
+          let r = first_due off (is_of_label x) no_entry (output_row t (label_row t x).output).frame (output_row t (label_row t x).output).entries f some.0 some.1 (eq_test (entry_row t (label_row t x).output some.0).label x some.2) in
           (r.0, r.1, omega (arith, r.2));
     }
 

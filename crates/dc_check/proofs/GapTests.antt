@@ -13,7 +13,7 @@ use Rattle.dc_tables.specs.TableRows.{TableRows, AreValid, output_row, entry_row
 use Rattle.dc_tables.specs.declared.rows.Entry.{Entry}
 use Rattle.dc_transmit.specs.lemmas.GapLaws.{least_le, next_after, first_le}
 use Rattle.dc_transmit.specs.Gaps.{first_off, gaps, least_of, greatest_of, least_gap, greatest_gap}
-use Rattle.dc_transmit.specs.Schedule.{schedule_of, least_label_gap, greatest_label_gap, off, no_entry, is_of}
+use Rattle.dc_transmit.specs.Schedule.{schedule_of, least_label_gap, greatest_label_gap, off, no_entry, is_of_label}
 
 each_from_least : (b most : ℕ) (xs : List ℕ) → b ≤ least_of most xs → (k : ℕ) → k < length xs → b ≤ get_or xs k 0
 each_from_least b most [] h k l = absurd (omega arith)
@@ -35,7 +35,7 @@ at_default xs k d l = get_or_default xs k d 0 l
 
 -- each gap is at least b where the least is
 pub label_least : (t : TableRows) → AreValid t → (x : ℕ) → x < length t.labels → (b : ℕ) →
-    All (λ g. b ≤ g) (gaps_of t x) ↔ (b ≤ least_gap off (is_of x) (output_row t (label_row t x).output).frame (output_row t (label_row t x).output).entries)
+    All (λ g. b ≤ g) (gaps_of t x) ↔ (b ≤ least_gap off (is_of_label x) (output_row t (label_row t x).output).frame (output_row t (label_row t x).output).entries)
 unfolding gaps
 label_least t v x h b =
     let f = output_frame t v (label_row t x).output (v.labels_on_outputs x h) in
@@ -45,9 +45,9 @@ label_least t v x h b =
     let es : List Entry = (output_row t (label_row t x).output).entries in (
       (λ all.
           let low = all_at_least b (gaps_of t x) (λ k l. all k 0 l) in
-          let one = least_le off (is_of x) no_entry b ((output_row t (label_row t x).output).frame + first_off off (is_of x) (output_row t (label_row t x).output).entries 0) (output_row t (label_row t x).output).entries some.0 some.1 here in
-          let next = next_after off (is_of x) no_entry (output_row t (label_row t x).output).frame (output_row t (label_row t x).output).entries f some.0 some.1 here in
-          let front = first_le off (is_of x) no_entry (output_row t (label_row t x).output).entries f.ascend 0 some.0 some.1 here in
+          let one = least_le off (is_of_label x) no_entry b ((output_row t (label_row t x).output).frame + first_off off (is_of_label x) (output_row t (label_row t x).output).entries 0) (output_row t (label_row t x).output).entries some.0 some.1 here in
+          let next = next_after off (is_of_label x) no_entry (output_row t (label_row t x).output).frame (output_row t (label_row t x).output).entries f some.0 some.1 here in
+          let front = first_le off (is_of_label x) no_entry (output_row t (label_row t x).output).entries f.ascend 0 some.0 some.1 here in
           let small : b ≤ (output_row t (label_row t x).output).frame = omega (arith, low, one, next.1, front) in
           omega (arith, least_over b (output_row t (label_row t x).output).frame (gaps_of t x) small (λ k l. all k 0 l))),
       (λ least k d l. omega (arith, at_default (gaps_of t x) k d l, each_from_least b (output_row t (label_row t x).output).frame (gaps_of t x) (omega (arith)) k l)),
@@ -55,7 +55,7 @@ label_least t v x h b =
 
 -- each gap and d are at most b where the greatest and d are
 pub label_greatest : (t : TableRows) → AreValid t → (x : ℕ) → x < length t.labels → (b d : ℕ) →
-    All (λ g. g + d ≤ b) (gaps_of t x) ↔ (greatest_gap off (is_of x) (output_row t (label_row t x).output).frame (output_row t (label_row t x).output).entries + d ≤ b)
+    All (λ g. g + d ≤ b) (gaps_of t x) ↔ (greatest_gap off (is_of_label x) (output_row t (label_row t x).output).frame (output_row t (label_row t x).output).entries + d ≤ b)
 label_greatest t v x h b d =
     let spaced = label_spaced t v x h 0 in
     let some : 1 ≤ greatest_of (gaps_of t x) =

@@ -5,7 +5,7 @@ use Rattle.std.specs.Prelude.{not, nat_eq}
 use Rattle.std.specs.Cmp.Lexicographic.{pointwise, same_text, other_text}
 use Rattle.dc_check.specs.lemmas.Exact.{named-is, is-named}
 use Rattle.dc_check.specs.Names.{names_of}
-use Rattle.dc_check.specs.Placed.{part_count}
+use Rattle.dc_check.specs.Placed.{member_count}
 use Rattle.dc_check.specs.Verdict.{is_named}
 use Rattle.dc_check.specs.declared.fault.CertificateList.{CertificateList}
 use Rattle.dc_check.specs.declared.fault.CertificateList.TheVariants.{Inputs, Outputs, Labels}
@@ -65,7 +65,7 @@ other_name count names keys n name key there read at h =
     h (sym (read []) ∙ ap (λ l. get_or l n []) named.same ∙ get_or-map text_of keys n [] [] there ∙ ap text_of (sym at)))
 
 -- the tables have a name for each row
-pub names_counted : (t : TableRows) (list : CertificateList) → HaveNames t → length (names_of t list) ≡ part_count t list
+pub names_counted : (t : TableRows) (list : CertificateList) → HaveNames t → length (names_of t list) ≡ member_count t list
 names_counted t Inputs named = named.buses
 names_counted t Outputs named = named.outputs
 names_counted t Labels named = named.labels

@@ -7,7 +7,7 @@ use Rattle.dc_cert.specs.Bounds.{CertificateRows}
 use Rattle.dc_check.proofs.Bus.{bus_keeps_up}
 use Rattle.dc_check.specs.Accepts.{AcceptsNumbers}
 use Rattle.dc_event.specs.Admissible.{IsNumbered, IsRun, IsAdmissible}
-use Rattle.dc_event.specs.Offers.{refuses}
+use Rattle.dc_event.specs.Offers.{refuses_early}
 use Rattle.dc_event.specs.Buses.{moves, room, is_latched, bus_entered, bus_taken}
 use Rattle.dc_event.specs.Claims.{NoOverrun}
 use Rattle.dc_event.specs.Replies.{reply}
@@ -31,7 +31,7 @@ not_overrun false known early before now n h e = cc
 pub arrive-no_overrun : (t : TableRows) (past : List Event) (b w : ℕ) → is_latched t b (past ++ Arrive w b ∷ []) ≡ false → NoOverrun t past (Arrive w b)
 unfolding reply
 arrive-no_overrun t past b w calm e =
-    not_overrun (is_odd w) (is_some (stream_of t b w)) (refuses t b past (stream_of t b w)) (is_latched t b past) (is_latched t b (past ++ Arrive w b ∷ [])) (length (bus_entered t b (past ++ Arrive w b ∷ [])) - bus_taken t b (past ++ Arrive w b ∷ [])) calm e
+    not_overrun (is_odd w) (is_some (stream_of t b w)) (refuses_early t b past (stream_of t b w)) (is_latched t b past) (is_latched t b (past ++ Arrive w b ∷ [])) (length (bus_entered t b (past ++ Arrive w b ∷ [])) - bus_taken t b (past ++ Arrive w b ∷ [])) calm e
 
 route-no_overrun : (risen : Bool) (b w : ℕ) → (if risen then Took w b else Empty b) ≡ Overrun → ⊥
 route-no_overrun true b w e = cc

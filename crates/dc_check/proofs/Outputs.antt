@@ -13,7 +13,7 @@ use Rattle.dc_bound.specs.lemmas.Counts.{at_mod, at_div}
 use Rattle.dc_bound.specs.Frame.{due, IsDue, Offsets}
 use Rattle.dc_bound.specs.lemmas.Due.{due_most}
 use Rattle.dc_bound.specs.Frame.{IsFrame}
-use Rattle.dc_bound.specs.lemmas.Dues.{IsDueCount, due_by_frames, due_by_frames-is, due_by-is, due_in_ascends, same_count}
+use Rattle.dc_bound.specs.lemmas.Dues.{IsDueCount, due_so_far_frames, due_so_far_frames-is, due_so_far-is, due_in_ascends, same_count}
 use Rattle.dc_bound.specs.Moves.Move.{Tick as TickMove, In, Visit}
 use Rattle.dc_bound.specs.Places.{each_from, each_place}
 use Rattle.dc_bound.specs.Run.{ticks, one_if}
@@ -69,15 +69,15 @@ pub due_tick-ascends : (t : TableRows) → AreValid t → (o : ℕ) → o < leng
 due_tick-ascends t v o h i j l = due_in_ascends off no_entry (output_row t o).frame (output_row t o).entries (output_frame t v o h) i j l
 
 pub due_by-counts : (t : TableRows) → AreValid t → (o : ℕ) → o < length t.outputs → IsDueCount (due_tick t o) (due_by t o)
-unfolding due_by Count.due_by
-due_by-counts t v o h = due_by-is (due_tick t o) (due_tick-ascends t v o h)
+unfolding due_by Count.due_so_far
+due_by-counts t v o h = due_so_far-is (due_tick t o) (due_tick-ascends t v o h)
 
 -- in closed form: whole frames, and the part of the last
 pub due_by-closed : (t : TableRows) → AreValid t → (o : ℕ) → o < length t.outputs → (tick : ℕ) →
-    due_by t o tick ≡ due_by_frames off (output_row t o).frame (output_row t o).entries tick
+    due_by t o tick ≡ due_so_far_frames off (output_row t o).frame (output_row t o).entries tick
 due_by-closed t v o h tick =
-    same_count (due_tick t o) (due_by t o) (due_by_frames off (output_row t o).frame (output_row t o).entries) (due_by-counts t v o h)
-    (due_by_frames-is off no_entry (output_row t o).frame (output_row t o).entries (output_frame t v o h)) tick
+    same_count (due_tick t o) (due_by t o) (due_so_far_frames off (output_row t o).frame (output_row t o).entries) (due_by-counts t v o h)
+    (due_so_far_frames-is off no_entry (output_row t o).frame (output_row t o).entries (output_frame t v o h)) tick
 
 -- ---- the entries that come due in a tick
 

@@ -8,7 +8,7 @@ use Rattle.dc_bound.specs.Run.{ticks, picks, stamped}
 use Rattle.dc_bound.specs.Places.{served_in, first_place, each_place}
 use Rattle.dc_bound.specs.Moves.{ins, passed, is_overfull, latch, entered, taken, routed_tick, arrived_tick, latest_number, latest_by}
 use Rattle.dc_bound.specs.Rounds.{among, greatest_to}
-use Rattle.dc_bound.specs.lemmas.Counts.{count_in-cons, count_in-nil, within_cases}
+use Rattle.dc_bound.specs.lemmas.Counts.{count_in-cons, count_in-nil, one_in_cases}
 use Rattle.dc_bound.specs.lemmas.Caps.{holds_cap-none}
 use Rattle.dc_cert.specs.Bounds.{CertificateRows, numbers_of}
 use Rattle.dc_transmit.specs.Gaps.{gaps}
@@ -238,7 +238,7 @@ one_at_most : (u d t : ℕ) → count_in u d (t ∷ []) ≤ 1
 one_at_most u d t =
     let all = count_in-cons u d t [] in
     let none = count_in-nil u d in
-    elim (within_cases u d t) [ inl w ↦ omega (arith, w.2) | inr v ↦ elim v [ inl w ↦ omega (arith, w.1) | inr w ↦ omega (arith, w.1) ] ]
+    elim (one_in_cases u d t) [ inl w ↦ omega (arith, w.2) | inr v ↦ elim v [ inl w ↦ omega (arith, w.1) | inr w ↦ omega (arith, w.1) ] ]
 
 small_arrivals : bus_arrivals small_tables 0 small_run ≡ (0, 0) ∷ []
 unfolding each_place ones_in is_odd reversed ticks picks stamped stream_of moves

@@ -74,7 +74,7 @@ pub record AcceptsLabel (t : TableRows) (x : ℕ) (c : CertificateRows) : Type 0
 
 -- ---- the whole certificate
 
--- its numbers are accepted, part by part
+-- its numbers are accepted, job by job
 pub record AcceptsNumbers (t : TableRows) (c : CertificateRows) : Type 0 where
   pub inputs : (b : ℕ) → b < length t.buses → AcceptsInput t b (input_bound c b)
   pub outputs : (o : ℕ) → o < length t.outputs → AcceptsOutput t o (output_bound c o)
@@ -85,7 +85,7 @@ pub record IsNamed (count : ℕ) (names keys : List (List ℕ)) : Type 0 where
   pub sized : length names ≡ count
   pub same : names ≡ map text_of keys
 
--- the certificate's parts are the tables' buses, outputs and labels
+-- the certificate's lists are of the tables' buses, outputs and labels
 pub record AreNamed (t : TableRows) (claims : NamedRows) : Type 0 where
   pub inputs : IsNamed (length t.buses) (map (λ i. i.bus) claims.inputs) t.names.buses
   pub outputs : IsNamed (length t.outputs) (map (λ o. o.output) claims.outputs) t.names.outputs

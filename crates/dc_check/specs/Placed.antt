@@ -7,11 +7,11 @@ use Rattle.dc_check.specs.declared.fault.CertificateList.TheVariants.{Inputs, Ou
 use Rattle.dc_tables.specs.TableRows.{TableRows}
 
 -- how many inputs, outputs or labels there are
-abbrev pub part_count : TableRows → CertificateList → ℕ
-part_count t Inputs = length t.buses
-part_count t Outputs = length t.outputs
-part_count t Labels = length t.labels
+abbrev pub member_count : TableRows → CertificateList → ℕ
+member_count t Inputs = length t.buses
+member_count t Outputs = length t.outputs
+member_count t Labels = length t.labels
 
 -- the fault names an input, output or label that is there; `NamesDiffer` is of a list as a whole
 abbrev pub IsPlaced : TableRows → CheckFault → Type 0
-IsPlaced t fault = fault.condition ≢ NamesDiffer → fault.index < part_count t fault.part
+IsPlaced t fault = fault.condition ≢ NamesDiffer → fault.index < member_count t fault.list

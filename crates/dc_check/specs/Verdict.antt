@@ -19,9 +19,9 @@ use Rattle.dc_tables.specs.TableRows.{TableRows, bus_row, stream_row, label_row,
 
 -- ---- faults
 
--- a fault at a part of the certificate
+-- a fault at a member of a list of the certificate
 abbrev pub fault_at : CertificateList → ℕ → Condition → ℕ → CheckFault
-fault_at part index condition window = record { condition = condition; part = part; index = index; window = window }
+fault_at list index condition window = record { condition = condition; list = list; index = index; window = window }
 
 -- a rule that names no window: this fault, unless the test holds
 unfoldable pub unless : Bool → CheckFault → Option CheckFault
@@ -29,8 +29,8 @@ unless holds fault = if holds then None else Some fault
 
 -- a rule that names the first window that fails, if any does
 unfoldable pub at_window : CertificateList → ℕ → Condition → Option ℕ → Option CheckFault
-at_window part index condition None = None
-at_window part index condition (Some w) = Some (fault_at part index condition w)
+at_window list index condition None = None
+at_window list index condition (Some w) = Some (fault_at list index condition w)
 
 -- the first fault of rules in their order
 abbrev pub first_of : List (Option CheckFault) → Option CheckFault
@@ -82,7 +82,7 @@ name_rules t claims =
 abbrev pub misnaming : TableRows → NamedRows → Option CheckFault
 misnaming t claims = first_of (name_rules t claims)
 
--- as many of each part as the tables have
+-- as many in each list as the tables have
 pub record IsSized (t : TableRows) (c : CertificateRows) : Type 0 where
   pub inputs : length c.inputs ≡ length t.buses
   pub outputs : length c.outputs ≡ length t.outputs
@@ -92,9 +92,9 @@ pub record IsSized (t : TableRows) (c : CertificateRows) : Type 0 where
 
 -- the rules on ranges
 abbrev pub range_rules : CertificateList → ℕ → (window delay : ℕ) → List (Option CheckFault)
-range_rules part index window delay =
-    unless (is_window window) (fault_at part index WindowOutOfRange 0)
-    ∷ unless (is_delay delay) (fault_at part index DelayOutOfRange 0)
+range_rules list index window delay =
+    unless (is_window window) (fault_at list index WindowOutOfRange 0)
+    ∷ unless (is_delay delay) (fault_at list index DelayOutOfRange 0)
     ∷ []
 
 -- the first number of ticks up to the window at which a bus's backlog is too small, if there is one

@@ -89,12 +89,12 @@ pub enum CertificateList {
 
 /// The first fault of a certificate.
 #[derive(Clone, Copy, Debug, PartialEq, Eq, Error)]
-#[error("{part} {index}, window {window}: {condition}")]
+#[error("{list} {index}, window {window}: {condition}")]
 pub struct CheckFault {
     /// The condition that fails.
     pub condition: Condition,
     /// The list in which it fails.
-    pub part: CertificateList,
+    pub list: CertificateList,
     /// The number of the input, output or label in its list, from 0; 0 for `NamesDiffer`, which is of the list as a
     /// whole.
     pub index: usize,

@@ -4,7 +4,7 @@ ghost use Rattle.std.specs.Prelude.{◌≡◌, ℕ, ◌<◌, [], List, IfNone, m
 ghost use Rattle.dc_cert.specs.Bounds.{certificate_rows};
 ghost use Rattle.dc_cert.specs.NamedRows.{named_rows};
 ghost use Rattle.dc_check.specs.Names.{names_of};
-ghost use Rattle.dc_check.specs.Placed.{part_count};
+ghost use Rattle.dc_check.specs.Placed.{member_count};
 ghost use Rattle.dc_check.specs.Verdict.{IsSized, is_named, misnaming};
 ghost use Rattle.dc_parts.specs.Names.{text_of};
 
@@ -71,7 +71,7 @@ impl Row for LabelRow {
 
 /// How many inputs, outputs or labels the tables have.
 fn count(tables: &Tables, list: CertificateList) -> usize
-    ensures { result ≡ part_count tables.now list }
+    ensures { result ≡ member_count tables.now list }
 {
     match list {
         CertificateList::Inputs => tables.bus_count(),
@@ -82,7 +82,7 @@ fn count(tables: &Tables, list: CertificateList) -> usize
 
 /// The name of an input, an output or a label of the tables.
 fn name_of(tables: &Tables, list: CertificateList, number: usize) -> &Name
-    requires { number < part_count tables.now list }
+    requires { number < member_count tables.now list }
     ensures { result.now ≡ slice_index_or (names_of tables.now list) number [] }
 {
     match list {
@@ -94,7 +94,7 @@ fn name_of(tables: &Tables, list: CertificateList, number: usize) -> &Name
 
 /// Whether these rows are of the tables' inputs, outputs or labels, once each and in their order.
 fn are_named<T: Row>(tables: &Tables, list: CertificateList, rows: &[T]) -> bool
-    ensures { result ≡ is_named (part_count tables.now list) (map (λ row. text_of (T.name row)) rows.now) (names_of tables.now list) }
+    ensures { result ≡ is_named (member_count tables.now list) (map (λ row. text_of (T.name row)) rows.now) (names_of tables.now list) }
 {
     tables.named();
     if rows.len() != count(tables, list) {

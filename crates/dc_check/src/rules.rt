@@ -10,12 +10,12 @@ use dc_bound::{ArrivalBound, ServiceBound};
 use dc_busy::{LONGEST_WINDOW, closes, delay_fails, first_failures};
 
 /// A fault that names no window.
-pub(crate) fn fault(part: CertificateList, index: usize, condition: Condition) -> CheckFault
-    ensures { result ≡ fault_at part index condition 0 }
+pub(crate) fn fault(list: CertificateList, index: usize, condition: Condition) -> CheckFault
+    ensures { result ≡ fault_at list index condition 0 }
 {
     CheckFault {
         condition,
-        part,
+        list,
         index,
         window: 0,
     }
@@ -32,18 +32,18 @@ pub(crate) fn fault_unless(holds: bool, fault: CheckFault) -> Option<CheckFault>
 /// The fault that names the first window that fails, if there is one.
 #[tactic(auto, unfolding(crate::specs::Verdict::at_window))]
 pub(crate) fn window_fault(
-    part: CertificateList,
+    list: CertificateList,
     index: usize,
     condition: Condition,
     first: Option<u32>,
 ) -> Option<CheckFault>
-    ensures { result ≡ at_window part index condition first }
+    ensures { result ≡ at_window list index condition first }
 {
     match first {
         None => None,
         Some(window) => Some(CheckFault {
             condition,
-            part,
+            list,
             index,
             window,
         }),
@@ -64,28 +64,28 @@ pub(crate) fn first_fault(rules: &[Option<CheckFault>]) -> Option<CheckFault>
 
 /// The fault of a window or a delay that is out of range.
 pub(crate) fn range_fault(
-    part: CertificateList,
+    list: CertificateList,
     index: usize,
     window: u32,
     delay: u32,
 ) -> Option<CheckFault>
-    ensures { result ≡ first_of (range_rules part index window delay) }
+    ensures { result ≡ first_of (range_rules list index window delay) }
 {
     first_fault(&[
         fault_unless(
             1 <= window && window <= LONGEST_WINDOW,
-            fault(part, index, Condition::WindowOutOfRange),
+            fault(list, index, Condition::WindowOutOfRange),
         ),
         fault_unless(
             delay <= LONGEST_WINDOW,
-            fault(part, index, Condition::DelayOutOfRange),
+            fault(list, index, Condition::DelayOutOfRange),
         ),
     ])
 }
 
 /// The fault of a window, 1 to [`LONGEST_WINDOW`], that does not close.
 pub(crate) fn closing_fault<A: ArrivalBound, S: ServiceBound>(
-    part: CertificateList,
+    list: CertificateList,
     index: usize,
     arrivals: &A,
     service: &S,
@@ -93,11 +93,11 @@ pub(crate) fn closing_fault<A: ArrivalBound, S: ServiceBound>(
 ) -> Option<CheckFault>
     requires least { 1 ≤ window }
     requires most { window ≤ LONGEST_WINDOW }
-    ensures { result ≡ unless (is_closing (A.cap arrivals.now) (S.floor service.now) window) (fault_at part index WindowDoesNotClose 0) }
+    ensures { result ≡ unless (is_closing (A.cap arrivals.now) (S.floor service.now) window) (fault_at list index WindowDoesNotClose 0) }
 {
     fault_unless(
         closes(arrivals, service, window),
-        fault(part, index, Condition::WindowDoesNotClose),
+        fault(list, index, Condition::WindowDoesNotClose),
     )
 }
 

@@ -9,9 +9,9 @@ use Rattle.dc_check.specs.declared.fault.CertificateList.{CertificateList}
 use Rattle.dc_check.specs.declared.fault.CertificateList.TheVariants.{Inputs, Outputs}
 use Rattle.dc_tables.specs.TableRows.{TableRows}
 
-ranges-met : (part : CertificateList) (index window delay : ℕ) → 1 ≤ window → window ≤ 100000 → delay ≤ 100000 → first_of (range_rules part index window delay) ≡ None
+ranges-met : (list : CertificateList) (index window delay : ℕ) → 1 ≤ window → window ≤ 100000 → delay ≤ 100000 → first_of (range_rules list index window delay) ≡ None
 unfolding unless
-ranges-met part index window delay least most short = rw (le-leb 1 window least, le-leb window 100000 most, le-leb delay 100000 short) refl
+ranges-met list index window delay least most short = rw (le-leb 1 window least, le-leb window 100000 most, le-leb delay 100000 short) refl
 
 module _ (t : TableRows) (c : CertificateRows) (b : ℕ) (there : b < length t.buses) where
   pub ranges-input : 1 ≤ (input_bound c b).window → (input_bound c b).window ≤ 100000 → (input_bound c b).delay ≤ 100000 → job_ranges t c b ≡ None

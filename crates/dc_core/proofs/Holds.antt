@@ -8,7 +8,7 @@ use Rattle.circular_buffer.specs.Buffer.{keep_last}
 use Rattle.dc_queue.specs.WindowData.{WindowData, steps_of, added, turned, lacks}
 use Rattle.dc_core.specs.Windows.{counts, finished, HoldsSteps}
 use Rattle.dc_bound.specs.Window.{count_in}
-use Rattle.dc_bound.specs.lemmas.Counts.{within_cases, count_in-zero}
+use Rattle.dc_bound.specs.lemmas.Counts.{one_in_cases, count_in-zero}
 use Rattle.dc_bound.specs.lemmas.Budget.{count_in_sum}
 use Rattle.dc_bound.specs.lemmas.Steps.{count_in-push}
 use Rattle.dc_bound.specs.lemmas.Recent.{NoneLater, recent}
@@ -56,7 +56,7 @@ lacks-false d room whole n ts w pos h is all =
 counts-push : (u n t : ℕ) (ts : List ℕ) → u + n ≤ t → counts u n (ts ++ (t ∷ [])) ≡ counts u n ts
 counts-push u zero t ts h = refl
 counts-push u (suc n) t ts h =
-    let here : count_in u 1 (ts ++ (t ∷ [])) ≡ count_in u 1 ts = elim (within_cases u 1 t) [ inl w ↦ absurd (omega arith) | inr v ↦ elim v [ inl w ↦ omega (arith, count_in-push u 1 ts t) | inr w ↦ omega (arith, count_in-push u 1 ts t) ] ] in
+    let here : count_in u 1 (ts ++ (t ∷ [])) ≡ count_in u 1 ts = elim (one_in_cases u 1 t) [ inl w ↦ absurd (omega arith) | inr v ↦ elim v [ inl w ↦ omega (arith, count_in-push u 1 ts t) | inr w ↦ omega (arith, count_in-push u 1 ts t) ] ] in
     let rest = counts-push (u + 1) n t ts (omega arith) in
     rw (here, rest) refl
 
@@ -65,7 +65,7 @@ holds-add d room whole ts w h = record {
   width = h.width;
   room = h.room;
   past = h.past ∙ sym (counts-push (whole - finished d whole) (finished d whole) whole ts (omega arith));
-  count = elim (within_cases whole 1 whole) [ inl v ↦ omega (arith, h.count, count_in-push whole 1 ts whole) | inr v ↦ elim v [ inl w ↦ absurd (omega arith) | inr w ↦ absurd (omega arith) ] ];
+  count = elim (one_in_cases whole 1 whole) [ inl v ↦ omega (arith, h.count, count_in-push whole 1 ts whole) | inr v ↦ elim v [ inl w ↦ absurd (omega arith) | inr w ↦ absurd (omega arith) ] ];
 }
 
 -- the counts with one tick more are those of the next window

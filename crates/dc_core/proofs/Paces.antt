@@ -9,12 +9,12 @@ use Rattle.dc_word.specs.Word.{is_odd}
 use Rattle.dc_tables.specs.Declares.{stream_of}
 use Rattle.dc_tables.specs.TableRows.{TableRows, AreValid, stream_row, is_policed}
 use Rattle.dc_event.specs.Time.{tick_after}
-use Rattle.dc_event.specs.Offers.{only, is_early, refuses}
+use Rattle.dc_event.specs.Offers.{only, is_early, refuses_early}
 use Rattle.dc_event.specs.Buses.{arrivals, arrival_of}
 use Rattle.dc_event.specs.lemmas.Arrivals.{arrivals-other, arrivals-push, arrivals-nil, early-paced, stream_of-there, arrival-own, arrival-others}
 use Rattle.dc_event.specs.declared.event.Event.{Event}
 use Rattle.dc_event.specs.declared.event.Event.TheVariants.{Arrive}
-use Rattle.dc_core.specs.Standing.{HoldsPaces, refuses_now, paces_after}
+use Rattle.dc_core.specs.Standing.{HoldsPaces, refuses_early_now, paces_after}
 
 -- an event that is an arrival of no bus
 pub paces-other : (t : TableRows) (paces : List ℕ) (run : List Event) (e : Event) → ((b : ℕ) → arrival_of t b run e ≡ None) → HoldsPaces t paces run → HoldsPaces t paces (run ++ e ∷ [])
@@ -33,8 +33,8 @@ module _ (t : TableRows) (v : AreValid t) (paces : List ℕ) (run : List Event) 
   own = stream_of-there t b w k some
 
   -- by the number, the bus refuses just the early words
-  pub refuses-is : refuses_now t paces now b k ≡ refuses t b run (Some k)
-  refuses-is = elim (cases_Bool (is_policed t b)) [
+  pub refuses_early-is : refuses_early_now t paces now b k ≡ refuses_early t b run (Some k)
+  refuses_early-is = elim (cases_Bool (is_policed t b)) [
     | inl yes' ↦
         let policed : is_policed t (stream_row t k).bus ≡ true = ap (is_policed t) own.1 ∙ yes' in
         ap (λ n. is_policed t b && ltb (n + (stream_row t k).jitter) (get_or paces k 0)) clock
@@ -47,7 +47,7 @@ module _ (t : TableRows) (v : AreValid t) (paces : List ℕ) (run : List Event) 
   unchanged true s ne = get_or-set_other paces k s (max now (get_or paces k 0) + (stream_row t k).minimum) 0 ne
   unchanged false s ne = refl
 
-  pub paces-arrive : length paces ≡ length t.streams → refuses t b run (Some k) ≡ false → HoldsPaces t (paces_after t paces now b k) (run ++ Arrive w b ∷ [])
+  pub paces-arrive : length paces ≡ length t.streams → refuses_early t b run (Some k) ≡ false → HoldsPaces t (paces_after t paces now b k) (run ++ Arrive w b ∷ [])
   paces-arrive sized free s l policed = elim (cases_eq k s) [
     | inl same ↦
         let P : ℕ → Type 0 = λ s. get_or (paces_after t paces now b k) s 0 ≡ pace_of (stream_row t s).minimum (ticks_of (arrivals t s (run ++ Arrive w b ∷ []))) in

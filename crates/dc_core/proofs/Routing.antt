@@ -18,16 +18,16 @@ use Rattle.dc_tables.specs.Declares.{stream_of, declares, fits}
 use Rattle.dc_tables.specs.TableRows.{TableRows, visited, stream_row, router_row}
 use Rattle.dc_event.specs.Time.{tick_after, route_of, send_of, routes, route_ticks}
 use Rattle.dc_event.specs.Buses.{move_of, moves, room}
-use Rattle.dc_event.specs.Latest.{is_of, latest}
+use Rattle.dc_event.specs.Latest.{is_of_stream, latest}
 use Rattle.dc_event.specs.Replies.{reply}
 use Rattle.dc_event.specs.Admissible.{KeepsBudgets}
 use Rattle.dc_event.specs.declared.event.Reply.TheVariants.{Took, Empty}
 use Rattle.dc_event.specs.declared.event.Event.{Event}
 use Rattle.dc_event.specs.declared.event.Event.TheVariants.{Route}
-use Rattle.dc_core.specs.declared.parts.RouterState.{RouterState}
-use Rattle.dc_core.specs.declared.parts.OutputState.{OutputState}
+use Rattle.dc_core.specs.declared.states.RouterState.{RouterState}
+use Rattle.dc_core.specs.declared.states.OutputState.{OutputState}
 use Rattle.dc_route.specs.Routing.{next_bus, noted, routed}
-use Rattle.dc_core.specs.Parts.{BusData, no_router, router_stepped, visit_reply_of}
+use Rattle.dc_core.specs.States.{BusData, no_router, router_stepped, visit_reply_of}
 use Rattle.dc_core.specs.Windows.{HoldsSteps}
 use Rattle.dc_core.specs.Steps.{AreNumbered}
 use Rattle.dc_core.specs.Standing.{entered_words, HoldsQueue, word_and_tick, HoldsRouter, Standing}
@@ -201,19 +201,19 @@ module _ (t : TableRows) (now : ℕ) (buses buses' : ℕ → BusData) (lasts : L
   unfolding latest
   latest_empty none s =
       ⊎_elim (λ (same : b ≡ (stream_row t s).bus).
-      (let P : ℕ → Type 0 = λ a. latest_by (room t a) (is_of s) (moves t a (run ++ Route r ∷ [])) ≡ latest_by (room t a) (is_of s) (moves t a run) in
-      subst P same (rw more_b (latest_by-same (room t b) (is_of s) (moves t b run) Visit [] ((queue-visit (room t b) (moves t b run)).1 ∙ sym (append-nil _)) (empty_is none)))))
+      (let P : ℕ → Type 0 = λ a. latest_by (room t a) (is_of_stream s) (moves t a (run ++ Route r ∷ [])) ≡ latest_by (room t a) (is_of_stream s) (moves t a run) in
+      subst P same (rw more_b (latest_by-same (room t b) (is_of_stream s) (moves t b run) Visit [] ((queue-visit (room t b) (moves t b run)).1 ∙ sym (append-nil _)) (empty_is none)))))
       (latest_elsewhere s) (cases_eq b (stream_row t s).bus)
 
   latest_took : (x : ℕ) → w ≡ Some x → (s : ℕ) → b ≡ (stream_row t s).bus
-      → latest t s (run ++ Route r ∷ []) ≡ cond (is_of s (item (room t b) (moves t b run) (taken (room t b) (moves t b run)))) (Some (item (room t b) (moves t b run) (taken (room t b) (moves t b run)), now)) (latest t s run)
+      → latest t s (run ++ Route r ∷ []) ≡ cond (is_of_stream s (item (room t b) (moves t b run) (taken (room t b) (moves t b run)))) (Some (item (room t b) (moves t b run) (taken (room t b) (moves t b run)), now)) (latest t s run)
   unfolding latest
   latest_took x some s same =
       let q = took_is x some in
       let time : ticks_in (moves t b run) ≡ now = ticks_in-moves t b run ∙ sym h.clock in
-      let P : ℕ → Type 0 = λ a. latest_by (room t a) (is_of s) (moves t a (run ++ Route r ∷ [])) ≡ cond (is_of s (item (room t b) (moves t b run) (taken (room t b) (moves t b run)))) (Some (item (room t b) (moves t b run) (taken (room t b) (moves t b run)), now)) (latest_by (room t a) (is_of s) (moves t a run)) in
-      subst P same (ap (λ ms. latest_by (room t b) (is_of s) ms) more_b ∙ latest_by-takes (room t b) (is_of s) (moves t b run) q.0
-      ∙ ap (λ k. cond (is_of s (item (room t b) (moves t b run) (taken (room t b) (moves t b run)))) (Some (item (room t b) (moves t b run) (taken (room t b) (moves t b run)), k)) (latest_by (room t b) (is_of s) (moves t b run))) time)
+      let P : ℕ → Type 0 = λ a. latest_by (room t a) (is_of_stream s) (moves t a (run ++ Route r ∷ [])) ≡ cond (is_of_stream s (item (room t b) (moves t b run) (taken (room t b) (moves t b run)))) (Some (item (room t b) (moves t b run) (taken (room t b) (moves t b run)), now)) (latest_by (room t a) (is_of_stream s) (moves t a run)) in
+      subst P same (ap (λ ms. latest_by (room t b) (is_of_stream s) ms) more_b ∙ latest_by-takes (room t b) (is_of_stream s) (moves t b run) q.0
+      ∙ ap (λ k. cond (is_of_stream s (item (room t b) (moves t b run) (taken (room t b) (moves t b run)))) (Some (item (room t b) (moves t b run) (taken (room t b) (moves t b run)), k)) (latest_by (room t b) (is_of_stream s) (moves t b run))) time)
 
   pub empty_reply : w ≡ None → Empty b ≡ reply t run (Route r)
   unfolding reply
@@ -253,7 +253,7 @@ module _ (t : TableRows) (now : ℕ) (buses buses' : ℕ → BusData) (lasts : L
       let q = took_is x some in
       ⊎_elim (λ (same : k ≡ s).
       (let here : b ≡ (stream_row t s).bus = bus_of x k of ∙ ap (λ k. (stream_row t k).bus) same in
-      let own : is_of s (item (room t b) (moves t b run) (taken (room t b) (moves t b run))) ≡ true = eq-eqb _ _ (sym tag ∙ same) in
+      let own : is_of_stream s (item (room t b) (moves t b run) (taken (room t b) (moves t b run))) ≡ true = eq-eqb _ _ (sym tag ∙ same) in
       let there : k < length lasts = omega arith in
       let P : ℕ → Type 0 = λ s. get_or (set lasts k (Some (x, now))) s None ≡ Some (x, now) in
       subst P same (get_or-set_same lasts k (Some (x, now)) None there)
@@ -261,7 +261,7 @@ module _ (t : TableRows) (now : ℕ) (buses buses' : ℕ → BusData) (lasts : L
       ∙ ap (option_map word_and_tick) (sym (latest_took x some s here ∙ ap (λ c. cond c (Some (item (room t b) (moves t b run) (taken (room t b) (moves t b run)), now)) (latest t s run)) own))))
       (λ (apart : k ≡ s → ⊥).
       (let ne : s ≡ k → ⊥ = λ e. apart (sym e) in
-      let none : is_of s (item (room t b) (moves t b run) (taken (room t b) (moves t b run))) ≡ false = ne_eqb _ _ (λ e. apart (tag ∙ e)) in
+      let none : is_of_stream s (item (room t b) (moves t b run) (taken (room t b) (moves t b run))) ≡ false = ne_eqb _ _ (λ e. apart (tag ∙ e)) in
       get_or-set_other lasts k s (Some (x, now)) None ne ∙ h.words s l ∙ ap (option_map word_and_tick)
       (⊎_elim (λ (same : b ≡ (stream_row t s).bus). sym (latest_took x some s same ∙ ap (λ c. cond c (Some (item (room t b) (moves t b run) (taken (room t b) (moves t b run)), now)) (latest t s run)) none))
       (λ (other : b ≡ (stream_row t s).bus → ⊥). sym (latest_elsewhere s other)) (cases_eq b (stream_row t s).bus)))) (cases_eq k s)

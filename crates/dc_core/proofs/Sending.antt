@@ -16,7 +16,7 @@ use Rattle.dc_word.specs.Format.{is_usable}
 use Rattle.dc_tables.specs.TableRows.{TableRows, AreValid, stream_row, router_row, output_row, label_row}
 use Rattle.dc_event.specs.Time.{tick_after, route_of, send_of, routes, send_ticks}
 use Rattle.dc_event.specs.Buses.{moves, room, is_latched}
-use Rattle.dc_event.specs.Latest.{is_of, latest}
+use Rattle.dc_event.specs.Latest.{is_of_stream, latest}
 use Rattle.dc_event.specs.Outputs.{due_by, sent, entry_label}
 use Rattle.dc_event.specs.Choice.{fresh, fresh_word, head, chosen_source, chosen, word_for}
 use Rattle.dc_event.specs.Replies.{reply}
@@ -24,9 +24,9 @@ use Rattle.dc_event.specs.Admissible.{KeepsBudgets}
 use Rattle.dc_event.specs.declared.event.Reply.TheVariants.{Sent, Idle, Now}
 use Rattle.dc_event.specs.declared.event.Event.{Event}
 use Rattle.dc_event.specs.declared.event.Event.TheVariants.{Tick, Send}
-use Rattle.dc_core.specs.declared.parts.RouterState.{RouterState}
-use Rattle.dc_core.specs.declared.parts.OutputState.{OutputState}
-use Rattle.dc_core.specs.Parts.{BusData, no_router, no_output, router_turned, output_turned, output_sent}
+use Rattle.dc_core.specs.declared.states.RouterState.{RouterState}
+use Rattle.dc_core.specs.declared.states.OutputState.{OutputState}
+use Rattle.dc_core.specs.States.{BusData, no_router, no_output, router_turned, output_turned, output_sent}
 use Rattle.dc_core.specs.Lacking.{too_soon}
 use Rattle.dc_route.specs.Choosing.{young, fresh_now, first_word, word_now, fresh_words, chosen_now}
 use Rattle.dc_core.specs.Standing.{entered_words, HoldsQueue, word_and_tick, HoldsRouter, HoldsOutput, Standing}
@@ -215,7 +215,7 @@ unfolding latest
 latest-tick t s run =
     let a = (stream_row t s).bus in
     let q = queue-tick (room t a) (moves t a run) in
-    rw (moves-push t a run Tick) (latest_by-same (room t a) (is_of s) (moves t a run) TickMove [] (q.1 ∙ sym (append-nil _)) q.2)
+    rw (moves-push t a run Tick) (latest_by-same (room t a) (is_of_stream s) (moves t a run) TickMove [] (q.1 ∙ sym (append-nil _)) q.2)
 
 holds-tick : (room : ℕ) (s : BusData) (ms : List Move) → HoldsQueue room s ms → HoldsQueue room s (ms ++ TickMove ∷ [])
 holds-tick room s ms h =

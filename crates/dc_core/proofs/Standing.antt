@@ -13,18 +13,18 @@ use Rattle.dc_word.specs.Word.{is_odd}
 use Rattle.dc_tables.specs.Declares.{stream_of}
 use Rattle.dc_tables.specs.TableRows.{TableRows, stream_row, router_row, output_row}
 use Rattle.dc_event.specs.Time.{ends, tick_after, route_of, send_of, routes}
-use Rattle.dc_event.specs.Offers.{refuses, let_in}
+use Rattle.dc_event.specs.Offers.{refuses_early, let_in}
 use Rattle.dc_event.specs.Buses.{in_of, move_of, moves, room}
-use Rattle.dc_event.specs.Latest.{is_of, latest}
+use Rattle.dc_event.specs.Latest.{is_of_stream, latest}
 use Rattle.dc_event.specs.Replies.{reply}
 use Rattle.dc_event.specs.Admissible.{KeepsBudgets, IsNumbered}
 use Rattle.dc_event.specs.declared.event.Reply.{Reply}
 use Rattle.dc_event.specs.declared.event.Reply.TheVariants.{Queued, Overrun, Latched}
 use Rattle.dc_event.specs.declared.event.Event.{Event}
 use Rattle.dc_event.specs.declared.event.Event.TheVariants.{Arrive}
-use Rattle.dc_core.specs.declared.parts.RouterState.{RouterState}
-use Rattle.dc_core.specs.declared.parts.OutputState.{OutputState}
-use Rattle.dc_core.specs.Parts.{BusData, bus_at, Receives}
+use Rattle.dc_core.specs.declared.states.RouterState.{RouterState}
+use Rattle.dc_core.specs.declared.states.OutputState.{OutputState}
+use Rattle.dc_core.specs.States.{BusData, bus_at, Receives}
 use Rattle.dc_core.specs.Standing.{entered_words, HoldsQueue, word_and_tick, HoldsRouter, HoldsOutput, Standing, MayFollow}
 use Rattle.dc_event.specs.lemmas.RunPush.{steps-push, ticks-other, moves-push, moves-other, latest-other, sent-other}
 use Rattle.dc_event.specs.lemmas.BudgetsPush.{calm, keeps-nothing}
@@ -178,7 +178,7 @@ arrive_undeclared t run b w h = record {
 }
 
 -- a word that the bus refuses
-pub arrive_refused : (t : TableRows) (run : List Event) (b w s : ℕ) → stream_of t b w ≡ Some s → refuses t b run (Some s) ≡ true → IsNothing t run (Arrive w b)
+pub arrive_refused : (t : TableRows) (run : List Event) (b w s : ℕ) → stream_of t b w ≡ Some s → refuses_early t b run (Some s) ≡ true → IsNothing t run (Arrive w b)
 arrive_refused t run b w s some early = record {
   no_tick = refl;
   no_move = λ a. ⊎_elim
@@ -189,7 +189,7 @@ arrive_refused t run b w s some early = record {
   no_send = λ o. refl;
 }
 
-move_here : (t : TableRows) (run : List Event) (b w s : ℕ) → is_odd w ≡ true → stream_of t b w ≡ Some s → refuses t b run (Some s) ≡ false → move_of t b run (Arrive w b) ≡ In (s, w) ∷ []
+move_here : (t : TableRows) (run : List Event) (b w s : ℕ) → is_odd w ≡ true → stream_of t b w ≡ Some s → refuses_early t b run (Some s) ≡ false → move_of t b run (Arrive w b) ≡ In (s, w) ∷ []
 move_here t run b w s odd some free = let e : (b == b) ≡ true = eq-eqb b b refl in rw (e, odd, some, free) refl
 
 -- a word that comes leaves every latest word
@@ -201,17 +201,17 @@ latest_by-in room p ms x =
     (λ (full : room ≤ length (entered room ms) - taken room ms). (let q = queue-in_full room ms x (none_from (latch room ms) l) full in latest_by-same room p ms (In x) [] (q.1 ∙ sym (append-nil (entered room ms))) q.2))
     (cases_lt (length (entered room ms) - taken room ms) room)) (cases_Bool (is_some (latch room ms)))
 
-latest-arrive : (t : TableRows) (s : ℕ) (run : List Event) (b w k : ℕ) → is_odd w ≡ true → stream_of t b w ≡ Some k → refuses t b run (Some k) ≡ false → latest t s (run ++ Arrive w b ∷ []) ≡ latest t s run
+latest-arrive : (t : TableRows) (s : ℕ) (run : List Event) (b w k : ℕ) → is_odd w ≡ true → stream_of t b w ≡ Some k → refuses_early t b run (Some k) ≡ false → latest t s (run ++ Arrive w b ∷ []) ≡ latest t s run
 unfolding latest
 latest-arrive t s run b w k odd some free =
     let a = (stream_row t s).bus in
     ⊎_elim (λ (same : b ≡ a).
     (let here : move_of t a run (Arrive w b) ≡ In (k, w) ∷ [] = (let P : ℕ → Type 0 = λ a. move_of t a run (Arrive w b) ≡ In (k, w) ∷ [] in subst P same (move_here t run b w k odd some free)) in
-    ap (λ ms. latest_by (room t a) (is_of s) ms) (moves-push t a run (Arrive w b) ∙ ap (λ m. moves t a run ++ m) here) ∙ latest_by-in (room t a) (is_of s) (moves t a run) (k, w)))
+    ap (λ ms. latest_by (room t a) (is_of_stream s) ms) (moves-push t a run (Arrive w b) ∙ ap (λ m. moves t a run ++ m) here) ∙ latest_by-in (room t a) (is_of_stream s) (moves t a run) (k, w)))
     (λ (other : b ≡ a → ⊥). latest-other t s run (Arrive w b) (move_elsewhere t run a b w (ne_eqb b a other))) (cases_eq b a)
 
 pub standing-arrive : (t : TableRows) (now : ℕ) (buses buses' : ℕ → BusData) (lasts : List (Option (ℕ × ℕ))) (routers : List RouterState) (outputs : List OutputState) (run : List Event) (b w s : ℕ) (r : Reply) (new : BusData)
-    → b < length t.buses → Changes b new buses buses' → is_odd w ≡ true → stream_of t b w ≡ Some s → refuses t b run (Some s) ≡ false
+    → b < length t.buses → Changes b new buses buses' → is_odd w ≡ true → stream_of t b w ≡ Some s → refuses_early t b run (Some s) ≡ false
     → Receives (buses b) w r new
     → Standing t now buses lasts routers outputs run → Standing t now buses' lasts routers outputs (run ++ Arrive w b ∷ []) × (r ≡ reply t run (Arrive w b))
 unfolding reply

@@ -15,9 +15,9 @@ use Rattle.dc_event.specs.Buses.{moves, room}
 use Rattle.dc_event.specs.Latest.{latest}
 use Rattle.dc_event.specs.Outputs.{sent, due_by}
 use Rattle.dc_event.specs.Admissible.{KeepsBudgets}
-use Rattle.dc_core.specs.declared.parts.RouterState.{RouterState}
-use Rattle.dc_core.specs.declared.parts.OutputState.{OutputState}
-use Rattle.dc_core.specs.Parts.{bus_at, no_router, no_output}
+use Rattle.dc_core.specs.declared.states.RouterState.{RouterState}
+use Rattle.dc_core.specs.declared.states.OutputState.{OutputState}
+use Rattle.dc_core.specs.States.{bus_at, no_router, no_output}
 use Rattle.dc_core.specs.Fresh.{fresh_queue, fresh_router, fresh_output, AllMade}
 use Rattle.std.specs.Prelude.{replicate}
 use Rattle.std.proofs.lemmas.List.{get_or-replicate}

@@ -13,9 +13,9 @@ use Rattle.dc_event.specs.declared.event.Actor.TheVariants.{Router, Output, Wire
 use Rattle.dc_bound.specs.Frame as D
 use Rattle.dc_event.specs.Outputs as O
 use Rattle.dc_transmit.specs.Schedule.{schedule_of, due_count}
-use Rattle.dc_core.specs.declared.parts.RouterState.{RouterState}
-use Rattle.dc_core.specs.declared.parts.OutputState.{OutputState}
-use Rattle.dc_core.specs.Parts.{BusData, no_router, no_output, output_sent}
+use Rattle.dc_core.specs.declared.states.RouterState.{RouterState}
+use Rattle.dc_core.specs.declared.states.OutputState.{OutputState}
+use Rattle.dc_core.specs.States.{BusData, no_router, no_output, output_sent}
 use Rattle.dc_core.specs.Lacking.{router_lacks, output_lacks, NoneLacks, FirstLacks, too_soon}
 use Rattle.dc_core.specs.Standing.{Standing}
 use Rattle.dc_event.specs.Works.{Works, IsFirstLacking}
@@ -67,7 +67,7 @@ module _ (t : TableRows) (now : ℕ) (buses : ℕ → BusData) (lasts : List (Op
 
 -- what the schedule counts is what is due
 pub due-same : (t : TableRows) (o tick : ℕ) → due_count (schedule_of t o) tick ≡ due_by t o tick
-unfolding D.due_by O.due_by
+unfolding D.due_so_far O.due_by
 due-same t o tick = refl
 
 pub label_there : (t : TableRows) (o n x : ℕ) → AreValid t → o < length t.outputs → x ≡ entry_label t o n → x < length t.labels

@@ -1,10 +1,10 @@
--- The parts of the state before any event.
+-- The states of a queue, a router and an output before any event.
 use Rattle.std.specs.Prelude.{◌≡◌, ℕ, ◌<◌, None, List, [], length, slice_index_or}
 use Rattle.dc_queue.specs.QueueData.{QueueData}
 use Rattle.dc_queue.specs.WindowData.{empty_window}
 use Rattle.dc_tables.specs.TableRows.{TableRows, bus_row, router_row, output_row}
-use Rattle.dc_core.specs.declared.parts.RouterState.{RouterState}
-use Rattle.dc_core.specs.declared.parts.OutputState.{OutputState}
+use Rattle.dc_core.specs.declared.states.RouterState.{RouterState}
+use Rattle.dc_core.specs.declared.states.OutputState.{OutputState}
 
 -- a bus's queue before any event: empty, with the capacity that the tables give it
 abbrev pub fresh_queue : TableRows → ℕ → QueueData

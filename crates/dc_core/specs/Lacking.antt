@@ -4,9 +4,9 @@ use Rattle.dc_queue.specs.WindowData.{lacks}
 use Rattle.dc_tables.specs.TableRows.{TableRows, router_row, output_row}
 use Rattle.dc_event.specs.declared.event.Actor.{Actor}
 use Rattle.dc_event.specs.declared.event.Actor.TheVariants.{Wire, Router, Output, Clock}
-use Rattle.dc_core.specs.declared.parts.RouterState.{RouterState}
-use Rattle.dc_core.specs.declared.parts.OutputState.{OutputState}
-use Rattle.dc_core.specs.Parts.{no_router, no_output}
+use Rattle.dc_core.specs.declared.states.RouterState.{RouterState}
+use Rattle.dc_core.specs.declared.states.OutputState.{OutputState}
+use Rattle.dc_core.specs.States.{no_router, no_output}
 
 -- whether `within` ticks have begun and the last of them, the running one included, hold too few steps of the router
 abbrev pub router_lacks : TableRows → List RouterState → ℕ → Bool

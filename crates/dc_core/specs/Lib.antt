@@ -1,5 +1,5 @@
 pub mod Windows
-pub mod Parts
+pub mod States
 pub mod Standing
 pub mod Steps
 pub mod Lacking

@@ -14,12 +14,12 @@ use Rattle.dc_event.specs.declared.event.Event.{Event}
 use Rattle.dc_event.specs.declared.event.Event.TheVariants.{Tick, Route, Send}
 use Rattle.dc_core.specs.declared.fault.StepFault.{StepFault}
 use Rattle.dc_core.specs.declared.fault.StepFault.TheVariants.{Spent, TooSoon, Owed, TickLimit, Unknown}
-use Rattle.dc_core.specs.declared.parts.RouterState.{RouterState}
-use Rattle.dc_core.specs.declared.parts.OutputState.{OutputState}
+use Rattle.dc_core.specs.declared.states.RouterState.{RouterState}
+use Rattle.dc_core.specs.declared.states.OutputState.{OutputState}
 use Rattle.dc_transmit.specs.declared.limits.TheConstants.{LAST_TICK}
 use Rattle.dc_bound.specs.Window.{IsLast}
 use Rattle.dc_core.specs.Windows.{HoldsSteps}
-use Rattle.dc_core.specs.Parts.{BusData, no_router, no_output}
+use Rattle.dc_core.specs.States.{BusData, no_router, no_output}
 
 -- the words of the items that entered a queue
 abbrev pub entered_words : ℕ → List Move → List ℕ
@@ -61,8 +61,8 @@ HoldsPaces t paces run =
     (s : ℕ) → s < length t.streams → is_policed t (stream_row t s).bus ≡ true → slice_index_or paces s 0 ≡ pace_of (stream_row t s).minimum (ticks_of (arrivals t s run))
 
 -- whether a policed bus refuses a word of the stream in this tick, by its number
-abbrev pub refuses_now : TableRows → List ℕ → ℕ → ℕ → ℕ → Bool
-refuses_now t paces now b s = is_policed t b && nat_lt (now + (stream_row t s).jitter) (slice_index_or paces s 0)
+abbrev pub refuses_early_now : TableRows → List ℕ → ℕ → ℕ → ℕ → Bool
+refuses_early_now t paces now b s = is_policed t b && nat_lt (now + (stream_row t s).jitter) (slice_index_or paces s 0)
 
 -- the numbers after a word of the stream that was let in
 abbrev pub paces_after : TableRows → List ℕ → ℕ → ℕ → ℕ → List ℕ

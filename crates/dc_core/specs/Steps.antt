@@ -8,15 +8,15 @@ use Rattle.dc_event.specs.declared.event.Reply.{Reply}
 use Rattle.dc_core.specs.declared.fault.StepFault.{StepFault}
 use Rattle.dc_core.specs.declared.machine.State.{State}
 use Rattle.dc_transmit.specs.declared.limits.TheConstants.{LAST_TICK}
-use Rattle.dc_core.specs.declared.parts.RouterState.{RouterState}
-use Rattle.dc_core.specs.Parts.{bus_at, no_router}
+use Rattle.dc_core.specs.declared.states.RouterState.{RouterState}
+use Rattle.dc_core.specs.States.{bus_at, no_router}
 use Rattle.dc_core.specs.Standing.{Standing, HoldsPaces, MayFollow, IsFault}
 
 -- each router's state names its number
 abbrev pub AreNumbered : TableRows → List RouterState → Type 0
 AreNumbered t routers = (r : ℕ) → r < length t.routers → (slice_index_or routers r no_router).router.number ≡ r
 
--- the state has one part for each bus, stream, router and output of the tables
+-- the state has one member for each bus, stream, router and output of the tables
 pub record IsSized (t : TableRows) (s : State) : Type 0 where
   pub queues : length s.queues.items ≡ length t.buses
   pub latches : length s.latched.items ≡ length t.buses

@@ -6,10 +6,10 @@
 mod concentrator;
 mod fault;
 mod machine;
-mod parts;
 mod start;
+mod states;
 
 pub use concentrator::Core;
 pub use fault::StepFault;
 pub use machine::State;
-pub use parts::{OutputState, RouterState};
+pub use states::{OutputState, RouterState};

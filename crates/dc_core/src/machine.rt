@@ -1,15 +1,15 @@
 //! The state, and what each kind of event makes of it.
 
 ghost use Rattle.std.specs.Prelude.{◌≡◌, ℕ, ◌+◌, ◌<◌, ◌≤◌, ◌^◌, [], ◌∷◌, ◌++◌, length, List, OnErr, slice_index_or, MatchOption, EachIndex, IfOk, true, false};
-ghost use Rattle.dc_core.specs.Standing.{refuses_now, paces_after};
+ghost use Rattle.dc_core.specs.Standing.{refuses_early_now, paces_after};
 ghost use Rattle.dc_event.specs.Replies.{reply};
 ghost use Rattle.dc_core.specs.Lacking.{too_soon};
-ghost use Rattle.dc_core.specs.Parts.{no_router, no_output, router_turned, output_turned};
+ghost use Rattle.dc_core.specs.States.{no_router, no_output, router_turned, output_turned};
 ghost use Rattle.dc_transmit.specs.declared.limits.TheConstants.{LAST_TICK};
 
 use crate::fault::StepFault;
-use crate::parts::{OutputState, RouterState, receive, visit_reply};
 use crate::start::{fresh_outputs, fresh_queues, fresh_routers, no_latches, no_paces};
+use crate::states::{OutputState, RouterState, receive, visit_reply};
 use dc_event::{Actor, Event, Reply};
 use dc_queue::queue::WordQueue;
 use dc_route::{Latest, choose};
@@ -72,7 +72,7 @@ impl State {
             return Ok(Reply::Undeclared);
         };
         tables.valid();
-        if refuses(tables, &mut self.paces, self.tick, bus, stream) {
+        if refuses_early(tables, &mut self.paces, self.tick, bus, stream) {
             return Ok(Reply::TooEarly);
         }
         let queue = &mut self.queues[bus];
@@ -190,12 +190,18 @@ impl State {
 
 /// Whether the bus refuses a word of the stream in this tick. A word of a policed bus that is let in moves its stream's
 /// number.
-fn refuses(tables: &Tables, paces: &mut Vec<u64>, tick: u64, bus: usize, stream: usize) -> bool
+fn refuses_early(
+    tables: &Tables,
+    paces: &mut Vec<u64>,
+    tick: u64,
+    bus: usize,
+    stream: usize,
+) -> bool
     requires bus { bus < length tables.now.buses }
     requires stream { stream < length tables.now.streams }
     requires sized { length paces.old.items ≡ length tables.now.streams }
     requires early { tick ≤ LAST_TICK }
-    ensures test { result ≡ refuses_now tables.now paces.old.items tick bus stream }
+    ensures test { result ≡ refuses_early_now tables.now paces.old.items tick bus stream }
     ensures refused { result ≡ true → paces.new.items ≡ paces.old.items }
     ensures let_in { result ≡ false → paces.new.items ≡ paces_after tables.now paces.old.items tick bus stream }
 {

@@ -3,9 +3,9 @@
 ghost use Rattle.std.specs.Prelude.{◌≡◌, ℕ, ◌<◌, [], length, IfOk, None, false};
 ghost use Rattle.dc_route.specs.Routing.{no_queue};
 ghost use Rattle.dc_core.specs.Fresh.{fresh_queue, fresh_router, fresh_output, AllMade};
-ghost use Rattle.dc_core.specs.Parts.{no_router, no_output};
+ghost use Rattle.dc_core.specs.States.{no_router, no_output};
 
-use crate::parts::{OutputState, RouterState};
+use crate::states::{OutputState, RouterState};
 use dc_queue::queue::WordQueue;
 use dc_queue::window::StepWindow;
 use dc_route::Router;

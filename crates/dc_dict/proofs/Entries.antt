@@ -5,7 +5,7 @@ use Rattle.std.proofs.lemmas.List.Elements.{All-head, All-tail, All-push}
 use Rattle.std.specs.Map.{lookup, values_of}
 use Rattle.dc_dict.specs.declared.fault.DictFault.TheVariants.{Doubled}
 use Rattle.dc_dict.specs.declared.parameter.Parameter.{Parameter}
-use Rattle.dc_dict.specs.Rows.{is_of, row_of, refusal_of, AreKeyed, AreUnique}
+use Rattle.dc_dict.specs.Rows.{is_row_of, row_of, refusal_of, AreKeyed, AreUnique}
 
 abbrev IsKeyed : (ℕ × ℕ) × Parameter → Type 0
 IsKeyed e = (e.0.0 ≡ e.1.label) × (e.0.1 ≡ e.1.equipment)
@@ -21,7 +21,7 @@ lookup-row_of [] label equipment keyed = refl
 lookup-row_of (e ∷ es) label equipment keyed =
     let head = All-head IsKeyed e es keyed in
     ap (λ (k : ℕ × ℕ). cond (same_key (label, equipment) k) (Some e.1) (lookup (same_key (label, equipment)) es)) (λ i. (head.0 i, head.1 i))
-    ∙ ap (λ (r : Option Parameter). cond (is_of label equipment e.1) (Some e.1) r) (lookup-row_of es label equipment (All-tail IsKeyed e es keyed))
+    ∙ ap (λ (r : Option Parameter). cond (is_row_of label equipment e.1) (Some e.1) r) (lookup-row_of es label equipment (All-tail IsKeyed e es keyed))
 
 pub keyed_push : (es : List ((ℕ × ℕ) × Parameter)) (row : Parameter) → AreKeyed es → AreKeyed (es ++ ((row.label, row.equipment), row) ∷ [])
 keyed_push es row keyed = All-push IsKeyed es ((row.label, row.equipment), row) keyed (refl, refl)
@@ -52,7 +52,7 @@ none_passes test [] i a none at = absurd (cc)
 none_passes test (r ∷ rest) i a none at = none_step test r rest a i (test r) refl none at (λ j. none_passes test rest j a)
 
 -- a row of this label and equipment code passes the test of them
-passes : (a b : Parameter) → a.label ≡ b.label → a.equipment ≡ b.equipment → is_of a.label a.equipment b ≡ true
+passes : (a b : Parameter) → a.label ≡ b.label → a.equipment ≡ b.equipment → is_row_of a.label a.equipment b ≡ true
 passes a b labels equipments =
     let first = eq-eqb a.label b.label labels in
     let second = eq-eqb a.equipment b.equipment equipments in
@@ -62,7 +62,7 @@ passes a b labels equipments =
 other : (rows : List Parameter) (row : Parameter) (i : ℕ) (a : Parameter) → row_of rows row.label row.equipment ≡ None → slice_get rows i ≡ Some a
     → row.label ≡ a.label → row.equipment ≡ a.equipment → ⊥
 other rows row i a none at labels equipments =
-    let no = none_passes (is_of row.label row.equipment) rows i a none at in
+    let no = none_passes (is_row_of row.label row.equipment) rows i a none at in
     let yes = passes row a labels equipments in
     cc
 

@@ -5,12 +5,12 @@ use Rattle.dc_dict.specs.declared.fault.DictFault.TheVariants.{Doubled, MinOverM
 use Rattle.dc_dict.specs.declared.parameter.Parameter.{Parameter}
 
 -- whether a row is that of a label and an equipment code
-abbrev pub is_of : (label equipment : ℕ) → Parameter → Bool
-is_of label equipment row = label == row.label && equipment == row.equipment
+abbrev pub is_row_of : (label equipment : ℕ) → Parameter → Bool
+is_row_of label equipment row = label == row.label && equipment == row.equipment
 
 -- the row of a label and an equipment code
 abbrev pub row_of : List Parameter → (label equipment : ℕ) → Option Parameter
-row_of rows label equipment = find (is_of label equipment) rows
+row_of rows label equipment = find (is_row_of label equipment) rows
 
 -- why a row is refused: the first of these that applies
 unfoldable pub refusal_of : List Parameter → Parameter → Option DictFault

@@ -42,7 +42,7 @@ pub(crate) trait Player<L: Charter>: Sized {
     ghost seat: { Self → SeatView };
 
     // that it is of this hub
-    ghost is_of: { TableId × List ℕ → Self → Type 0 };
+    ghost is_of_hub: { TableId × List ℕ → Self → Type 0 };
 
     /// The seat, without its kind.
     fn plain(&self) -> &Seat<L>
@@ -59,9 +59,9 @@ pub(crate) trait Player<L: Charter>: Sized {
         script: &Script,
         start: usize,
     ) -> Result<(), DriveFault>
-        requires { is_of hub.now self.old }
+        requires { is_of_hub hub.now self.old }
         ensures same { IsSameSeat (seat self.old) (seat self.new) }
-        ensures of_hub { is_of hub.now self.new }
+        ensures of_hub { is_of_hub hub.now self.new }
         ensures halts { IfErr result (HaltsAs L.certified L.limit ⊥) };
 }
 
@@ -75,9 +75,9 @@ pub(crate) fn play<L: Charter, S: Player<L>, R: Wait, G: Gate>(
     tick: u64,
     seat: &mut S,
 ) -> Result<(), DriveFault>
-    requires { S.is_of hub.now seat.old }
+    requires { S.is_of_hub hub.now seat.old }
     ensures same { IsSameSeat (S.seat seat.old) (S.seat seat.new) }
-    ensures of_hub { S.is_of hub.now seat.new }
+    ensures of_hub { S.is_of_hub hub.now seat.new }
     ensures halts { IfErr result (HaltsAs L.certified L.limit (G.may_stick stage.now.gate.now number)) }
 {
     for _ in 0..seat.steps(stage.tables, stage.script, start, tick) {
@@ -154,7 +154,7 @@ fn words_in(words: &[Timed], tick: u64) -> usize {
 impl<L: Charter> Player<L> for WireSeat<L> {
     ghost seat = { λ w. w.seat };
 
-    ghost is_of = { λ hub w. IsSeatOf hub w.marks };
+    ghost is_of_hub = { λ hub w. IsSeatOf hub w.marks };
 
     fn plain(&self) -> &Seat<L> {
         self.seat()
@@ -194,7 +194,7 @@ impl<L: Charter> Player<L> for WireSeat<L> {
 impl<L: Charter> Player<L> for RouterSeat<L> {
     ghost seat = { λ s. s };
 
-    ghost is_of = { λ _ _. Unit {0} };
+    ghost is_of_hub = { λ _ _. Unit {0} };
 
     fn plain(&self) -> &Seat<L> {
         self.seat()
@@ -221,7 +221,7 @@ impl<L: Charter> Player<L> for RouterSeat<L> {
 impl<L: Charter> Player<L> for OutputSeat<L> {
     ghost seat = { λ s. s };
 
-    ghost is_of = { λ _ _. Unit {0} };
+    ghost is_of_hub = { λ _ _. Unit {0} };
 
     fn plain(&self) -> &Seat<L> {
         self.seat()

@@ -30,7 +30,7 @@ pub(crate) struct Returns<L: Charter, S, G> {
 }
 
 impl<L: Charter, S: Player<L>, G: Gate> Promise<Done<S>> for Returns<L, S, G> {
-    ghost kept_by = { λ p r. IsSameSeat (S.seat p.seat.value) (S.seat r.seat) × S.is_of p.hub.value r.seat × IfErr r.end (HaltsAs L.certified L.limit (MayStickAt (G.may_stick p.gate.value))) };
+    ghost kept_by = { λ p r. IsSameSeat (S.seat p.seat.value) (S.seat r.seat) × S.is_of_hub p.hub.value r.seat × IfErr r.end (HaltsAs L.certified L.limit (MayStickAt (G.may_stick p.gate.value))) };
 }
 
 pub(crate) type Child<L, S, G> = PromisedHandle<Done<S>, Returns<L, S, G>>;
@@ -43,9 +43,9 @@ fn run<L: Charter, S: Player<L> + Drop, R: Wait, G: Gate>(
     number: u64,
     mut seat: S,
 ) -> Done<S>
-    requires { S.is_of hub.now seat }
+    requires { S.is_of_hub hub.now seat }
     ensures same { IsSameSeat (S.seat seat) (S.seat result.seat) }
-    ensures of_hub { S.is_of hub.now result.seat }
+    ensures of_hub { S.is_of_hub hub.now result.seat }
     ensures halts { IfErr result.end (HaltsAs L.certified L.limit (G.may_stick stage.now.gate.now number)) }
 {
     let start = seat.plain().receipts().len();
@@ -120,9 +120,9 @@ fn start<
     number: u64,
     seat: S,
 ) -> Result<Child<L, S, G>, S>
-    requires { S.is_of hub.now seat }
+    requires { S.is_of_hub hub.now seat }
     ensures ok { IfOk result (λ h. (h.promise.seat.value ≡ seat) × (h.promise.hub.value ≡ hub.now) × (h.promise.gate.value ≡ stage.now.gate.now)) }
-    ensures err { IfErr result (λ s. IsSameSeat (S.seat seat) (S.seat s) × S.is_of hub.now s) }
+    ensures err { IfErr result (λ s. IsSameSeat (S.seat seat) (S.seat s) × S.is_of_hub hub.now s) }
 {
     let promise = Returns {
         seat: Snapshot::of(&seat),
@@ -132,8 +132,8 @@ fn start<
     let spawned = scope.spawn_with(
         promise,
         move || -> Done<S>
-            requires { S.is_of hub.now seat }
-            ensures { IsSameSeat (S.seat seat) (S.seat result.seat) × S.is_of hub.entry.now result.seat × IfErr result.end (HaltsAs L.certified L.limit (MayStickAt (G.may_stick stage.entry.now.gate.now))) }
+            requires { S.is_of_hub hub.now seat }
+            ensures { IsSameSeat (S.seat seat) (S.seat result.seat) × S.is_of_hub hub.entry.now result.seat × IfErr result.end (HaltsAs L.certified L.limit (MayStickAt (G.may_stick stage.entry.now.gate.now))) }
         { run(rt, hub, stage, number, seat) },
     );
     match spawned {
@@ -165,10 +165,10 @@ fn start_all<
     seats: &mut Vec<S>,
     children: &mut Vec<Child<L, S, G>>,
 ) -> Result<(), DriveFault>
-    requires of_hub { All (S.is_of hub.now) seats.old.items }
+    requires of_hub { All (S.is_of_hub hub.now) seats.old.items }
     requires room { (vec_len children.old ≡ 0) × (vec_len seats.old ≤ vec_capacity children.old) }
     ensures same { AreSame S.seat seats.old.items (seats.new.items ++ out_with (λ h. h.promise.seat.value) children.new.items) }
-    ensures of_hub { All (S.is_of hub.now) seats.new.items }
+    ensures of_hub { All (S.is_of_hub hub.now) seats.new.items }
     ensures hubs { All (λ h. (h.promise.hub.value ≡ hub.now) × (h.promise.gate.value ≡ stage.now.gate.now)) children.new.items }
     ensures halts { IfErr started (HaltsAs L.certified L.limit (MayStickAt (G.may_stick stage.now.gate.now))) → IfErr result (HaltsAs L.certified L.limit (MayStickAt (G.may_stick stage.now.gate.now))) }
     ensures room { (vec_capacity seats.new ≡ vec_capacity seats.old) × (vec_len seats.new + vec_len children.new ≡ vec_len seats.old) }
@@ -195,11 +195,11 @@ fn join_all<L: Charter, S: Player<L> + Drop, R: Threads, G: Gate>(
     children: &mut Vec<Child<L, S, G>>,
     seats: &mut Vec<S>,
 ) -> Result<(), DriveFault>
-    requires of_hub { All (S.is_of hub.now) seats.old.items }
+    requires of_hub { All (S.is_of_hub hub.now) seats.old.items }
     requires hubs { All (λ h. (h.promise.hub.value ≡ hub.now) × (h.promise.gate.value ≡ gate.now)) children.old.items }
     requires room { vec_len seats.old + vec_len children.old ≤ vec_capacity seats.old }
     ensures same { AreSame S.seat (seats.old.items ++ out_with (λ h. h.promise.seat.value) children.old.items) seats.new.items }
-    ensures of_hub { All (S.is_of hub.now) seats.new.items }
+    ensures of_hub { All (S.is_of_hub hub.now) seats.new.items }
     ensures halts { IfErr result (HaltsAs L.certified L.limit (MayStickAt (G.may_stick gate.now))) }
 {
     let _hub = hub;

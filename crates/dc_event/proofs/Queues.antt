@@ -15,7 +15,7 @@ use Rattle.dc_bound.specs.lemmas.QueueTimes.{entered-le, arrived-le-routed}
 use Rattle.dc_word.specs.Word.{is_odd}
 use Rattle.dc_tables.specs.Declares.{stream_of}
 use Rattle.dc_tables.specs.TableRows.{TableRows}
-use Rattle.dc_event.specs.Offers.{refuses, let_in}
+use Rattle.dc_event.specs.Offers.{refuses_early, let_in}
 use Rattle.dc_event.specs.Buses.{visited_bus, in_of, move_of, moves, room, is_latched, bus_entered, bus_taken, bus_item, backlog}
 use Rattle.dc_event.specs.Outputs.{sent}
 use Rattle.dc_event.specs.Replies.{reply, outputs_of}
@@ -206,7 +206,7 @@ module _ (t : TableRows) (b : ℕ) (run : List Event) where
         | true ↦ front-arrival (room t b) (moves t b run) (let_in t b run (stream_of t b w)) w
         | false ↦ ap (front (room t b)) (append-nil (moves t b run))
       ] in
-      quiet (Arrive w a) same (arrival_takes_nothing b (backlog t a (run ++ Arrive w a ∷ [])) (not (is_odd w)) (not (is_some (stream_of t a w))) (refuses t a run (stream_of t a w)) (is_latched t a run) (is_latched t a (run ++ Arrive w a ∷ [])))
+      quiet (Arrive w a) same (arrival_takes_nothing b (backlog t a (run ++ Arrive w a ∷ [])) (not (is_odd w)) (not (is_some (stream_of t a w))) (refuses_early t a run (stream_of t a w)) (is_latched t a run) (is_latched t a (run ++ Arrive w a ∷ [])))
 
   step-send : (o : ℕ) → Steps (Send o)
   unfolding reply

@@ -3,9 +3,9 @@ use Rattle.std.proofs.Common.{◌≡◌, ℕ, zero, suc, ◌+◌, ◌-◌, ◌*�
 use Rattle.std.proofs.lemmas.List.{append-nil}
 use Rattle.std.proofs.lemmas.Bool.{cases_lt, cases_eq, eq-eqb, ne_eqb}
 use Rattle.std.proofs.Math.Nat.{mul-le-mul_left, mul-mod_right, mod-lt}
-use Rattle.dc_bound.specs.Window.{HoldAtLeast, count_in, within, ticks_of}
+use Rattle.dc_bound.specs.Window.{HoldAtLeast, count_in, one_in, ticks_of}
 use Rattle.dc_bound.specs.Run.{ticks, picks, one_if, stamp, stamped}
-use Rattle.dc_bound.specs.lemmas.Counts.{within_cases}
+use Rattle.dc_bound.specs.lemmas.Counts.{one_in_cases}
 use Rattle.dc_bound.specs.lemmas.Budget.{pace_times}
 use Rattle.dc_bound.specs.lemmas.Segments.{ticks-append, picks-append}
 use Rattle.dc_bound.specs.lemmas.Steps.{stamped-append, ticks_of-append, count-append, stamped-count}
@@ -51,14 +51,14 @@ module _ (pick : Event → Option ℕ) where
       ]
 
   -- the events of one tick are picked in it
-  same_tick : (u d t : ℕ) (es : List Event) → ticks ends es ≡ 0 → count_in u d (ticks_of (stamped ends pick t es)) ≡ picks pick es * within u d t
+  same_tick : (u d t : ℕ) (es : List Event) → ticks ends es ≡ 0 → count_in u d (ticks_of (stamped ends pick t es)) ≡ picks pick es * one_in u d t
   unfolding stamped count_in picks ticks
   same_tick u d t [] h = omega arith
   same_tick u d t (e ∷ es) h =
       let stays : t + ends e ≡ t = omega arith in
-      let rest : count_in u d (ticks_of (stamped ends pick t es)) ≡ picks pick es * within u d t = same_tick u d t es (omega arith) in
+      let rest : count_in u d (ticks_of (stamped ends pick t es)) ≡ picks pick es * one_in u d t = same_tick u d t es (omega arith) in
       let moved : count_in u d (ticks_of (stamp t (pick e) (stamped ends pick (t + ends e) es))) ≡ count_in u d (ticks_of (stamp t (pick e) (stamped ends pick t es))) = ap (λ k. count_in u d (ticks_of (stamp t (pick e) (stamped ends pick k es)))) stays in
-      moved ∙ elim (pick e) as (λ o. count_in u d (ticks_of (stamp t o (stamped ends pick t es))) ≡ (one_if o + picks pick es) * within u d t) [
+      moved ∙ elim (pick e) as (λ o. count_in u d (ticks_of (stamp t o (stamped ends pick t es))) ≡ (one_if o + picks pick es) * one_in u d t) [
         | None ↦ omega (arith, rest)
         | Some x ↦ omega (arith, rest)
       ]
@@ -68,14 +68,14 @@ module _ (pick : Event → Option ℕ) where
 -- the sum of c k over the ticks k below n in the window
 total : (ℕ → ℕ) → ℕ → ℕ → ℕ → ℕ
 total c u d zero = 0
-total c u d (suc n) = total c u d n + c n * within u d n
+total c u d (suc n) = total c u d n + c n * one_in u d n
 
 overlap : ℕ → ℕ → ℕ → ℕ
 overlap u d n = min n (u + d) - min n u
 
-overlap-next : (u d n : ℕ) → overlap u d (suc n) ≡ overlap u d n + within u d n
+overlap-next : (u d n : ℕ) → overlap u d (suc n) ≡ overlap u d n + one_in u d n
 unfolding overlap
-overlap-next u d n = elim (within_cases u d n) [ inl w ↦ omega arith | inr v ↦ elim v [ inl w ↦ omega arith | inr w ↦ omega arith ] ]
+overlap-next u d n = elim (one_in_cases u d n) [ inl w ↦ omega arith | inr v ↦ elim v [ inl w ↦ omega arith | inr w ↦ omega arith ] ]
 
 total-const : (m u d n : ℕ) → total (λ _. m) u d n ≡ m * overlap u d n
 unfolding total
@@ -92,11 +92,11 @@ overlap-le u d n = omega arith
 
 -- ---- multiples of a gap
 
-total-member : (c : ℕ → ℕ) (u d n k : ℕ) → k < n → c k * within u d k ≤ total c u d n
+total-member : (c : ℕ → ℕ) (u d n k : ℕ) → k < n → c k * one_in u d k ≤ total c u d n
 unfolding total
 total-member c u d zero k h = absurd (omega arith)
 total-member c u d (suc n) k h = elim (cases_eq k n) [
-  | inl same ↦ omega (arith, ap (λ k. c k * within u d k) same)
+  | inl same ↦ omega (arith, ap (λ k. c k * one_in u d k) same)
   | inr other ↦ omega (arith, total-member c u d n k (let l : k < n = omega arith in l))
 ]
 
@@ -110,8 +110,8 @@ at_gap-yes g k h = let e : eqb (k % g) 0 ≡ true = eq-eqb (k % g) 0 h in rw e r
 at_gap-no : (g k : ℕ) → (k % g ≡ 0 → ⊥) → at_gap g k ≡ 0
 at_gap-no g k h = let e : eqb (k % g) 0 ≡ false = ne_eqb (k % g) 0 h in rw e refl
 
-within-in : (u d k : ℕ) → u ≤ k → k < u + d → within u d k ≡ 1
-within-in u d k h l = elim (within_cases u d k) [ inl w ↦ w.2 | inr v ↦ elim v [ inl w ↦ absurd (omega arith) | inr w ↦ absurd (omega arith) ] ]
+one_in-inside : (u d k : ℕ) → u ≤ k → k < u + d → one_in u d k ≡ 1
+one_in-inside u d k h l = elim (one_in_cases u d k) [ inl w ↦ w.2 | inr v ↦ elim v [ inl w ↦ absurd (omega arith) | inr w ↦ absurd (omega arith) ] ]
 
 -- the first multiple of the gap from u on
 first_multiple : (g u : ℕ) → 1 ≤ g → (k : ℕ) × (u ≤ k) × (k < u + g) × (k % g ≡ 0)
@@ -133,8 +133,8 @@ gap-window g u n some whole =
       arith,
       total-member (at_gap g) u g n k.0 (omega (arith, k.2)),
       at_gap-yes g k.0 k.3,
-      within-in u g k.0 k.1 k.2,
-      ap (λ x. x * within u g k.0) (at_gap-yes g k.0 k.3),
+      one_in-inside u g k.0 k.1 k.2,
+      ap (λ x. x * one_in u g k.0) (at_gap-yes g k.0 k.3),
     )
 
 -- none in the window yet, or one that is a multiple in it
@@ -145,14 +145,14 @@ one_so_far : (g u n : ℕ) → 1 ≤ g → OneSoFar g u n
 unfolding OneSoFar total
 one_so_far g u zero some = inl refl
 one_so_far g u (suc n) some =
-    let none : (at_gap g n * within u g n ≡ 0) → (total (at_gap g) u g n + at_gap g n * within u g n ≡ 0) ⊎ ((k : ℕ) × (k < suc n) × (u ≤ k) × (k % g ≡ 0) × (total (at_gap g) u g n + at_gap g n * within u g n ≡ 1)) =
+    let none : (at_gap g n * one_in u g n ≡ 0) → (total (at_gap g) u g n + at_gap g n * one_in u g n ≡ 0) ⊎ ((k : ℕ) × (k < suc n) × (u ≤ k) × (k % g ≡ 0) × (total (at_gap g) u g n + at_gap g n * one_in u g n ≡ 1)) =
     λ z. elim (one_so_far g u n some) [ inl w ↦ inl (omega arith) | inr (k, l, m, e, s) ↦ inr (k, omega arith, m, e, omega arith) ] in
     elim (cases_eq (n % g) 0) [
-      | inr other ↦ none (omega (arith, ap (λ x. x * within u g n) (at_gap-no g n other)))
-      | inl hit ↦ elim (within_cases u g n) [
+      | inr other ↦ none (omega (arith, ap (λ x. x * one_in u g n) (at_gap-no g n other)))
+      | inl hit ↦ elim (one_in_cases u g n) [
         | inr v ↦ elim v [ inl w ↦ none (omega (arith, ap (λ x. at_gap g n * x) w.1)) | inr w ↦ none (omega (arith, ap (λ x. at_gap g n * x) w.1)) ]
         | inl w ↦ elim (one_so_far g u n some) [
-          | inl z ↦ inr (n, omega arith, w.0, hit, omega (arith, ap (λ x. x * within u g n) (at_gap-yes g n hit), w.2))
+          | inl z ↦ inr (n, omega arith, w.0, hit, omega (arith, ap (λ x. x * one_in u g n) (at_gap-yes g n hit), w.2))
           | inr (k, l, m, e, s) ↦ absurd (omega (arith, multiples_apart g k n some e hit l, w.1))
         ]
       ]
@@ -208,7 +208,7 @@ module _ (t : TableRows) (pick : Event → Option ℕ) (no_tick : pick Tick ≡ 
   abbrev held : ℕ → ℕ → ℕ → ℕ
   held u d n = count_in u d (ticks_of (stamped ends pick 0 (steady t n)))
 
-  last_tick : (u d n : ℕ) → count_in u d (ticks_of (stamped ends pick n (steady_tick t n))) ≡ c n * within u d n
+  last_tick : (u d n : ℕ) → count_in u d (ticks_of (stamped ends pick n (steady_tick t n))) ≡ c n * one_in u d n
   unfolding stamped count_in
   last_tick u d n =
       let none : ticks_of (stamp (n + ticks ends (steps_of t n)) (pick Tick) []) ≡ [] = ap (λ o. ticks_of (stamp (n + ticks ends (steps_of t n)) o [])) no_tick in
@@ -218,7 +218,7 @@ module _ (t : TableRows) (pick : Event → Option ℕ) (no_tick : pick Tick ≡ 
       ∙ ap (λ xs. count_in u d (ticks_of (stamped ends pick n (steps_of t n)) ++ xs)) none
       ∙ ap (count_in u d) (append-nil (ticks_of (stamped ends pick n (steps_of t n))))
       ∙ same_tick pick u d n (steps_of t n) (steps_of-ticks t n)
-      ∙ ap (λ x. x * within u d n) (each n)
+      ∙ ap (λ x. x * one_in u d n) (each n)
 
   held-nil : (u d : ℕ) → count_in u d (ticks_of (stamped ends pick 0 [])) ≡ 0
   unfolding stamped count_in

@@ -6,18 +6,18 @@ use Rattle.dc_event.specs.Buses.{moves, room}
 use Rattle.dc_event.specs.declared.event.Event.{Event}
 
 -- whether an item is of the stream
-abbrev pub is_of : ℕ → ℕ × ℕ → Bool
-is_of s x = x.0 == s
+abbrev pub is_of_stream : ℕ → ℕ × ℕ → Bool
+is_of_stream s x = x.0 == s
 
 -- the latest word of the stream among those taken from its bus, with the number of the stream, and the tick in which it was routed
 unfoldable pub latest : TableRows → ℕ → List Event → Option ((ℕ × ℕ) × ℕ)
 latest t s run =
     let b = (stream_row t s).bus in
-    latest_by (room t b) (is_of s) (moves t b run)
+    latest_by (room t b) (is_of_stream s) (moves t b run)
 
 -- the tick in which that word came to its bus
 unfoldable pub latest_arrived : TableRows → ℕ → List Event → Option ℕ
 latest_arrived t s run =
     let b = (stream_row t s).bus in
     let ms = moves t b run in
-    (elim (latest_number (room t b) (is_of s) ms) [ None ↦ None | Some n ↦ Some (arrived_tick n ms) ])
+    (elim (latest_number (room t b) (is_of_stream s) ms) [ None ↦ None | Some n ↦ Some (arrived_tick n ms) ])

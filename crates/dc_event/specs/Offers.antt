@@ -40,10 +40,10 @@ unfoldable pub is_early : TableRows → ℕ → List Event → Bool
 is_early t s past = would_pass (cap_of t s) (admitted (cap_of t s) (offered t s past)) (tick_after past)
 
 -- whether the bus refuses a word of the stream, where there is one: a policed bus refuses early words
-abbrev pub refuses : TableRows → ℕ → List Event → Option ℕ → Bool
-refuses t b past None = false
-refuses t b past (Some s) = is_policed t b && is_early t s past
+abbrev pub refuses_early : TableRows → ℕ → List Event → Option ℕ → Bool
+refuses_early t b past None = false
+refuses_early t b past (Some s) = is_policed t b && is_early t s past
 
 -- the stream, where the bus does not refuse its word
 abbrev pub let_in : TableRows → ℕ → List Event → Option ℕ → Option ℕ
-let_in t b past o = cond (refuses t b past o) None o
+let_in t b past o = cond (refuses_early t b past o) None o

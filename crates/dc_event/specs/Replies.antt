@@ -5,7 +5,7 @@ use Rattle.dc_word.specs.Word.{is_odd}
 use Rattle.dc_tables.specs.Declares.{stream_of}
 use Rattle.dc_tables.specs.TableRows.{TableRows, label_row}
 use Rattle.dc_event.specs.Time.{tick_after}
-use Rattle.dc_event.specs.Offers.{refuses}
+use Rattle.dc_event.specs.Offers.{refuses_early}
 use Rattle.dc_event.specs.Buses.{visited_bus, is_latched, bus_taken, bus_item, backlog}
 use Rattle.dc_event.specs.Outputs.{entry_label, sent}
 use Rattle.dc_event.specs.Choice.{chosen}
@@ -20,7 +20,7 @@ arrive_reply t past b w =
     let now = past ++ Arrive w b ∷ [] in
     if not (is_odd w) then BadParity
     else if not (is_some (stream_of t b w)) then Undeclared
-    else if refuses t b past (stream_of t b w) then TooEarly
+    else if refuses_early t b past (stream_of t b w) then TooEarly
     else if is_latched t b past then Latched
     else if is_latched t b now then Overrun
     else Queued (backlog t b now)

@@ -14,9 +14,9 @@ use Rattle.dc_check.specs.declared.fault.Condition.{Condition}
 use Rattle.dc_check.specs.declared.fault.Condition.TheVariants.{NamesDiffer, WindowOutOfRange, WindowDoesNotClose, BacklogTooSmall, QueueTooShort, DelayTooSmall, DelayOutOfRange, SentTooSoon, SentTooLate, AgeTooSmall, AgeOverLimit, SourceGoesStale}
 use Rattle.dc_check.specs.lemmas.Exact.{all-le, le-all, label-none, job-label}
 use Rattle.dc_find.proofs.Claimed.{input-row, output-row, label-row, queues-accepted, inputs-clear, outputs-clear}
-use Rattle.dc_find.proofs.Parts.{label-clear, first-of_all}
+use Rattle.dc_find.proofs.Jobs.{label-clear, first-of_all}
 use Rattle.dc_find.specs.Rows.{AreInputRows, AreOutputRows, AreLabelRows, IsOldEnough}
-use Rattle.dc_find.specs.Ways.{AcceptsQueues, KeepsRule, code_rank, rank_of, part_of, StandsInTheWay, IsFirstOfPart, IsFirstInTheWay, IsClearBelow}
+use Rattle.dc_find.specs.Ways.{AcceptsQueues, KeepsRule, code_rank, rank_of, job_of, StandsInTheWay, IsFirstOfJob, IsFirstInTheWay, IsClearBelow}
 use Rattle.dc_find.specs.declared.fault.FindFault.{FindFault}
 use Rattle.dc_find.specs.declared.fault.FindFault.TheVariants.{WindowNeverCloses, QueueTooShort, LabelRule, Memory}
 use Rattle.dc_find.specs.declared.fault.Queue.TheVariants.{Input, Output}
@@ -154,13 +154,13 @@ module _ (t : TableRows) (x : ℕ) (c : CertificateRows) where
 
 module _ (t : TableRows) (v : AreValid t) (claims : NamedRows) (inputs : AreInputRows t claims.inputs) (outputs : AreOutputRows t claims.outputs) (labels : AreLabelRows t claims.inputs claims.labels) where
   -- a rule that it breaks stands in the way, and none before it
-  broken-of_part : (x : ℕ) → x < length t.labels → (condition : Condition) → IsBroken t x (numbers_of claims) condition → IsFirstOfPart t (length t.buses + length t.outputs + x) (LabelRule x condition)
-  broken-of_part x there condition broken = record {
+  broken-of_job : (x : ℕ) → x < length t.labels → (condition : Condition) → IsBroken t x (numbers_of claims) condition → IsFirstOfJob t (length t.buses + length t.outputs + x) (LabelRule x condition)
+  broken-of_job x there condition broken = record {
     here = refl;
     stands = (there, λ other queues kept. broken.breaks (rule-kept t v claims inputs outputs other queues labels x there condition kept));
     first = before;
   } where
-    before : (other : FindFault) → part_of t other ≡ length t.buses + length t.outputs + x → rank_of other < code_rank condition → ¬ StandsInTheWay t other
+    before : (other : FindFault) → job_of t other ≡ length t.buses + length t.outputs + x → rank_of other < code_rank condition → ¬ StandsInTheWay t other
     before (WindowNeverCloses (Input i)) at l stands = absurd (omega (arith, at, stands.0))
     before (WindowNeverCloses (Output o)) at l stands = absurd (omega (arith, at, stands.0))
     before (QueueTooShort i) at l stands = absurd (omega (arith, at, stands.0))
@@ -171,19 +171,19 @@ module _ (t : TableRows) (v : AreValid t) (claims : NamedRows) (inputs : AreInpu
 
   -- no label before it stands in the way, where these are accepted
   labels-clear : (n : ℕ) → n ≤ length t.labels → ((x : ℕ) → x < n → AcceptsLabel t x (numbers_of claims)) → IsClearBelow t (length t.buses + length t.outputs + n)
-  labels-clear n few kept part below other at =
-      elim (cases_lt part (length t.buses + length t.outputs)) [
-        | inl l ↦ outputs-clear t (length t.outputs) claims.outputs (omega arith) (inputs-clear t (length t.buses) claims.inputs (omega arith) (record { count = inputs.count; each = inputs.each })) (record { count = outputs.count; each = outputs.each }) part l other at
+  labels-clear n few kept job below other at =
+      elim (cases_lt job (length t.buses + length t.outputs)) [
+        | inl l ↦ outputs-clear t (length t.outputs) claims.outputs (omega arith) (inputs-clear t (length t.buses) claims.inputs (omega arith) (record { count = inputs.count; each = inputs.each })) (record { count = outputs.count; each = outputs.each }) job l other at
         | inr g ↦
-            let x : ℕ = part - (length t.buses + length t.outputs) in
-            label-clear t (part - (length t.buses + length t.outputs)) (omega arith) (numbers_of claims) (queues-accepted t claims inputs outputs) (kept (part - (length t.buses + length t.outputs)) (omega arith)) other (at ∙ omega arith)
+            let x : ℕ = job - (length t.buses + length t.outputs) in
+            label-clear t (job - (length t.buses + length t.outputs)) (omega arith) (numbers_of claims) (queues-accepted t claims inputs outputs) (kept (job - (length t.buses + length t.outputs)) (omega arith)) other (at ∙ omega arith)
       ]
 
   pub label-broken : (x : ℕ) → x < length t.labels → ((y : ℕ) → y < x → AcceptsLabel t y (numbers_of claims)) → (f : CheckFault) →
       job_verdict t (numbers_of claims) (length t.buses + length t.outputs + x) ≡ Some f → IsFirstInTheWay t (LabelRule x f.condition)
   label-broken x there kept f reported =
       first-of_all t (length t.buses + length t.outputs + x) (LabelRule x f.condition) (labels-clear x (omega arith) kept)
-      (broken-of_part x there f.condition (broken-first t x (numbers_of claims) f (label-row t claims labels x there).0 (sym (job-label t (numbers_of claims) x) ∙ reported)))
+      (broken-of_job x there f.condition (broken-first t x (numbers_of claims) f (label-row t claims labels x there).0 (sym (job-label t (numbers_of claims) x) ∙ reported)))
 
   pub label-kept : (x : ℕ) → job_verdict t (numbers_of claims) (length t.buses + length t.outputs + x) ≡ None → AcceptsLabel t x (numbers_of claims)
   label-kept x reported = label-none t (numbers_of claims) x (sym (job-label t (numbers_of claims) x) ∙ reported)

@@ -10,7 +10,7 @@ use Rattle.dc_cert.specs.NamedRows.{NamedInput, NamedOutput, NamedLabel, NamedRo
 use Rattle.dc_cert.specs.declared.certificate.InputRow.{InputRow}
 use Rattle.dc_check.specs.Accepts.{AcceptsLabel, IsNamed, AreNamed, Accepts, source_delay}
 use Rattle.dc_find.proofs.Lists.{AreRows}
-use Rattle.dc_find.proofs.Parts.{input-clear, output-clear}
+use Rattle.dc_find.proofs.Jobs.{input-clear, output-clear}
 use Rattle.dc_find.specs.Least.{IsLeastAccepted}
 use Rattle.dc_find.specs.Rows.{EachAt, IsLeastInput, IsLeastOutput, IsInputRow, IsOutputRow, AreInputRows, AreOutputRows, AreLabelRows, IsOldEnough, inputs_alone}
 use Rattle.dc_find.specs.Ways.{AcceptsQueues, IsClearBelow}
@@ -30,16 +30,16 @@ no_label = record { label = []; age = 0 }
 -- ---- nothing stands in the way of rows that are accepted
 
 pub inputs-clear : (t : TableRows) (n : ℕ) (inputs : List NamedInput) → n ≤ length t.buses → AreRows (IsInputRow t) n inputs → IsClearBelow t n
-inputs-clear t n inputs few rows part below =
-    input-clear t part (omega arith) _ (rows.each part no_input (omega (arith, rows.count))).least.accepted
+inputs-clear t n inputs few rows job below =
+    input-clear t job (omega arith) _ (rows.each job no_input (omega (arith, rows.count))).least.accepted
 
 pub outputs-clear : (t : TableRows) (n : ℕ) (outputs : List NamedOutput) → n ≤ length t.outputs → IsClearBelow t (length t.buses) → AreRows (IsOutputRow t) n outputs → IsClearBelow t (length t.buses + n)
-outputs-clear t n outputs few clear rows part below other at =
-    elim (cases_lt part (length t.buses)) [
-      | inl l ↦ clear part l other at
+outputs-clear t n outputs few clear rows job below other at =
+    elim (cases_lt job (length t.buses)) [
+      | inl l ↦ clear job l other at
       | inr g ↦
-          let o : ℕ = part - length t.buses in
-          output-clear t (part - length t.buses) (omega arith) _ (rows.each (part - length t.buses) no_output (omega (arith, rows.count))).least.accepted other (at ∙ omega arith)
+          let o : ℕ = job - length t.buses in
+          output-clear t (job - length t.buses) (omega arith) _ (rows.each (job - length t.buses) no_output (omega (arith, rows.count))).least.accepted other (at ∙ omega arith)
     ]
 
 -- ---- the numbers of claims

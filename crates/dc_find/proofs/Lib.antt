@@ -1,4 +1,4 @@
-pub mod Parts
+pub mod Jobs
 pub mod Numbers
 pub mod Lists
 pub mod Claimed

@@ -5,7 +5,7 @@ use Rattle.dc_busy.specs.Least.{IsLeast, IsLeastUpToLongest, ClosesWithin}
 use Rattle.dc_busy.specs.lemmas.Least.{shorter-backlog, shorter-delay}
 use Rattle.dc_check.specs.Accepts.{WindowCloses, DelayHolds}
 use Rattle.dc_find.specs.Rows.{AreLeastTimes, IsLeastInput, IsLeastOutput}
-use Rattle.dc_find.specs.Ways.{NeverFits, StandsInTheWay, part_of, rank_of, IsFirstOfPart}
+use Rattle.dc_find.specs.Ways.{NeverFits, StandsInTheWay, job_of, rank_of, IsFirstOfJob}
 use Rattle.dc_find.specs.declared.fault.FindFault.{FindFault}
 use Rattle.dc_find.specs.declared.fault.FindFault.TheVariants.{WindowNeverCloses, QueueTooShort, LabelRule, Memory}
 use Rattle.dc_find.specs.declared.fault.Queue.TheVariants.{Input, Output}
@@ -77,7 +77,7 @@ input-least t b a s same_cap same_floor window backlog delay times most fits = r
 
 -- where a window closes, nothing stands in the way before the queue
 before-queue : (t : TableRows) (b window : ℕ) → WindowCloses (bus_cap t b) (bus_floor t b) window → b < length t.buses →
-    (other : FindFault) → part_of t other ≡ b → rank_of other < 1 → ¬ StandsInTheWay t other
+    (other : FindFault) → job_of t other ≡ b → rank_of other < 1 → ¬ StandsInTheWay t other
 before-queue t b window closes there (WindowNeverCloses (Input i)) at before stands = stands.1 window (subst (λ k. WindowCloses (bus_cap t k) (bus_floor t k) window) (sym at) closes)
 before-queue t b window closes there (WindowNeverCloses (Output o)) at before stands = absurd (omega (arith, at))
 before-queue t b window closes there (QueueTooShort i) at before stands = absurd (omega (arith, before))
@@ -109,7 +109,7 @@ output-least t o a s same_cap same_floor window delay times = record {
 
 -- it is the first fault of the input, since a window closes
 pub input-first_fault : (t : TableRows) (b : ℕ) → b < length t.buses → (a s : ℕ → ℕ) → ((d : ℕ) → a d ≡ bus_cap t b d) → ((d : ℕ) → s d ≡ bus_floor t b d) →
-    (window backlog delay : ℕ) → AreLeastTimes a s window delay → IsLeast (BacklogBounded a s window) backlog → (bus_row t b).queue < backlog → IsFirstOfPart t b (QueueTooShort b)
+    (window backlog delay : ℕ) → AreLeastTimes a s window delay → IsLeast (BacklogBounded a s window) backlog → (bus_row t b).queue < backlog → IsFirstOfJob t b (QueueTooShort b)
 input-first_fault t b there a s same_cap same_floor window backlog delay times most over =
     let closes = window-there a s (bus_cap t b) (bus_floor t b) same_cap same_floor window times.closes in
     record {

@@ -5,7 +5,7 @@ use Rattle.std.proofs.lemmas.List.{get_or-map}
 use Rattle.dc_cert.specs.Bounds.{input_numbers, output_numbers}
 use Rattle.dc_cert.specs.NamedRows.{NamedRows}
 use Rattle.dc_find.proofs.Claimed.{no_input, no_output, are-named, label-row}
-use Rattle.dc_find.specs.Reached.{parts_reached, CloseBelow, IsReached, AreInputsReached, AreOutputsReached}
+use Rattle.dc_find.specs.Reached.{jobs_reached, CloseBelow, IsReached, AreInputsReached, AreOutputsReached}
 use Rattle.dc_find.specs.Rows.{AreLeastNumbers, IsLeastOutput, AreLabelRows}
 use Rattle.dc_find.specs.Ways.{NeverCloses, IsFirstInTheWay}
 use Rattle.dc_find.specs.declared.fault.FindFault.{FindFault}
@@ -15,7 +15,7 @@ use Rattle.dc_tables.specs.Named.{HaveNames}
 use Rattle.dc_tables.specs.TableRows.{TableRows, bus_cap, bus_floor, output_cap, output_floor}
 
 module _ (t : TableRows) where
-  inputs-close : (fault : FindFault) → IsFirstInTheWay t fault → (b : ℕ) → b < length t.buses → b < parts_reached t fault → ¬ NeverCloses (bus_cap t b) (bus_floor t b)
+  inputs-close : (fault : FindFault) → IsFirstInTheWay t fault → (b : ℕ) → b < length t.buses → b < jobs_reached t fault → ¬ NeverCloses (bus_cap t b) (bus_floor t b)
   inputs-close (WindowNeverCloses (Input i)) f b there l never = f.first (WindowNeverCloses (Input b)) (inl l) (there, never)
   inputs-close (WindowNeverCloses (Output o)) f b there l never = f.first (WindowNeverCloses (Input b)) (inl l) (there, never)
   inputs-close (QueueTooShort i) f b there l never =
@@ -26,20 +26,20 @@ module _ (t : TableRows) where
   inputs-close (LabelRule x condition) f b there l never = f.first (WindowNeverCloses (Input b)) (inl (omega (arith, there))) (there, never)
   inputs-close Memory f b there l never = absurd (omega (arith, l))
 
-  outputs-close : (fault : FindFault) → IsFirstInTheWay t fault → (o : ℕ) → o < length t.outputs → length t.buses + o < parts_reached t fault → ¬ NeverCloses (output_cap t o) (output_floor t o)
+  outputs-close : (fault : FindFault) → IsFirstInTheWay t fault → (o : ℕ) → o < length t.outputs → length t.buses + o < jobs_reached t fault → ¬ NeverCloses (output_cap t o) (output_floor t o)
   outputs-close (WindowNeverCloses (Input i)) f o there l never = absurd (omega (arith, l, f.stands.0))
   outputs-close (WindowNeverCloses (Output p)) f o there l never = f.first (WindowNeverCloses (Output o)) (inl l) (there, never)
   outputs-close (QueueTooShort i) f o there l never = absurd (omega (arith, l, f.stands.0))
   outputs-close (LabelRule x condition) f o there l never = f.first (WindowNeverCloses (Output o)) (inl (omega (arith, there))) (there, never)
   outputs-close Memory f o there l never = absurd (omega (arith, l))
 
-  -- a window closes in each of the parts before the first thing that stands in the way
-  pub close-below : (fault : FindFault) → IsFirstInTheWay t fault → CloseBelow t (parts_reached t fault)
+  -- a window closes in each of the jobs before the first thing that stands in the way
+  pub close-below : (fault : FindFault) → IsFirstInTheWay t fault → CloseBelow t (jobs_reached t fault)
   close-below fault f = record { inputs = inputs-close fault f; outputs = outputs-close fault f }
 
   -- the rows that were reached, as a certificate
-  pub reached : (parts : ℕ) (claims : NamedRows) → HaveNames t → AreInputsReached t parts claims.inputs → AreOutputsReached t parts claims.outputs → AreLabelRows t claims.inputs claims.labels → IsReached t parts claims
-  reached parts claims has_names inputs outputs labels = record {
+  pub reached : (jobs : ℕ) (claims : NamedRows) → HaveNames t → AreInputsReached t jobs claims.inputs → AreOutputsReached t jobs claims.outputs → AreLabelRows t claims.inputs claims.labels → IsReached t jobs claims
+  reached jobs claims has_names inputs outputs labels = record {
     named = are-named t claims has_names inputs.count (λ k d l. (inputs.each k d l).named) outputs.count (λ k d l. (outputs.each k d l).named) labels.count (λ k d l. (labels.each k d l).named);
     inputs = λ b there below.
         let inside : b < length claims.inputs = omega (arith, inputs.count, there) in

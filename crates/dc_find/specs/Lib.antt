@@ -5,5 +5,5 @@ pub mod Ways
 pub mod Reached
 -- How it is printed.
 pub mod FaultText
--- What the parts of a certificate are, one by one.
+-- What the rows of a certificate are, one by one.
 pub mod Rows

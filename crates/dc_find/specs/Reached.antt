@@ -14,46 +14,46 @@ use Rattle.dc_find.specs.declared.fault.Queue.TheVariants.{Input, Output}
 use Rattle.dc_parts.specs.Names.{text_of}
 use Rattle.dc_tables.specs.TableRows.{TableRows, bus_cap, bus_floor, output_cap, output_floor}
 
--- how many parts are reached, the inputs, the outputs and the labels in one row: those before the fault; where the queue of an
+-- how many jobs are reached, the inputs, the outputs and the labels in one row: those before the fault; where the queue of an
 -- input is too short, that input too; where a rule on a label is broken, all
-abbrev pub parts_reached : TableRows → FindFault → ℕ
-parts_reached t (WindowNeverCloses (Input b)) = b
-parts_reached t (WindowNeverCloses (Output o)) = length t.buses + o
-parts_reached t (QueueTooShort b) = b + 1
-parts_reached t (LabelRule x condition) = job_count t
-parts_reached t Memory = 0
+abbrev pub jobs_reached : TableRows → FindFault → ℕ
+jobs_reached t (WindowNeverCloses (Input b)) = b
+jobs_reached t (WindowNeverCloses (Output o)) = length t.buses + o
+jobs_reached t (QueueTooShort b) = b + 1
+jobs_reached t (LabelRule x condition) = job_count t
+jobs_reached t Memory = 0
 
--- the names of the tables, and in each of the first parts the least numbers: of a label, for the delays that stand here
-pub record IsReached (t : TableRows) (parts : ℕ) (claims : NamedRows) : Type 0 where
+-- the names of the tables, and in each of the first jobs the least numbers: of a label, for the delays that stand here
+pub record IsReached (t : TableRows) (jobs : ℕ) (claims : NamedRows) : Type 0 where
   pub named : AreNamed t claims
-  pub inputs : (b : ℕ) → b < length t.buses → b < parts → AreLeastNumbers t b (input_bound (numbers_of claims) b)
-  pub outputs : (o : ℕ) → o < length t.outputs → length t.buses + o < parts → IsLeastOutput t o (output_bound (numbers_of claims) o)
+  pub inputs : (b : ℕ) → b < length t.buses → b < jobs → AreLeastNumbers t b (input_bound (numbers_of claims) b)
+  pub outputs : (o : ℕ) → o < length t.outputs → length t.buses + o < jobs → IsLeastOutput t o (output_bound (numbers_of claims) o)
   pub labels : (x : ℕ) → x < length t.labels → IsLeast (IsOldEnough t x (numbers_of claims)) (slice_index (numbers_of claims).ages x)
 
 -- ---- row by row
 
--- in each of the first parts a window closes
-pub record CloseBelow (t : TableRows) (parts : ℕ) : Type 0 where
-  pub inputs : (b : ℕ) → b < length t.buses → b < parts → ¬ NeverCloses (bus_cap t b) (bus_floor t b)
-  pub outputs : (o : ℕ) → o < length t.outputs → length t.buses + o < parts → ¬ NeverCloses (output_cap t o) (output_floor t o)
+-- in each of the first jobs a window closes
+pub record CloseBelow (t : TableRows) (jobs : ℕ) : Type 0 where
+  pub inputs : (b : ℕ) → b < length t.buses → b < jobs → ¬ NeverCloses (bus_cap t b) (bus_floor t b)
+  pub outputs : (o : ℕ) → o < length t.outputs → length t.buses + o < jobs → ¬ NeverCloses (output_cap t o) (output_floor t o)
 
--- the bus's name, and its least numbers where it is one of the first parts
-pub record IsInputReached (t : TableRows) (parts : ℕ) (b : ℕ) (claim : NamedInput) : Type 0 where
+-- the bus's name, and its least numbers where it is one of the first jobs
+pub record IsInputReached (t : TableRows) (jobs : ℕ) (b : ℕ) (claim : NamedInput) : Type 0 where
   pub named : claim.bus ≡ text_of (slice_index_or t.names.buses b [])
-  pub least : b < parts → AreLeastNumbers t b (input_numbers claim)
+  pub least : b < jobs → AreLeastNumbers t b (input_numbers claim)
   pub short : claim.delay ≤ LONGEST_WINDOW
 
 -- the row of an output: its name, and below the obstacle the least window and delay that are accepted
-pub record IsOutputReached (t : TableRows) (parts : ℕ) (o : ℕ) (claim : NamedOutput) : Type 0 where
+pub record IsOutputReached (t : TableRows) (jobs : ℕ) (o : ℕ) (claim : NamedOutput) : Type 0 where
   pub named : claim.output ≡ text_of (slice_index_or t.names.outputs o [])
-  pub least : length t.buses + o < parts → IsLeastOutput t o (output_numbers claim)
+  pub least : length t.buses + o < jobs → IsLeastOutput t o (output_numbers claim)
 
 -- a row for each
-pub record AreInputsReached (t : TableRows) (parts : ℕ) (inputs : List NamedInput) : Type 0 where
+pub record AreInputsReached (t : TableRows) (jobs : ℕ) (inputs : List NamedInput) : Type 0 where
   pub count : length inputs ≡ length t.buses
-  pub each : EachAt (IsInputReached t parts) inputs
+  pub each : EachAt (IsInputReached t jobs) inputs
 
 -- a row for each output
-pub record AreOutputsReached (t : TableRows) (parts : ℕ) (outputs : List NamedOutput) : Type 0 where
+pub record AreOutputsReached (t : TableRows) (jobs : ℕ) (outputs : List NamedOutput) : Type 0 where
   pub count : length outputs ≡ length t.outputs
-  pub each : EachAt (IsOutputReached t parts) outputs
+  pub each : EachAt (IsOutputReached t jobs) outputs

@@ -37,7 +37,7 @@ KeepsRule t x c _ = Unit {0}
 abbrev pub NeverKeeps : TableRows → ℕ → Condition → Type 0
 NeverKeeps t x condition = (c : CertificateRows) → AcceptsQueues t c → ¬ KeepsRule t x c condition
 
--- the fault is of a part of the tables, and no claim keeps the rule that it names there
+-- the fault is of a bus, an output or a label of the tables, and no claim keeps the rule that it names there
 abbrev pub StandsInTheWay : TableRows → FindFault → Type 0
 StandsInTheWay t (WindowNeverCloses (Input b)) = (b < length t.buses) × NeverCloses (bus_cap t b) (bus_floor t b)
 StandsInTheWay t (WindowNeverCloses (Output o)) = (o < length t.outputs) × NeverCloses (output_cap t o) (output_floor t o)
@@ -55,14 +55,14 @@ obstacle_of Memory = None
 -- ---- the order of faults
 
 -- the inputs, the outputs and the labels in one row, from 0
-abbrev pub part_of : TableRows → FindFault → ℕ
-part_of t (WindowNeverCloses (Input b)) = b
-part_of t (WindowNeverCloses (Output o)) = length t.buses + o
-part_of t (QueueTooShort b) = b
-part_of t (LabelRule x condition) = length t.buses + length t.outputs + x
-part_of t Memory = 0
+abbrev pub job_of : TableRows → FindFault → ℕ
+job_of t (WindowNeverCloses (Input b)) = b
+job_of t (WindowNeverCloses (Output o)) = length t.buses + o
+job_of t (QueueTooShort b) = b
+job_of t (LabelRule x condition) = length t.buses + length t.outputs + x
+job_of t Memory = 0
 
--- the rules of one part
+-- the rules of one job
 abbrev pub code_rank : Condition → ℕ
 code_rank SentTooSoon = 1
 code_rank SentTooLate = 2
@@ -77,27 +77,27 @@ rank_of (QueueTooShort b) = 1
 rank_of (LabelRule x condition) = code_rank condition
 rank_of Memory = 0
 
--- an earlier part, or an earlier rule of the same
+-- an earlier job, or an earlier rule of the same
 abbrev pub Precedes : TableRows → FindFault → FindFault → Type 0
-Precedes t f g = (part_of t f < part_of t g) ⊎ ((part_of t f ≡ part_of t g) × (rank_of f < rank_of g))
+Precedes t f g = (job_of t f < job_of t g) ⊎ ((job_of t f ≡ job_of t g) × (rank_of f < rank_of g))
 
 -- it stands in the way, and nothing before it does
 pub record IsFirstInTheWay (t : TableRows) (fault : FindFault) : Type 0 where
   pub stands : StandsInTheWay t fault
   pub first : (other : FindFault) → Precedes t other fault → ¬ StandsInTheWay t other
 
--- ---- one part
+-- ---- one job
 
 -- nothing stands in the way at the bus, output or label of this number, counted through all three
 abbrev pub NothingAt : TableRows → ℕ → Type 0
-NothingAt t part = (other : FindFault) → part_of t other ≡ part → ¬ StandsInTheWay t other
+NothingAt t job = (other : FindFault) → job_of t other ≡ job → ¬ StandsInTheWay t other
 
 -- nothing stands in the way at any bus, output or label below this number
 abbrev pub IsClearBelow : TableRows → ℕ → Type 0
-IsClearBelow t n = (part : ℕ) → part < n → NothingAt t part
+IsClearBelow t n = (job : ℕ) → job < n → NothingAt t job
 
--- it stands in the way at this part, and no earlier rule of it does
-pub record IsFirstOfPart (t : TableRows) (part : ℕ) (fault : FindFault) : Type 0 where
-  pub here : part_of t fault ≡ part
+-- it stands in the way at this job, and no earlier rule of it does
+pub record IsFirstOfJob (t : TableRows) (job : ℕ) (fault : FindFault) : Type 0 where
+  pub here : job_of t fault ≡ job
   pub stands : StandsInTheWay t fault
-  pub first : (other : FindFault) → part_of t other ≡ part → rank_of other < rank_of fault → ¬ StandsInTheWay t other
+  pub first : (other : FindFault) → job_of t other ≡ job → rank_of other < rank_of fault → ¬ StandsInTheWay t other

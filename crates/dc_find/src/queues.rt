@@ -2,7 +2,7 @@
 
 ghost use Rattle.std.specs.Prelude.{◌≡◌, ◌≢◌, ℕ, ◌+◌, ◌<◌, length, IfOk, IfErr, MatchOption};
 ghost use Rattle.dc_find.specs.Rows.{AreLeastTimes, AreLeastNumbers, IsLeastInput, IsLeastOutput};
-ghost use Rattle.dc_find.specs.Ways.{NeverCloses, IsFirstOfPart};
+ghost use Rattle.dc_find.specs.Ways.{NeverCloses, IsFirstOfJob};
 ghost use Rattle.dc_tables.specs.TableRows.{bus_cap, bus_floor, output_cap, output_floor};
 
 use crate::fault::{FindFault, Queue};
@@ -67,7 +67,7 @@ pub(crate) fn input_numbers<A: ArrivalBound, S: ServiceBound>(
     requires arrivals { (d : ℕ) → A.cap arrivals.now d ≡ bus_cap tables.now bus d }
     requires service { (d : ℕ) → S.floor service.now d ≡ bus_floor tables.now bus d }
     ensures least { IfOk result (λ n. IsLeastInput tables.now bus (record { window = n.times.window; backlog = n.backlog; delay = n.times.delay })) }
-    ensures fault { IfErr result (λ fault. IsFirstOfPart tables.now bus fault) }
+    ensures fault { IfErr result (λ fault. IsFirstOfJob tables.now bus fault) }
 {
     let Some(numbers) = least_input(tables, bus, arrivals, service) else {
         return Err(FindFault::WindowNeverCloses(Queue::Input(bus)));
@@ -89,7 +89,7 @@ pub(crate) fn output_numbers<A: ArrivalBound, S: ServiceBound>(
     requires arrivals { (d : ℕ) → A.cap arrivals.now d ≡ output_cap tables.now output d }
     requires service { (d : ℕ) → S.floor service.now d ≡ output_floor tables.now output d }
     ensures least { IfOk result (λ n. IsLeastOutput tables.now output (record { window = n.window; delay = n.delay })) }
-    ensures fault { IfErr result (λ fault. IsFirstOfPart tables.now (length tables.now.buses + output) fault) }
+    ensures fault { IfErr result (λ fault. IsFirstOfJob tables.now (length tables.now.buses + output) fault) }
 {
     tables.valid();
     match least_times(arrivals, service) {

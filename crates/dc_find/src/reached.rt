@@ -4,7 +4,7 @@ ghost use Rattle.std.specs.Prelude.{◌≡◌, ℕ, ◌+◌, ◌<◌, ◌≤◌,
 ghost use Rattle.dc_cert.specs.Bounds.{certificate_rows};
 ghost use Rattle.dc_cert.specs.NamedRows.{named_input, named_output, named_rows};
 ghost use Rattle.dc_check.specs.Verdict.{IsSized, job_count};
-ghost use Rattle.dc_find.specs.Reached.{AreInputsReached, AreOutputsReached, CloseBelow, IsInputReached, IsOutputReached, IsReached, parts_reached};
+ghost use Rattle.dc_find.specs.Reached.{AreInputsReached, AreOutputsReached, CloseBelow, IsInputReached, IsOutputReached, IsReached, jobs_reached};
 ghost use Rattle.dc_find.specs.Ways.{IsFirstInTheWay, StandsInTheWay};
 
 use crate::fault::{FindFault, Queue};
@@ -21,7 +21,7 @@ pub struct Reached {
     pub certificate: Certificate,
     /// How many of the inputs, the outputs and the labels, in one row, were reached: the inputs and outputs among them
     /// have their least numbers. A label has the least age for the delays that stand here.
-    pub parts: usize,
+    pub jobs: usize,
 }
 
 /// What stands for the times that are not known.
@@ -36,10 +36,10 @@ const NO_NUMBERS: InputNumbers = InputNumbers {
     backlog: 0,
 };
 
-/// How many parts are reached before a fault.
-fn parts_before(tables: &Tables, fault: FindFault) -> usize
+/// How many jobs are reached before a fault.
+fn jobs_before(tables: &Tables, fault: FindFault) -> usize
     requires { StandsInTheWay tables.now fault }
-    ensures parts { result ≡ parts_reached tables.now fault }
+    ensures jobs { result ≡ jobs_reached tables.now fault }
     ensures few { result ≤ job_count tables.now }
 {
     tables.valid();
@@ -53,14 +53,14 @@ fn parts_before(tables: &Tables, fault: FindFault) -> usize
     }
 }
 
-/// The row of an input, with its least numbers where it is one of the first parts.
-fn reached_input(tables: &Tables, parts: usize, bus: usize) -> InputRow
+/// The row of an input, with its least numbers where it is one of the first jobs.
+fn reached_input(tables: &Tables, jobs: usize, bus: usize) -> InputRow
     requires there { bus < length tables.now.buses }
-    requires closes { CloseBelow tables.now parts }
-    ensures { IsInputReached tables.now parts bus (named_input result) }
+    requires closes { CloseBelow tables.now jobs }
+    ensures { IsInputReached tables.now jobs bus (named_input result) }
 {
     let mut numbers = NO_NUMBERS;
-    if bus < parts {
+    if bus < jobs {
         let found = least_input(
             tables,
             bus,
@@ -72,15 +72,15 @@ fn reached_input(tables: &Tables, parts: usize, bus: usize) -> InputRow
     named_input_row(tables, bus, numbers)
 }
 
-/// The row of an output, with its least numbers where it is one of the first parts.
-fn reached_output(tables: &Tables, parts: usize, output: usize) -> OutputRow
+/// The row of an output, with its least numbers where it is one of the first jobs.
+fn reached_output(tables: &Tables, jobs: usize, output: usize) -> OutputRow
     requires there { output < length tables.now.outputs }
-    requires closes { CloseBelow tables.now parts }
-    ensures { IsOutputReached tables.now parts output (named_output result) }
+    requires closes { CloseBelow tables.now jobs }
+    ensures { IsOutputReached tables.now jobs output (named_output result) }
 {
     tables.valid();
     let mut times = NO_TIMES;
-    if tables.bus_count() + output < parts {
+    if tables.bus_count() + output < jobs {
         let found = output_numbers(
             tables,
             output,
@@ -92,30 +92,30 @@ fn reached_output(tables: &Tables, parts: usize, output: usize) -> OutputRow
     named_output_row(tables, output, times)
 }
 
-/// The rows of the inputs, those of the first parts with their least numbers.
-fn reached_inputs(alloc: Global, tables: &Tables, parts: usize) -> Result<Vec<InputRow>, AllocError>
-    requires { CloseBelow tables.now parts }
-    ensures { IfOk result (λ v. AreInputsReached tables.now parts (map named_input v.items)) }
+/// The rows of the inputs, those of the first jobs with their least numbers.
+fn reached_inputs(alloc: Global, tables: &Tables, jobs: usize) -> Result<Vec<InputRow>, AllocError>
+    requires { CloseBelow tables.now jobs }
+    ensures { IfOk result (λ v. AreInputsReached tables.now jobs (map named_input v.items)) }
 {
     let mut rows = Vec::new(alloc);
     for bus in 0..tables.bus_count() {
-        rows.push(reached_input(tables, parts, bus))?;
+        rows.push(reached_input(tables, jobs, bus))?;
     }
     Ok(rows)
 }
 
-/// The rows of the outputs, those of the first parts with their least numbers.
+/// The rows of the outputs, those of the first jobs with their least numbers.
 fn reached_outputs(
     alloc: Global,
     tables: &Tables,
-    parts: usize,
+    jobs: usize,
 ) -> Result<Vec<OutputRow>, AllocError>
-    requires { CloseBelow tables.now parts }
-    ensures { IfOk result (λ v. AreOutputsReached tables.now parts (map named_output v.items)) }
+    requires { CloseBelow tables.now jobs }
+    ensures { IfOk result (λ v. AreOutputsReached tables.now jobs (map named_output v.items)) }
 {
     let mut rows = Vec::new(alloc);
     for output in 0..tables.output_count() {
-        rows.push(reached_output(tables, parts, output))?;
+        rows.push(reached_output(tables, jobs, output))?;
     }
     Ok(rows)
 }
@@ -127,20 +127,20 @@ fn reached_outputs(
 /// `AllocError` where an allocation failed.
 pub fn reach(alloc: Global, tables: &Tables, fault: FindFault) -> Result<Reached, AllocError>
     requires { IsFirstInTheWay tables.now fault }
-    ensures parts { IfOk result (λ r. r.parts ≡ parts_reached tables.now fault) }
-    ensures few { IfOk result (λ r. r.parts ≤ job_count tables.now) }
-    ensures reached { IfOk result (λ r. IsReached tables.now r.parts (named_rows r.certificate)) }
+    ensures jobs { IfOk result (λ r. r.jobs ≡ jobs_reached tables.now fault) }
+    ensures few { IfOk result (λ r. r.jobs ≤ job_count tables.now) }
+    ensures reached { IfOk result (λ r. IsReached tables.now r.jobs (named_rows r.certificate)) }
     ensures sized { IfOk result (λ r. IsSized tables.now (certificate_rows r.certificate)) }
 {
     tables.named();
-    let parts = parts_before(tables, fault);
-    let inputs = reached_inputs(alloc, tables, parts)?;
-    let outputs = reached_outputs(alloc, tables, parts)?;
+    let jobs = jobs_before(tables, fault);
+    let inputs = reached_inputs(alloc, tables, jobs)?;
+    let outputs = reached_outputs(alloc, tables, jobs)?;
     let labels = label_rows(alloc, tables, inputs.as_slice())?;
     let certificate = Certificate {
         inputs,
         outputs,
         labels,
     };
-    Ok(Reached { certificate, parts })
+    Ok(Reached { certificate, jobs })
 }

@@ -5,7 +5,7 @@ ghost use Rattle.dc_busy.specs.Least.{IsLeast};
 ghost use Rattle.dc_cert.specs.Bounds.{input_numbers, output_numbers};
 ghost use Rattle.dc_cert.specs.NamedRows.{named_input, named_output, named_label};
 ghost use Rattle.dc_find.specs.Rows.{IsInputRow, IsOutputRow, IsLabelRow, AreInputRows, AreOutputRows, AreLabelRows, HaveShortDelays, IsOldEnough, inputs_alone};
-ghost use Rattle.dc_find.specs.Ways.{IsFirstOfPart, IsFirstInTheWay, IsClearBelow};
+ghost use Rattle.dc_find.specs.Ways.{IsFirstOfJob, IsFirstInTheWay, IsClearBelow};
 ghost use Rattle.dc_find.specs.declared.fault.FindFault.TheVariants.{Memory};
 ghost use Rattle.dc_parts.specs.Names.{text_of};
 
@@ -46,7 +46,7 @@ pub(crate) fn named_output_row(tables: &Tables, output: usize, times: Times) -> 
 fn input_row(tables: &Tables, bus: usize) -> Result<InputRow, FindFault>
     requires { bus < length tables.now.buses }
     ensures row { IfOk result (λ row. IsInputRow tables.now bus (named_input row)) }
-    ensures fault { IfErr result (λ fault. IsFirstOfPart tables.now bus fault) }
+    ensures fault { IfErr result (λ fault. IsFirstOfJob tables.now bus fault) }
 {
     let numbers = input_numbers(
         tables,
@@ -61,7 +61,7 @@ fn input_row(tables: &Tables, bus: usize) -> Result<InputRow, FindFault>
 fn output_row(tables: &Tables, output: usize) -> Result<OutputRow, FindFault>
     requires { output < length tables.now.outputs }
     ensures row { IfOk result (λ row. IsOutputRow tables.now output (named_output row)) }
-    ensures fault { IfErr result (λ fault. IsFirstOfPart tables.now (length tables.now.buses + output) fault) }
+    ensures fault { IfErr result (λ fault. IsFirstOfJob tables.now (length tables.now.buses + output) fault) }
 {
     let times = output_numbers(
         tables,

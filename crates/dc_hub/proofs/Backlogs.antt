@@ -7,7 +7,7 @@ use Rattle.dc_core.specs.declared.fault.StepFault.{StepFault}
 use Rattle.dc_core.specs.declared.machine.State.{State}
 use Rattle.dc_event.specs.Laws.{BacklogFits}
 use Rattle.dc_event.specs.Choice.{chosen}
-use Rattle.dc_event.specs.Offers.{refuses}
+use Rattle.dc_event.specs.Offers.{refuses_early}
 use Rattle.dc_event.specs.Outputs.{entry_label, sent}
 use Rattle.dc_event.specs.Replies.{reply}
 use Rattle.dc_event.specs.declared.event.Event.{Event}
@@ -36,11 +36,11 @@ backlog_small t run (Arrive w b) valid fits may =
     let queued : Reply = Queued (backlog t b now) in
     let full : Reply = if is_latched t b now then Overrun else queued in
     let shut : Reply = if is_latched t b run then Latched else full in
-    let early : Reply = if refuses t b run (stream_of t b w) then TooEarly else shut in
+    let early : Reply = if refuses_early t b run (stream_of t b w) then TooEarly else shut in
     let unknown : Reply = if not (is_some (stream_of t b w)) then Undeclared else early in
     either_small (not (is_odd w)) BadParity unknown 4096 nothing
     (either_small (not (is_some (stream_of t b w))) Undeclared early 4096 nothing
-    (either_small (refuses t b run (stream_of t b w)) TooEarly shut 4096 nothing
+    (either_small (refuses_early t b run (stream_of t b w)) TooEarly shut 4096 nothing
     (either_small (is_latched t b run) Latched full 4096 nothing
     (either_small (is_latched t b now) Overrun queued 4096 nothing (le_trans (fits b now) (valid.queues_small b may.numbered))))))
 backlog_small t run (Route r) valid fits may =

@@ -13,7 +13,7 @@ use Rattle.dc_tables.specs.TableRows.{TableRows, AreValid, output_row, entry_row
 use Rattle.dc_tables.specs.declared.rows.Entry.{Entry}
 use Rattle.dc_transmit.specs.lemmas.GapLaws.{least_le, next_after, first_le}
 use Rattle.dc_transmit.specs.Gaps.{first_off, gaps_to, gaps, least_of, greatest_of}
-use Rattle.dc_transmit.specs.Schedule.{schedule_of, least_label_gap, greatest_label_gap, off, no_entry, is_of}
+use Rattle.dc_transmit.specs.Schedule.{schedule_of, least_label_gap, greatest_label_gap, off, no_entry, is_of_label}
 
 -- ---- over a list
 
@@ -65,16 +65,16 @@ module _ (t : TableRows) (v : AreValid t) (x : ℕ) (there : x < length t.labels
       let some = v.labels_in_frames x there in
       let here = eq-test (entry_row t (label_row t x).output some.0).label x some.2 in
       let low = each-least b b (gaps_of t x) (omega arith) all in
-      let one = least_le off (is_of x) no_entry b ((output_row t (label_row t x).output).frame + first_off off (is_of x) (output_row t (label_row t x).output).entries 0) (output_row t (label_row t x).output).entries some.0 some.1 here in
-      let next = next_after off (is_of x) no_entry (output_row t (label_row t x).output).frame (output_row t (label_row t x).output).entries f some.0 some.1 here in
-      let front = first_le off (is_of x) no_entry (output_row t (label_row t x).output).entries f.ascend 0 some.0 some.1 here in
+      let one = least_le off (is_of_label x) no_entry b ((output_row t (label_row t x).output).frame + first_off off (is_of_label x) (output_row t (label_row t x).output).entries 0) (output_row t (label_row t x).output).entries some.0 some.1 here in
+      let next = next_after off (is_of_label x) no_entry (output_row t (label_row t x).output).frame (output_row t (label_row t x).output).entries f some.0 some.1 here in
+      let front = first_le off (is_of_label x) no_entry (output_row t (label_row t x).output).entries f.ascend 0 some.0 some.1 here in
       omega (arith, low, one, next.1, front)
 
   gap-there : 1 ≤ length (gaps_of t x)
   unfolding gaps
   gap-there =
       let some = v.labels_in_frames x there in
-      some-gap (is_of x) ((output_row t (label_row t x).output).frame + first_off off (is_of x) (output_row t (label_row t x).output).entries 0) (output_row t (label_row t x).output).entries some.0 some.1
+      some-gap (is_of_label x) ((output_row t (label_row t x).output).frame + first_off off (is_of_label x) (output_row t (label_row t x).output).entries 0) (output_row t (label_row t x).output).entries some.0 some.1
       (eq-test (entry_row t (label_row t x).output some.0).label x some.2)
 
   -- each gap is at least b where the least gap is

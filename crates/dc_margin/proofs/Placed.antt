@@ -1,4 +1,4 @@
--- The parts of the lines are there, and the sources that decide.
+-- What the lines are of is there, and so are the sources that decide.
 use Rattle.std.proofs.Common.{ℕ, zero, suc, ◌<◌, Bool, true, false, List, [], ◌∷◌, length, arith}
 use Rattle.std.specs.Prelude.{IfSome}
 use Rattle.std.specs.List.{All}

@@ -18,9 +18,9 @@ below-suc : (lines : ℕ → List MarginLine) (n : ℕ) → lines_below lines (s
 unfolding lines_below
 below-suc lines n = refl
 
--- one part more
-pub part-more : (lines : ℕ → List MarginLine) (n : ℕ) (old own next : List MarginLine) → old ≡ lines_below lines n → own ≡ lines n → next ≡ old ++ own → next ≡ lines_below lines (n + 1)
-part-more lines n old own next is here step =
+-- one job more
+pub job-more : (lines : ℕ → List MarginLine) (n : ℕ) (old own next : List MarginLine) → old ≡ lines_below lines n → own ≡ lines n → next ≡ old ++ own → next ≡ lines_below lines (n + 1)
+job-more lines n old own next is here step =
     step ∙ ap (λ l. l ++ own) is ∙ ap (λ l. lines_below lines n ++ l) here ∙ sym (below-suc lines n) ∙ ap (lines_below lines) (sym (add-one n))
 
 -- none is negative among some, and the next one is not either
@@ -29,10 +29,10 @@ none-more xs k d l none here =
     ap fault_of_lines (take_more xs k d l) ∙ lines-append (take k xs) (get_or xs k d ∷ []) ∙ ap (λ o. option_or o (fault_of_lines (get_or xs k d ∷ []))) none
     ∙ ap (λ o. option_or o None) here
 
--- no part yet
-pub parts-none : (lines : ℕ → List MarginLine) → [] ≡ lines_below lines 0
+-- no job yet
+pub lines-none : (lines : ℕ → List MarginLine) → [] ≡ lines_below lines 0
 unfolding lines_below
-parts-none lines = refl
+lines-none lines = refl
 
 -- ---- the verdict
 

@@ -1,4 +1,4 @@
--- The verdict is the first negative margin: part by part, and over all of them.
+-- The verdict is the first negative margin: job by job, and over all of them.
 use Rattle.std.proofs.Common.{◌≡◌, ℕ, zero, suc, ◌+◌, ◌-◌, ◌≤◌, ◌<◌, ◌↔◌, Bool, true, false, ◌&&◌, Option, Some, None, is_none, List, [], ◌∷◌, ◌++◌, length, map, inl, inr, refl, sym, ap, ◌∙◌, arith}
 use Rattle.std.specs.Prelude.{nat_le, slice_index}
 use Rattle.std.specs.Option.{option_or, option_map}
@@ -21,16 +21,16 @@ use Rattle.dc_margin.proofs.Greatest.{of-greatest, greatest-test}
 use Rattle.dc_margin.proofs.LabelGaps.{soon-test, late-test}
 use Rattle.dc_margin.proofs.Law.{window-kept, delay-kept, soon-kept, late-kept, age_limit-kept, closing-kept, backlog-kept, queue-kept, delay_limit-kept, room-test}
 use Rattle.dc_margin.proofs.Told.{told-there}
-use Rattle.dc_margin.specs.Lines.{windowless, line_fault, fault_of_lines, first_negative, input_lines_of, output_lines_of, label_lines_of, part_lines_of, lines_below}
+use Rattle.dc_margin.specs.Lines.{windowless, line_fault, fault_of_lines, first_negative, input_lines_of, output_lines_of, label_lines_of, job_lines_of, lines_below}
 use Rattle.dc_margin.specs.Margins.{told, is_kept, input_margins_of, output_margins_of, label_margins_of, slowest_source, rarest_source, silence, are_in_range, age_margin_of, fresh_margin_of, closing_margin_of, backlog_margin_of, delay_margin_of, soon_margin_of, late_margin_of}
 use Rattle.dc_margin.specs.declared.lines.MarginLine.{MarginLine}
 use Rattle.dc_margin.specs.declared.margin.Margin.{Margin}
 use Rattle.dc_tables.specs.TableRows.{TableRows, AreValid, bus_row, stream_row, router_row, output_row, label_row, bus_cap, bus_floor, output_cap, output_floor}
 use Rattle.dc_transmit.specs.Schedule.{schedule_of, least_label_gap, greatest_label_gap}
 
--- the first negative margin of a part
-abbrev fault_of_part : TableRows → CertificateRows → ℕ → Option CheckFault
-fault_of_part t c n = fault_of_lines (part_lines_of t c n)
+-- the first negative margin of a job
+abbrev fault_of_job : TableRows → CertificateRows → ℕ → Option CheckFault
+fault_of_job t c n = fault_of_lines (job_lines_of t c n)
 
 -- ---- faults without their windows
 
@@ -40,16 +40,16 @@ or-windowless None b x y e h = h refl ∙ ap (λ o. option_or o y) e
 or-windowless (Some z) b x y e h = ap (λ o. option_or o y) e
 
 -- a rule that names no window, by a test that agrees
-unless-windowless : (h k : Bool) (part : CertificateList) (index : ℕ) (condition : Condition) → h ≡ k → option_map windowless (unless h (fault_at part index condition 0)) ≡ unless k (fault_at part index condition 0)
+unless-windowless : (h k : Bool) (list : CertificateList) (index : ℕ) (condition : Condition) → h ≡ k → option_map windowless (unless h (fault_at list index condition 0)) ≡ unless k (fault_at list index condition 0)
 unfolding unless
-unless-windowless true k part index condition e = ap (λ b. unless b (fault_at part index condition 0)) e
-unless-windowless false k part index condition e = ap (λ b. unless b (fault_at part index condition 0)) e
+unless-windowless true k list index condition e = ap (λ b. unless b (fault_at list index condition 0)) e
+unless-windowless false k list index condition e = ap (λ b. unless b (fault_at list index condition 0)) e
 
 -- one that names the first window that fails
-window-windowless : (o : Option ℕ) (k : Bool) (part : CertificateList) (index : ℕ) (condition : Condition) → is_none o ≡ k → option_map windowless (at_window part index condition o) ≡ unless k (fault_at part index condition 0)
+window-windowless : (o : Option ℕ) (k : Bool) (list : CertificateList) (index : ℕ) (condition : Condition) → is_none o ≡ k → option_map windowless (at_window list index condition o) ≡ unless k (fault_at list index condition 0)
 unfolding at_window unless
-window-windowless None k part index condition e = ap (λ b. unless b (fault_at part index condition 0)) e
-window-windowless (Some w) k part index condition e = ap (λ b. unless b (fault_at part index condition 0)) e
+window-windowless None k list index condition e = ap (λ b. unless b (fault_at list index condition 0)) e
+window-windowless (Some w) k list index condition e = ap (λ b. unless b (fault_at list index condition 0)) e
 
 or-assoc : (a b c : Option CheckFault) → option_or a (option_or b c) ≡ option_or (option_or a b) c
 or-assoc None b c = refl
@@ -166,21 +166,21 @@ module _ (t : TableRows) (v : AreValid t) where
 
     -- ---- the jobs
 
-    input-job : (b : ℕ) → b < length t.buses → option_map windowless (job_verdict t c b) ≡ fault_of_part t c b
-    unfolding part_lines_of
+    input-job : (b : ℕ) → b < length t.buses → option_map windowless (job_verdict t c b) ≡ fault_of_job t c b
+    unfolding job_lines_of
     input-job b there =
         ap (option_map windowless) (job-input t c b there) ∙ input-same b there (input_bound c b) ∙ rw (lt-ltb b (length t.buses) there) refl
 
-    output-job : (o : ℕ) → o < length t.outputs → option_map windowless (job_verdict t c (length t.buses + o)) ≡ fault_of_part t c (length t.buses + o)
-    unfolding part_lines_of
+    output-job : (o : ℕ) → o < length t.outputs → option_map windowless (job_verdict t c (length t.buses + o)) ≡ fault_of_job t c (length t.buses + o)
+    unfolding job_lines_of
     output-job o there =
         let at : length t.buses + o - length t.buses ≡ o = omega arith in
         ap (option_map windowless) (job-output t c o there) ∙ output-same o there (output_bound c o)
         ∙ rw (le-ltb (length t.buses + o) (length t.buses) (omega arith), lt-ltb (length t.buses + o) (length t.buses + length t.outputs) (omega arith), at) refl
 
     label-job : (x : ℕ) → x < length t.labels → is_delay (label_delay t c x) ≡ true → are_in_range t c x ≡ true →
-        option_map windowless (job_verdict t c (length t.buses + length t.outputs + x)) ≡ fault_of_part t c (length t.buses + length t.outputs + x)
-    unfolding part_lines_of
+        option_map windowless (job_verdict t c (length t.buses + length t.outputs + x)) ≡ fault_of_job t c (length t.buses + length t.outputs + x)
+    unfolding job_lines_of
     label-job x there short slow =
         let at : length t.buses + length t.outputs + x - (length t.buses + length t.outputs) ≡ x = omega arith in
         ap (option_map windowless) (job-label t c x) ∙ label-same x there short slow
@@ -197,14 +197,14 @@ module _ (t : TableRows) (v : AreValid t) where
         let r = or-none _ _ (sym (job-output t c o there) ∙ jobs-none (job_verdict t c) n none (length t.buses + o) (omega arith)) in
         (ranges-none Outputs o (output_bound c o).window (output_bound c o).delay r.0).2
 
-    job-same : (k : ℕ) → k < job_count t → first_job_fault (job_verdict t c) k ≡ None → option_map windowless (job_verdict t c k) ≡ fault_of_part t c k
+    job-same : (k : ℕ) → k < job_count t → first_job_fault (job_verdict t c) k ≡ None → option_map windowless (job_verdict t c k) ≡ fault_of_job t c k
     job-same k l none =
         elim (cases_lt k (length t.buses)) [
           | inl in_buses ↦ input-job k in_buses
           | inr past_buses ↦ elim (cases_lt k (length t.buses + length t.outputs)) [
             | inl in_outputs ↦
                 let e : k ≡ length t.buses + (k - length t.buses) = omega arith in
-                ap (λ n. option_map windowless (job_verdict t c n)) e ∙ output-job (k - length t.buses) (omega arith) ∙ ap (fault_of_part t c) (sym e)
+                ap (λ n. option_map windowless (job_verdict t c n)) e ∙ output-job (k - length t.buses) (omega arith) ∙ ap (fault_of_job t c) (sym e)
             | inr past_outputs ↦
                 let x : ℕ = k - (length t.buses + length t.outputs) in
                 let there : k - (length t.buses + length t.outputs) < length t.labels = omega arith in
@@ -215,7 +215,7 @@ module _ (t : TableRows) (v : AreValid t) where
                 (le-leb _ _ (of-greatest (source_delay t c) (λ s. source_delay t c s ≤ 100000) (label_row t (k - (length t.buses + length t.outputs))).sources (v.sources_some (k - (length t.buses + length t.outputs)) there)
                 (λ i h. input-short k (stream_row t (slice_index (label_row t (k - (length t.buses + length t.outputs))).sources i)).bus past_buses none
                 (v.streams_on_buses (slice_index (label_row t (k - (length t.buses + length t.outputs))).sources i) (v.sources_there (k - (length t.buses + length t.outputs)) i there h)))))
-                ∙ ap (fault_of_part t c) (sym e)
+                ∙ ap (fault_of_job t c) (sym e)
           ]
         ]
 
@@ -232,11 +232,11 @@ pub lines-append : (xs ys : List MarginLine) → fault_of_lines (xs ++ ys) ≡ o
 lines-append [] ys = refl
 lines-append (x ∷ xs) ys = ap (option_or (line_fault x)) (lines-append xs ys) ∙ or-assoc (line_fault x) (fault_of_lines xs) (fault_of_lines ys)
 
--- part by part
-lines-parts : (lines : ℕ → List MarginLine) (n : ℕ) → first_job_fault (λ k. fault_of_lines (lines k)) n ≡ fault_of_lines (lines_below lines n)
+-- job by job
+lines-jobs : (lines : ℕ → List MarginLine) (n : ℕ) → first_job_fault (λ k. fault_of_lines (lines k)) n ≡ fault_of_lines (lines_below lines n)
 unfolding first_job_fault lines_below
-lines-parts lines zero = refl
-lines-parts lines (suc n) = ap (λ o. option_or o (fault_of_lines (lines n))) (lines-parts lines n) ∙ sym (lines-append (lines_below lines n) (lines n))
+lines-jobs lines zero = refl
+lines-jobs lines (suc n) = ap (λ o. option_or o (fault_of_lines (lines n))) (lines-jobs lines n) ∙ sym (lines-append (lines_below lines n) (lines n))
 
 named-none : (t : TableRows) (claims : NamedRows) → AreNamed t claims → misnaming t claims ≡ None
 named-none t claims ok =
@@ -248,8 +248,8 @@ named-none t claims ok =
 pub verdict-by_lines : (t : TableRows) → AreValid t → (claims : NamedRows) → misnaming t claims ≡ None → option_map windowless (verdict_of t claims) ≡ first_negative t (numbers_of claims)
 verdict-by_lines t v claims named =
     ap (option_map windowless) (verdict-jobs t claims (first_job_fault (job_verdict t (numbers_of claims)) (job_count t)) named refl)
-    ∙ jobs-same (job_verdict t (numbers_of claims)) (fault_of_part t (numbers_of claims)) (job_count t) (λ k l none. job-same t v (numbers_of claims) k l none)
-    ∙ lines-parts (part_lines_of t (numbers_of claims)) (job_count t)
+    ∙ jobs-same (job_verdict t (numbers_of claims)) (fault_of_job t (numbers_of claims)) (job_count t) (λ k l none. job-same t v (numbers_of claims) k l none)
+    ∙ lines-jobs (job_lines_of t (numbers_of claims)) (job_count t)
 
 pub verdict-same : (t : TableRows) → AreValid t → (claims : NamedRows) → AreNamed t claims → option_map windowless (verdict_of t claims) ≡ first_negative t (numbers_of claims)
 verdict-same t v claims named = verdict-by_lines t v claims (named-none t claims named)

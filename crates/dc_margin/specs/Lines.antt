@@ -8,7 +8,7 @@ use Rattle.dc_check.specs.declared.fault.Condition.TheVariants.{WindowOutOfRange
 use Rattle.dc_check.specs.declared.fault.CertificateList.{CertificateList}
 use Rattle.dc_check.specs.declared.fault.CertificateList.TheVariants.{Inputs, Outputs, Labels}
 use Rattle.dc_margin.specs.Margins.{is_kept, input_margins_of, output_margins_of, label_margins_of}
-use Rattle.dc_check.specs.Placed.{part_count}
+use Rattle.dc_check.specs.Placed.{member_count}
 use Rattle.dc_margin.specs.declared.lines.MarginLine.{MarginLine}
 use Rattle.dc_margin.specs.declared.lines.MarginLines.{MarginLines}
 use Rattle.dc_margin.specs.declared.lines.MarginLines.TheVariants.{Input, Output, Label}
@@ -22,11 +22,11 @@ use Rattle.dc_margin.specs.declared.margin.OutputMargins.{OutputMargins}
 use Rattle.dc_margin.specs.declared.margin.LabelMargins.{LabelMargins}
 use Rattle.dc_tables.specs.TableRows.{TableRows}
 
--- ---- the lines of a part, in the order of the verdict
+-- ---- the lines of a job, in the order of the verdict
 
 -- the line of a condition: of which list, of which member, with its margin where it is told
 abbrev pub line_at : CertificateList → ℕ → Condition → Option Margin → MarginLine
-line_at part index condition margin = record { part = part; index = index; condition = condition; margin = margin }
+line_at list index condition margin = record { list = list; index = index; condition = condition; margin = margin }
 
 -- the lines of a bus
 abbrev pub input_lines_of : ℕ → InputMargins → List MarginLine
@@ -58,7 +58,7 @@ label_lines_of x m =
     ∷ line_at Labels x SourceGoesStale m.fresh
     ∷ []
 
--- those of a part
+-- those of a job
 abbrev pub lines_in : MarginLines → List MarginLine
 lines_in (Input lines) = lines
 lines_in (Output lines) = lines
@@ -66,23 +66,23 @@ lines_in (Label lines) = lines
 
 -- ---- the inputs, the outputs and the labels in one row, from 0
 
--- those of the part of this number
-unfoldable pub part_lines_of : TableRows → CertificateRows → ℕ → List MarginLine
-part_lines_of t c n =
+-- those of the job of this number
+unfoldable pub job_lines_of : TableRows → CertificateRows → ℕ → List MarginLine
+job_lines_of t c n =
     let inputs = length t.buses in
     let outputs = length t.outputs in
     if nat_lt n inputs then input_lines_of n (input_margins_of t n (input_bound c n))
     else if nat_lt n (inputs + outputs) then output_lines_of (n - inputs) (output_margins_of t (n - inputs) (output_bound c (n - inputs)))
     else label_lines_of (n - (inputs + outputs)) (label_margins_of t (n - (inputs + outputs)) c)
 
--- those of the parts below n
+-- those of the jobs below n
 unfoldable pub lines_below : (ℕ → List MarginLine) → ℕ → List MarginLine
 lines_below lines zero = []
 lines_below lines (suc n) = lines_below lines n ++ lines n
 
 -- all of them
 abbrev pub margin_lines_of : TableRows → CertificateRows → List MarginLine
-margin_lines_of t c = lines_below (part_lines_of t c) (job_count t)
+margin_lines_of t c = lines_below (job_lines_of t c) (job_count t)
 
 -- ---- where a line is
 
@@ -93,14 +93,14 @@ IsDeciderThere t _ = Unit {0}
 
 -- the input, output or label is there, and so is the source that decides
 pub record IsLinePlaced (t : TableRows) (line : MarginLine) : Type 0 where
-  pub there : line.index < part_count t line.part
+  pub there : line.index < member_count t line.list
   pub decider : IfSome line.margin (λ m. IsDeciderThere t m.decider)
 
 -- ---- the first negative one
 
 -- the fault of a line, where its margin is negative; it names no window
 abbrev pub line_fault : MarginLine → Option CheckFault
-line_fault line = unless (is_kept line.margin) (fault_at line.part line.index line.condition 0)
+line_fault line = unless (is_kept line.margin) (fault_at line.list line.index line.condition 0)
 
 -- the fault of the first line whose margin is negative
 abbrev pub fault_of_lines : List MarginLine → Option CheckFault
@@ -112,7 +112,7 @@ first_negative t c = fault_of_lines (margin_lines_of t c)
 
 -- a fault, its window left out
 abbrev pub windowless : CheckFault → CheckFault
-windowless fault = fault_at fault.part fault.index fault.condition 0
+windowless fault = fault_at fault.list fault.index fault.condition 0
 
 -- ---- what is counted
 

@@ -11,8 +11,8 @@ mod verdict;
 
 pub use labels::label_margins;
 pub use lines::{
-    MarginLine, MarginLines, Measure, input_lines, label_lines, line_parts, margin_lines,
-    output_lines, part_lines,
+    MarginLine, MarginLines, Measure, input_lines, job_lines, label_lines, line_jobs, margin_lines,
+    output_lines,
 };
 pub use margin::{Decider, InputMargins, LabelMargins, Margin, OutputMargins};
 pub use peaks::{Peak, Peaks, peaks_of};

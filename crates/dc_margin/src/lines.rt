@@ -4,7 +4,7 @@ ghost use Rattle.std.specs.Prelude.{◌≡◌, ◌<◌, IfOk, not};
 ghost use Rattle.std.specs.List.{All};
 ghost use Rattle.dc_cert.specs.Bounds.{certificate_rows};
 ghost use Rattle.dc_check.specs.Verdict.{IsSized, job_count};
-ghost use Rattle.dc_margin.specs.Lines.{IsLinePlaced, input_lines_of, output_lines_of, label_lines_of, lines_in, margin_lines_of, part_lines_of, measure_of};
+ghost use Rattle.dc_margin.specs.Lines.{IsLinePlaced, input_lines_of, output_lines_of, label_lines_of, lines_in, margin_lines_of, job_lines_of, measure_of};
 ghost use Rattle.dc_margin.specs.Margins.{is_kept};
 
 use crate::labels::label_margins;
@@ -28,7 +28,7 @@ pub enum Measure {
 #[derive(Clone, Copy, Debug, PartialEq, Eq)]
 pub struct MarginLine {
     /// The list of the input, output or label.
-    pub part: CertificateList,
+    pub list: CertificateList,
     /// The number of the input, output or label in its list, from 0.
     pub index: usize,
     /// The condition, C02 to C12.
@@ -93,7 +93,7 @@ pub fn input_lines(bus: usize, margins: &InputMargins) -> [MarginLine; 6]
     ensures { result ≡ input_lines_of bus margins.now }
 {
     let line = |condition: Condition, margin: Option<Margin>| MarginLine {
-        part: CertificateList::Inputs,
+        list: CertificateList::Inputs,
         index: bus,
         condition,
         margin,
@@ -113,7 +113,7 @@ pub fn output_lines(output: usize, margins: &OutputMargins) -> [MarginLine; 4]
     ensures { result ≡ output_lines_of output margins.now }
 {
     let line = |condition: Condition, margin: Option<Margin>| MarginLine {
-        part: CertificateList::Outputs,
+        list: CertificateList::Outputs,
         index: output,
         condition,
         margin,
@@ -131,7 +131,7 @@ pub fn label_lines(label: usize, margins: &LabelMargins) -> [MarginLine; 5]
     ensures { result ≡ label_lines_of label margins.now }
 {
     let line = |condition: Condition, margin: Option<Margin>| MarginLine {
-        part: CertificateList::Labels,
+        list: CertificateList::Labels,
         index: label,
         condition,
         margin,
@@ -146,35 +146,35 @@ pub fn label_lines(label: usize, margins: &LabelMargins) -> [MarginLine; 5]
 }
 
 /// How many inputs, outputs and labels there are.
-pub fn line_parts(tables: &Tables) -> usize
+pub fn line_jobs(tables: &Tables) -> usize
     ensures { result ≡ job_count tables.now }
 {
     tables.valid();
     tables.bus_count() + tables.output_count() + tables.label_count()
 }
 
-/// The lines of the part of this number: the inputs, the outputs and the labels in one row, from 0. One part after
+/// The lines of the job of this number: the inputs, the outputs and the labels in one row, from 0. One job after
 /// another they are the lines of [`margin_lines`].
-#[tactic(auto, unfolding(crate::specs::Lines::part_lines_of))]
-pub fn part_lines(tables: &Tables, certificate: &Certificate, part: usize) -> MarginLines
+#[tactic(auto, unfolding(crate::specs::Lines::job_lines_of))]
+pub fn job_lines(tables: &Tables, certificate: &Certificate, job: usize) -> MarginLines
     requires sized { IsSized tables.now (certificate_rows certificate.now) }
-    requires there { part < job_count tables.now }
-    ensures lines { lines_in result ≡ part_lines_of tables.now (certificate_rows certificate.now) part }
+    requires there { job < job_count tables.now }
+    ensures lines { lines_in result ≡ job_lines_of tables.now (certificate_rows certificate.now) job }
     ensures placed { All (IsLinePlaced tables.now) (lines_in result) }
 {
     tables.valid();
     let buses = tables.bus_count();
     let outputs = tables.output_count();
-    if part < buses {
-        let margins = input_margins(tables, certificate, part);
-        return MarginLines::Input(input_lines(part, &margins));
+    if job < buses {
+        let margins = input_margins(tables, certificate, job);
+        return MarginLines::Input(input_lines(job, &margins));
     }
-    if part < buses + outputs {
-        let output = part - buses;
+    if job < buses + outputs {
+        let output = job - buses;
         let margins = output_margins(tables, certificate, output);
         return MarginLines::Output(output_lines(output, &margins));
     }
-    let label = part - (buses + outputs);
+    let label = job - (buses + outputs);
     let margins = label_margins(tables, certificate, label);
     MarginLines::Label(label_lines(label, &margins))
 }
@@ -193,8 +193,8 @@ pub fn margin_lines(
     ensures placed { IfOk result (λ v. All (IsLinePlaced tables.now) v.items) }
 {
     let mut lines = Vec::new(alloc);
-    for part in 0..line_parts(tables) {
-        let own = part_lines(tables, certificate, part);
+    for job in 0..line_jobs(tables) {
+        let own = job_lines(tables, certificate, job);
         lines.extend_from_slice(own.as_slice())?;
     }
     Ok(lines)

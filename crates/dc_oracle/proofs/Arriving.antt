@@ -15,9 +15,9 @@ use Rattle.dc_word.specs.Word.{is_odd}
 use Rattle.dc_tables.specs.Declares.{stream_of}
 use Rattle.dc_tables.specs.TableRows.{TableRows, AreValid, stream_row}
 use Rattle.dc_event.specs.Time.{tick_after, routes}
-use Rattle.dc_event.specs.Offers.{only, refuses, let_in}
+use Rattle.dc_event.specs.Offers.{only, refuses_early, let_in}
 use Rattle.dc_event.specs.Buses.{visited_bus, in_of, move_of, moves, room, bus_arrivals, arrivals, arrival_of, is_latched, bus_entered, bus_taken, bus_item, backlog}
-use Rattle.dc_event.specs.Latest.{is_of, latest_arrived}
+use Rattle.dc_event.specs.Latest.{is_of_stream, latest_arrived}
 use Rattle.dc_event.specs.Alive.{came_words}
 use Rattle.dc_event.specs.Laws.{QueuesGrow}
 use Rattle.dc_event.specs.Replies.{reply}
@@ -128,11 +128,11 @@ still-arrive t run a w b = still-move t run (Arrive w a) b (in_of (arrival_of t 
 
 -- ---- when the latest words came
 
-arrived-is : (t : TableRows) (s : ℕ) (run : List Event) → latest_arrived t s run ≡ latest_came (room t (stream_row t s).bus) (is_of s) (moves t (stream_row t s).bus run)
+arrived-is : (t : TableRows) (s : ℕ) (run : List Event) → latest_arrived t s run ≡ latest_came (room t (stream_row t s).bus) (is_of_stream s) (moves t (stream_row t s).bus run)
 unfolding latest_arrived
 arrived-is t s run =
     let ms = moves t (stream_row t s).bus run in
-    elim (latest_number (room t (stream_row t s).bus) (is_of s) (moves t (stream_row t s).bus run)) as (λ o. (elim o [ None ↦ None | Some n ↦ Some (arrived_tick n (moves t (stream_row t s).bus run)) ]) ≡ option_map (λ n. arrived_tick n (moves t (stream_row t s).bus run)) o) [ None ↦ refl | Some n ↦ refl ]
+    elim (latest_number (room t (stream_row t s).bus) (is_of_stream s) (moves t (stream_row t s).bus run)) as (λ o. (elim o [ None ↦ None | Some n ↦ Some (arrived_tick n (moves t (stream_row t s).bus run)) ]) ≡ option_map (λ n. arrived_tick n (moves t (stream_row t s).bus run)) o) [ None ↦ refl | Some n ↦ refl ]
 
 came-nothing : (room : ℕ) (p : ℕ × ℕ → Bool) → latest_came room p [] ≡ None
 unfolding latest_number
@@ -140,7 +140,7 @@ came-nothing room p = ap (λ k. option_map (λ n. arrived_tick n []) (last_below
 
 arrived-new : (t : TableRows) (s : ℕ) → latest_arrived t s [] ≡ None
 arrived-new t s =
-    arrived-is t s [] ∙ ap (latest_came (room t (stream_row t s).bus) (is_of s)) (moves-nil t (stream_row t s).bus) ∙ came-nothing (room t (stream_row t s).bus) (is_of s)
+    arrived-is t s [] ∙ ap (latest_came (room t (stream_row t s).bus) (is_of_stream s)) (moves-nil t (stream_row t s).bus) ∙ came-nothing (room t (stream_row t s).bus) (is_of_stream s)
 
 module _ (t : TableRows) (grow : QueuesGrow t) (run : List Event) (e : Event) where
   behind : (b : ℕ) → (ws : List (ℕ × ℕ)) × (entered (room t b) (moves t b run ++ move_of t b run e) ≡ entered (room t b) (moves t b run) ++ ws)
@@ -154,23 +154,23 @@ module _ (t : TableRows) (grow : QueuesGrow t) (run : List Event) (e : Event) wh
       let b = (stream_row t s).bus in
       let g = behind (stream_row t s).bus in
       arrived-is t s (run ++ e ∷ [])
-      ∙ ap (latest_came (room t (stream_row t s).bus) (is_of s)) (moves-push t (stream_row t s).bus run e)
-      ∙ came-same (room t (stream_row t s).bus) (is_of s) (moves t (stream_row t s).bus run) (move_of t (stream_row t s).bus run e) g.0 g.1
+      ∙ ap (latest_came (room t (stream_row t s).bus) (is_of_stream s)) (moves-push t (stream_row t s).bus run e)
+      ∙ came-same (room t (stream_row t s).bus) (is_of_stream s) (moves t (stream_row t s).bus run) (move_of t (stream_row t s).bus run e) g.0 g.1
       (sym (ap (taken (room t (stream_row t s).bus)) (moves-push t (stream_row t s).bus run e)) ∙ still)
       ∙ sym (arrived-is t s run)
 
   pub arrived-next : (s : ℕ) → bus_taken t (stream_row t s).bus (run ++ e ∷ []) ≡ suc (bus_taken t (stream_row t s).bus run)
-      → latest_arrived t s (run ++ e ∷ []) ≡ cond (is_of s (bus_item t (stream_row t s).bus (run ++ e ∷ []) (bus_taken t (stream_row t s).bus run))) (Some (arrived_tick (bus_taken t (stream_row t s).bus run) (moves t (stream_row t s).bus (run ++ e ∷ [])))) (latest_arrived t s run)
+      → latest_arrived t s (run ++ e ∷ []) ≡ cond (is_of_stream s (bus_item t (stream_row t s).bus (run ++ e ∷ []) (bus_taken t (stream_row t s).bus run))) (Some (arrived_tick (bus_taken t (stream_row t s).bus run) (moves t (stream_row t s).bus (run ++ e ∷ [])))) (latest_arrived t s run)
   arrived-next s next =
       let b = (stream_row t s).bus in
       let g = behind (stream_row t s).bus in
-      let P : List Move → Type 0 = λ ms. latest_came (room t (stream_row t s).bus) (is_of s) ms
-      ≡ cond (is_of s (item (room t (stream_row t s).bus) ms (bus_taken t (stream_row t s).bus run))) (Some (arrived_tick (bus_taken t (stream_row t s).bus run) ms)) (latest_came (room t (stream_row t s).bus) (is_of s) (moves t (stream_row t s).bus run)) in
+      let P : List Move → Type 0 = λ ms. latest_came (room t (stream_row t s).bus) (is_of_stream s) ms
+      ≡ cond (is_of_stream s (item (room t (stream_row t s).bus) ms (bus_taken t (stream_row t s).bus run))) (Some (arrived_tick (bus_taken t (stream_row t s).bus run) ms)) (latest_came (room t (stream_row t s).bus) (is_of_stream s) (moves t (stream_row t s).bus run)) in
       arrived-is t s (run ++ e ∷ [])
       ∙ subst P (sym (moves-push t (stream_row t s).bus run e))
-      (came-next (room t (stream_row t s).bus) (is_of s) (moves t (stream_row t s).bus run) (move_of t (stream_row t s).bus run e) g.0 g.1
+      (came-next (room t (stream_row t s).bus) (is_of_stream s) (moves t (stream_row t s).bus run) (move_of t (stream_row t s).bus run e) g.0 g.1
       (sym (ap (taken (room t (stream_row t s).bus)) (moves-push t (stream_row t s).bus run e)) ∙ next))
-      ∙ ap (cond (is_of s (bus_item t (stream_row t s).bus (run ++ e ∷ []) (bus_taken t (stream_row t s).bus run))) (Some (arrived_tick (bus_taken t (stream_row t s).bus run) (moves t (stream_row t s).bus (run ++ e ∷ []))))) (sym (arrived-is t s run))
+      ∙ ap (cond (is_of_stream s (bus_item t (stream_row t s).bus (run ++ e ∷ []) (bus_taken t (stream_row t s).bus run))) (Some (arrived_tick (bus_taken t (stream_row t s).bus run) (moves t (stream_row t s).bus (run ++ e ∷ []))))) (sym (arrived-is t s run))
 
   -- ---- an event that brings nothing, and takes nothing
 
@@ -277,7 +277,7 @@ reported_in true full n = refl
 reported_in false true n = refl
 reported_in false false n = refl
 
-arrives-word : (t : TableRows) (run : List Event) (b w : ℕ) (odd refused : Bool) (o : Option ℕ) → is_odd w ≡ odd → stream_of t b w ≡ o → refuses t b run o ≡ refused
+arrives-word : (t : TableRows) (run : List Event) (b w : ℕ) (odd refused : Bool) (o : Option ℕ) → is_odd w ≡ odd → stream_of t b w ≡ o → refuses_early t b run o ≡ refused
     → (is_arrival (reply t run (Arrive w b)) ≡ true → Arrives t run b w o) × (is_arrival (reply t run (Arrive w b)) ≡ false → Arrives t run b w None)
 unfolding reply
 arrives-word t run b w false refused o odd_is o_is refused_is = (
@@ -301,10 +301,10 @@ arrives-word t run b w true false (Some s) odd_is o_is refused_is =
     )
 
 pub arrives-yes : (t : TableRows) (run : List Event) (b w : ℕ) (r : Reply) → r ≡ reply t run (Arrive w b) → is_arrival r ≡ true → Arrives t run b w (stream_of t b w)
-arrives-yes t run b w r is h = (arrives-word t run b w (is_odd w) (refuses t b run (stream_of t b w)) (stream_of t b w) refl refl refl).0 (sym (ap is_arrival is) ∙ h)
+arrives-yes t run b w r is h = (arrives-word t run b w (is_odd w) (refuses_early t b run (stream_of t b w)) (stream_of t b w) refl refl refl).0 (sym (ap is_arrival is) ∙ h)
 
 pub arrives-no : (t : TableRows) (run : List Event) (b w : ℕ) (r : Reply) → r ≡ reply t run (Arrive w b) → is_arrival r ≡ false → Arrives t run b w None
-arrives-no t run b w r is h = (arrives-word t run b w (is_odd w) (refuses t b run (stream_of t b w)) (stream_of t b w) refl refl refl).1 (sym (ap is_arrival is) ∙ h)
+arrives-no t run b w r is h = (arrives-word t run b w (is_odd w) (refuses_early t b run (stream_of t b w)) (stream_of t b w) refl refl refl).1 (sym (ap is_arrival is) ∙ h)
 
 -- ---- a router visits
 
@@ -382,11 +382,11 @@ module _ (t : TableRows) (grow : QueuesGrow t) (old new : ArrivalWatch) (run : L
       came_is = entry-tick (moves t b (run ++ Route r ∷ [])) number (omega (arith, in_entered, entered-le (room t b) (moves t b (run ++ Route r ∷ []))))
 
       -- the latest of a stream on the bus, by the number
-      on_bus : (k : ℕ) → (stream_row t k).bus ≡ b → latest_arrived t k (run ++ Route r ∷ []) ≡ cond (is_of k (bus_item t b (run ++ Route r ∷ []) number)) (Some (arrived_tick number (moves t b (run ++ Route r ∷ [])))) (latest_arrived t k run)
+      on_bus : (k : ℕ) → (stream_row t k).bus ≡ b → latest_arrived t k (run ++ Route r ∷ []) ≡ cond (is_of_stream k (bus_item t b (run ++ Route r ∷ []) number)) (Some (arrived_tick number (moves t b (run ++ Route r ∷ [])))) (latest_arrived t k run)
       on_bus k same =
           let P : ℕ → Type 0 = λ c. bus_taken t c (run ++ Route r ∷ []) ≡ suc (bus_taken t c run) in
-          let Q : ℕ → Type 0 = λ c. latest_arrived t k (run ++ Route r ∷ []) ≡ cond (is_of k (bus_item t c (run ++ Route r ∷ []) (bus_taken t c run))) (Some (arrived_tick (bus_taken t c run) (moves t c (run ++ Route r ∷ [])))) (latest_arrived t k run) in
-          let R : ℕ → Type 0 = λ n. latest_arrived t k (run ++ Route r ∷ []) ≡ cond (is_of k (bus_item t b (run ++ Route r ∷ []) n)) (Some (arrived_tick n (moves t b (run ++ Route r ∷ [])))) (latest_arrived t k run) in
+          let Q : ℕ → Type 0 = λ c. latest_arrived t k (run ++ Route r ∷ []) ≡ cond (is_of_stream k (bus_item t c (run ++ Route r ∷ []) (bus_taken t c run))) (Some (arrived_tick (bus_taken t c run) (moves t c (run ++ Route r ∷ [])))) (latest_arrived t k run) in
+          let R : ℕ → Type 0 = λ n. latest_arrived t k (run ++ Route r ∷ []) ≡ cond (is_of_stream k (bus_item t b (run ++ Route r ∷ []) n)) (Some (arrived_tick n (moves t b (run ++ Route r ∷ [])))) (latest_arrived t k run) in
           subst R (sym number_is) (subst Q same (arrived-next t grow run (Route r) k (subst P (sym same) one_more)))
 
       pub follows-took : length old.latest.items ≡ length t.streams → b < length t.buses → new.lives.items ≡ old.lives.items → new.came.items ≡ old.came.items → new.latest.items ≡ set old.latest.items s (Some (get_or (get_or old.came.items b []) number 0))
@@ -402,7 +402,7 @@ module _ (t : TableRows) (grow : QueuesGrow t) (old new : ArrivalWatch) (run : L
             latest = λ k l. ap (λ xs. get_or xs k None) latests ∙ elim (cases_eq s k) [
               | inl mine ↦
                   let P : ℕ → Type 0 = λ k. get_or (set old.latest.items s (Some (get_or (get_or old.came.items b []) number 0))) k None ≡ latest_arrived t k (run ++ Route r ∷ []) in
-                  let yes' : is_of s (bus_item t b (run ++ Route r ∷ []) number) ≡ true = eq-eqb _ _ (sym stream_is) in
+                  let yes' : is_of_stream s (bus_item t b (run ++ Route r ∷ []) number) ≡ true = eq-eqb _ _ (sym stream_is) in
                   let tick : get_or (get_or old.came.items b []) number 0 ≡ arrived_tick number (moves t b (run ++ Route r ∷ [])) =
                   ap (λ xs. get_or xs number 0) (h.came b bus_there ∙ sym (bus_arrivals-other t b run (Route r) refl)) ∙ came_is in
                   subst P mine (get_or-set_same old.latest.items s _ None (omega (arith, own.0)) ∙ ap (λ n. Some n) tick
@@ -411,7 +411,7 @@ module _ (t : TableRows) (grow : QueuesGrow t) (old new : ArrivalWatch) (run : L
                   let ne : k ≡ s → ⊥ = λ e. other (sym e) in
                   get_or-set_other old.latest.items s k _ None ne ∙ h.latest k l ∙ sym (elim (cases_eq (stream_row t k).bus b) [
                     | inl same ↦
-                        let no' : is_of k (bus_item t b (run ++ Route r ∷ []) number) ≡ false = ne_eqb _ _ (λ e. other (stream_is ∙ e)) in
+                        let no' : is_of_stream k (bus_item t b (run ++ Route r ∷ []) number) ≡ false = ne_eqb _ _ (λ e. other (stream_is ∙ e)) in
                         on_bus k same ∙ ap (λ v. cond v (Some (arrived_tick number (moves t b (run ++ Route r ∷ [])))) (latest_arrived t k run)) no'
                     | inr far ↦ arrived-same t grow run (Route r) k (still-elsewhere t run r (stream_row t k).bus (λ e. far (sym e ∙ sym took.bus)))
                   ])

@@ -2,9 +2,9 @@
 use Rattle.std.proofs.Common.{Bool, refl, sym, ap, ◌∙◌, true, false, leb, ltb, ◌&&◌, ◌≡◌, ℕ, zero, suc, ◌+◌, ◌-◌, ◌≤◌, ◌<◌, ◌↔◌, Option, Some, None, List, [], ◌∷◌, ◌++◌, length, get_or, subst, arith, inl, inr}
 use Rattle.std.specs.Prelude.{not}
 use Rattle.std.proofs.lemmas.Bool.{cases_lt, lt-ltb, le-ltb, le-leb, lt-leb, leb-true, leb-false}
-use Rattle.dc_bound.specs.Window.{HoldAtLeast, count_in, within, ticks_of}
+use Rattle.dc_bound.specs.Window.{HoldAtLeast, count_in, one_in, ticks_of}
 use Rattle.dc_bound.specs.Run.{ticks, stamp, stamped}
-use Rattle.dc_bound.specs.lemmas.Counts.{within_cases}
+use Rattle.dc_bound.specs.lemmas.Counts.{one_in_cases}
 use Rattle.dc_bound.specs.Turns.{NeverFall}
 use Rattle.dc_bound.specs.lemmas.Recent.{recent}
 use Rattle.dc_bound.specs.lemmas.Steps.{pace_tick}
@@ -49,9 +49,9 @@ last_is t n (s ∷ ts) h = omega (arith, h.0, last_is s n ts h.1)
 -- where the first is in the window, all are
 all_in : (u d n t : ℕ) (ts : List ℕ) → n < u + d → u ≤ t → NeverFall (t ∷ (ts ++ (n ∷ []))) → count_in u d (t ∷ ts) ≡ suc (length ts)
 unfolding NeverFall count_in
-all_in u d n t [] high low h = elim (within_cases u d t) [ inl w ↦ omega (arith, w.2) | inr v ↦ elim v [ inl w ↦ absurd (omega arith) | inr w ↦ absurd (omega (arith, h.0)) ] ]
+all_in u d n t [] high low h = elim (one_in_cases u d t) [ inl w ↦ omega (arith, w.2) | inr v ↦ elim v [ inl w ↦ absurd (omega arith) | inr w ↦ absurd (omega (arith, h.0)) ] ]
 all_in u d n t (s ∷ ts) high low h =
-    elim (within_cases u d t) [
+    elim (one_in_cases u d t) [
       | inl w ↦ omega (arith, w.2, all_in u d n s ts high (omega (arith, h.0)) h.1)
       | inr v ↦ elim v [ inl w ↦ absurd (omega arith) | inr w ↦ absurd (omega (arith, last_is t n (s ∷ ts) h)) ]
     ]
@@ -72,7 +72,7 @@ count_late u d n k [] high h some = ((λ l. absurd (omega arith)), (λ l. absurd
 count_late u d n k (t ∷ ts) high h some =
     elim (cases_lt t u) [
       | inl early ↦
-          let none : within u d t ≡ 0 = elim (within_cases u d t) [ inl w ↦ absurd (omega arith) | inr v ↦ elim v [ inl w ↦ w.1 | inr w ↦ w.1 ] ] in
+          let none : one_in u d t ≡ 0 = elim (one_in_cases u d t) [ inl w ↦ absurd (omega arith) | inr v ↦ elim v [ inl w ↦ w.1 | inr w ↦ w.1 ] ] in
           let rest = count_late u d n k ts high (tail t (ts ++ (n ∷ [])) h) some in (
             (λ l. (let r = rest.0 (omega arith) in
                 let next : suc (length ts) - k ≡ suc (length ts - k) = omega (arith, r.0) in

@@ -12,7 +12,7 @@ use Rattle.dc_event.specs.Alive.{IsAlive, AreUsable}
 use Rattle.dc_event.specs.Buses.{moves, room, is_latched}
 use Rattle.dc_event.specs.Choice.{fresh, fresh_word, head, chosen_source, chosen, word_for}
 use Rattle.dc_event.specs.Claims.{IsYoung, UsesFirst, UsesAny}
-use Rattle.dc_event.specs.Latest.{is_of, latest, latest_arrived}
+use Rattle.dc_event.specs.Latest.{is_of_stream, latest, latest_arrived}
 use Rattle.dc_event.specs.declared.event.Event.{Event}
 use Rattle.dc_oracle.specs.declared.arrivals.ArrivalWatch.{ArrivalWatch}
 use Rattle.dc_oracle.specs.Arrivals.{Follows}
@@ -23,9 +23,9 @@ use Rattle.dc_oracle.proofs.Taking.{last_below-passes}
 
 -- ---- the stream that a label copies is one of its sources
 
-number-own : (room s : ℕ) (ms : List Move) (n : ℕ) → latest_number room (is_of s) ms ≡ Some n → (item room ms n).0 ≡ s
+number-own : (room s : ℕ) (ms : List Move) (n : ℕ) → latest_number room (is_of_stream s) ms ≡ Some n → (item room ms n).0 ≡ s
 unfolding latest_number
-number-own room s ms n h = eqb-true _ _ ((last_below-passes (λ n. is_of s (item room ms n)) _ n h).1)
+number-own room s ms n h = eqb-true _ _ ((last_below-passes (λ n. is_of_stream s (item room ms n)) _ n h).1)
 
 only_in : {A : Type 0} (b : Bool) (y c : A) → Contains (cond b (y ∷ []) []) c → c ≡ y
 only_in true y c (zero, h, e) = sym e
@@ -40,7 +40,7 @@ fresh-own t x s now a h =
     elim (is_latched t (stream_row t s).bus now) as (λ v. Contains (cond v [] (fresh_word (label_row t x).stale (tick_after now) (latest t s now))) a → a.0 ≡ s) [
       | true ↦ λ h. absurd (omega (arith, h.1))
       | false ↦ λ h.
-          elim (latest_number (room t (stream_row t s).bus) (is_of s) (moves t (stream_row t s).bus now)) as (λ o. latest_number (room t (stream_row t s).bus) (is_of s) (moves t (stream_row t s).bus now) ≡ o
+          elim (latest_number (room t (stream_row t s).bus) (is_of_stream s) (moves t (stream_row t s).bus now)) as (λ o. latest_number (room t (stream_row t s).bus) (is_of_stream s) (moves t (stream_row t s).bus now) ≡ o
           → Contains (fresh_word (label_row t x).stale (tick_after now) (option_map all o)) a → a.0 ≡ s) [
             | None ↦ λ is h. absurd (omega (arith, h.1))
             | Some n ↦ λ is h.

@@ -4,8 +4,8 @@ use Rattle.std.specs.List.{All}
 use Rattle.std.proofs.lemmas.Bool.{cases_lt, cases_Bool, le-leb, lt-leb, leb-true, leb-false, and_parts}
 use Rattle.std.proofs.lemmas.List.{get_or_append_left}
 use Rattle.std.proofs.lemmas.List.Elements.{All-append, All-nil}
-use Rattle.dc_bound.specs.Window.{count_in, within}
-use Rattle.dc_bound.specs.lemmas.Counts.{count_in-nil, within_cases}
+use Rattle.dc_bound.specs.Window.{count_in, one_in}
+use Rattle.dc_bound.specs.lemmas.Counts.{count_in-nil, one_in_cases}
 use Rattle.dc_bound.specs.lemmas.Recent.{NoneLater}
 use Rattle.dc_bound.specs.lemmas.Steps.{count_in-push}
 use Rattle.dc_word.specs.Format.{is_usable}
@@ -71,14 +71,14 @@ module _ (maximum tick : ℕ) (ts : List ℕ) (l : Life) (some : 1 ≤ maximum) 
   pub beats-push : (word : ℕ) → NoneLater tick ts → BeatsAs maximum tick (ts ++ tick ∷ []) (lived maximum tick word l)
   beats-push word none = record {
     past = omega arith;
-    silent = λ u d from. elim (within_cases u d tick) [
+    silent = λ u d from. elim (one_in_cases u d tick) [
       | inl w ↦ absurd (omega arith)
       | inr v ↦ elim v [
         | inl w ↦ omega (arith, count_in-push u d ts tick, none u d (omega arith), w.1)
         | inr w ↦ omega (arith, count_in-push u d ts tick, none u d (omega arith), w.1)
       ]
     ];
-    last = λ u d from to. elim (within_cases u d tick) [
+    last = λ u d from to. elim (one_in_cases u d tick) [
       | inl w ↦ omega (arith, count_in-push u d ts tick, w.2)
       | inr v ↦ elim v [ inl w ↦ absurd (omega arith) | inr w ↦ absurd (omega arith) ]
     ];
@@ -86,7 +86,7 @@ module _ (maximum tick : ℕ) (ts : List ℕ) (l : Life) (some : 1 ≤ maximum) 
     gap = elim unbroken.before [
       | inl zero' ↦ inl zero'
       | inr g ↦ inr (
-        elim (within_cases (broken_at maximum tick l - 1) maximum tick) [
+        elim (one_in_cases (broken_at maximum tick l - 1) maximum tick) [
           | inl w ↦ absurd (omega (arith, g.1, w.1))
           | inr v ↦ elim v [
             | inl w ↦ omega (arith, count_in-push (broken_at maximum tick l - 1) maximum ts tick, g.0, w.1)

@@ -8,7 +8,7 @@ use Rattle.dc_word.specs.Word.{is_odd}
 use Rattle.dc_tables.specs.Declares.{stream_of}
 use Rattle.dc_tables.specs.TableRows.{TableRows, AreValid, stream_row, is_policed}
 use Rattle.dc_event.specs.Time.{ends, tick_after}
-use Rattle.dc_event.specs.Offers.{only, is_early, refuses}
+use Rattle.dc_event.specs.Offers.{only, is_early, refuses_early}
 use Rattle.dc_event.specs.Buses.{arrivals}
 use Rattle.dc_event.specs.lemmas.RunPush.{tick-push}
 use Rattle.dc_event.specs.lemmas.BudgetsPush.{calm}
@@ -91,8 +91,8 @@ module _ (t : TableRows) (old new : Police) (run : List Event) (b w : ℕ) (same
         ∙ pace-test (stream_row t k).minimum (stream_row t k).jitter (tick_after run) (ticks_of (arrivals t k run)) (get_or old.paces.items k no_pace) (h.paces k own.0 own_policed)
         ∙ sym (early-paced t k own_policed (v.minimums k own.0) run)
 
-    refuses-is : refuses t b run (Some k) ≡ is_early t k run
-    refuses-is = ap (λ x. x && is_early t k run) policed
+    refuses_early-is : refuses_early t b run (Some k) ≡ is_early t k run
+    refuses_early-is = ap (λ x. x && is_early t k run) policed
 
     still : tick_after run ≤ tick_after (run ++ Arrive w b ∷ [])
     still = omega (arith, calm run (Arrive w b) refl)
@@ -100,7 +100,7 @@ module _ (t : TableRows) (old new : Police) (run : List Event) (b w : ℕ) (same
     pub judges-refused : (refused : Bool) → refused ≡ is_early_at (stream_row t k).jitter old.tick (get_or old.paces.items k no_pace) → refused ≡ true → (p : Pace) → new.paces.items ≡ set old.paces.items k p → p ≡ get_or old.paces.items k no_pace → length old.paces.items ≡ length t.streams → Judges t new run (Arrive w b) refused
     judges-refused refused is yes' p same p_is sized =
         let early : is_early t k run ≡ true = sym test ∙ sym is ∙ yes' in
-        let r : refuses t b run (Some k) ≡ true = refuses-is ∙ early in
+        let r : refuses_early t b run (Some k) ≡ true = refuses_early-is ∙ early in
         let kept : (s : ℕ) → get_or new.paces.items s no_pace ≡ get_or old.paces.items s no_pace = λ s. ap (λ xs. get_or xs s no_pace) same ∙ elim (cases_eq k s) [
           | inl mine ↦ (let R : ℕ → Type 0 = λ s. get_or (set old.paces.items k p) s no_pace ≡ get_or old.paces.items s no_pace in subst R mine (get_or-set_same old.paces.items k p no_pace (omega (arith, own.0)) ∙ p_is))
           | inr other ↦ (let ne : s ≡ k → ⊥ = λ e. other (sym e) in get_or-set_other old.paces.items k s p no_pace ne)
@@ -111,7 +111,7 @@ module _ (t : TableRows) (old new : Police) (run : List Event) (b w : ℕ) (same
         → new.paces.items ≡ set old.paces.items k p → p ≡ moved (stream_row t k).minimum old.tick (get_or old.paces.items k no_pace) → Judges t new run (Arrive w b) refused
     judges-let_in refused p is no' sized same p_is =
         let free : is_early t k run ≡ false = sym test ∙ sym is ∙ no' in
-        let r : refuses t b run (Some k) ≡ false = refuses-is ∙ free in
+        let r : refuses_early t b run (Some k) ≡ false = refuses_early-is ∙ free in
         let T : ℕ → Type 0 = λ n. p ≡ moved (stream_row t k).minimum n (get_or old.paces.items k no_pace) in
         let p' : p ≡ moved (stream_row t k).minimum (tick_after run) (get_or old.paces.items k no_pace) = subst T h.clock p_is in
         record {

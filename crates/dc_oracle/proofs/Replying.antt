@@ -14,10 +14,10 @@ use Rattle.dc_word.specs.Word.{is_odd, label_of, sdi_of}
 use Rattle.dc_tables.specs.Declares.{stream_of, declares, fits}
 use Rattle.dc_tables.specs.TableRows.{TableRows, AreValid, visited, stream_row, router_row, label_row}
 use Rattle.dc_event.specs.Time.{ends, tick_after, route_of, send_of, routes}
-use Rattle.dc_event.specs.Offers.{refuses, let_in}
+use Rattle.dc_event.specs.Offers.{refuses_early, let_in}
 use Rattle.dc_oracle.specs.Police.{is_refused}
 use Rattle.dc_event.specs.Buses.{in_of, move_of, moves, room}
-use Rattle.dc_event.specs.Latest.{is_of, latest}
+use Rattle.dc_event.specs.Latest.{is_of_stream, latest}
 use Rattle.dc_event.specs.Outputs.{due_tick, due_by, sent, entry_label}
 use Rattle.dc_event.specs.Choice.{chosen}
 use Rattle.dc_event.specs.Emissions.{emission}
@@ -142,17 +142,17 @@ arrive_undeclared t run b w h = record {
 }
 
 -- a word that the bus refuses
-refused_parts : (t : TableRows) (run : List Event) (b w : ℕ) → is_refused t run (Arrive w b) ≡ true → (is_odd w ≡ true) × ((k : ℕ) × (stream_of t b w ≡ Some k) × (refuses t b run (Some k) ≡ true))
+refused_parts : (t : TableRows) (run : List Event) (b w : ℕ) → is_refused t run (Arrive w b) ≡ true → (is_odd w ≡ true) × ((k : ℕ) × (stream_of t b w ≡ Some k) × (refuses_early t b run (Some k) ≡ true))
 refused_parts t run b w h =
-    let p = and_parts (is_odd w) (refuses t b run (stream_of t b w)) h in (
+    let p = and_parts (is_odd w) (refuses_early t b run (stream_of t b w)) h in (
       p.0,
-      elim (stream_of t b w) as (λ o. stream_of t b w ≡ o → refuses t b run o ≡ true → (k : ℕ) × (stream_of t b w ≡ Some k) × (refuses t b run (Some k) ≡ true)) [
+      elim (stream_of t b w) as (λ o. stream_of t b w ≡ o → refuses_early t b run o ≡ true → (k : ℕ) × (stream_of t b w ≡ Some k) × (refuses_early t b run (Some k) ≡ true)) [
         | None ↦ λ e r. absurd cc
         | Some k ↦ λ e r. (k, e, r)
       ] refl p.1,
     )
 
-arrive_refused : (t : TableRows) (run : List Event) (b w s : ℕ) → stream_of t b w ≡ Some s → refuses t b run (Some s) ≡ true → IsNothing t run (Arrive w b)
+arrive_refused : (t : TableRows) (run : List Event) (b w s : ℕ) → stream_of t b w ≡ Some s → refuses_early t b run (Some s) ≡ true → IsNothing t run (Arrive w b)
 arrive_refused t run b w s some early = record {
   no_tick = refl;
   no_move = λ a. elim (cases_eq b a) [
@@ -171,7 +171,7 @@ replies-refused_word t w run b word h holds =
     let p = refused_parts t run b word h in
     let odd : is_odd word ≡ true = p.0 in
     let some : stream_of t b word ≡ Some p.1.0 = p.1.1 in
-    let early : refuses t b run (Some p.1.0) ≡ true = p.1.2 in
+    let early : refuses_early t b run (Some p.1.0) ≡ true = p.1.2 in
     record { holds = holds-nothing t w run (Arrive word b) (arrive_refused t run b word p.1.0 some early) holds; answer = rw (odd, some, early) refl }
 
 pub replies-refused : (t : TableRows) (w : ReplyWatch) (run : List Event) (e : Event) → is_refused t run e ≡ true → Holds t w run → Replies t w run e TooEarly
@@ -188,7 +188,7 @@ pub replies-undeclared : (t : TableRows) (w : ReplyWatch) (run : List Event) (b 
 unfolding reply
 replies-undeclared t w run b word odd none h = record { holds = holds-nothing t w run (Arrive word b) (arrive_undeclared t run b word none) h; answer = rw (odd, none) refl }
 
-move_here : (t : TableRows) (run : List Event) (b w s : ℕ) → is_odd w ≡ true → stream_of t b w ≡ Some s → refuses t b run (Some s) ≡ false → move_of t b run (Arrive w b) ≡ In (s, w) ∷ []
+move_here : (t : TableRows) (run : List Event) (b w s : ℕ) → is_odd w ≡ true → stream_of t b w ≡ Some s → refuses_early t b run (Some s) ≡ false → move_of t b run (Arrive w b) ≡ In (s, w) ∷ []
 move_here t run b w s odd some free = let e : (b == b) ≡ true = eq-eqb b b refl in rw (e, odd, some, free) refl
 
 -- a word that comes leaves every latest word
@@ -201,7 +201,7 @@ latest_by-in room p ms x = elim (cases_Bool (is_some (latch room ms))) [
   ]
 ]
 
-latest-arrive : (t : TableRows) (s : ℕ) (run : List Event) (b w k : ℕ) → is_odd w ≡ true → stream_of t b w ≡ Some k → refuses t b run (Some k) ≡ false → latest t s (run ++ Arrive w b ∷ []) ≡ latest t s run
+latest-arrive : (t : TableRows) (s : ℕ) (run : List Event) (b w k : ℕ) → is_odd w ≡ true → stream_of t b w ≡ Some k → refuses_early t b run (Some k) ≡ false → latest t s (run ++ Arrive w b ∷ []) ≡ latest t s run
 unfolding latest
 latest-arrive t s run b w k odd some free =
     let a = (stream_row t s).bus in
@@ -209,11 +209,11 @@ latest-arrive t s run b w k odd some free =
       | inl same ↦
           let P : ℕ → Type 0 = λ a. move_of t a run (Arrive w b) ≡ In (k, w) ∷ [] in
           let here : move_of t a run (Arrive w b) ≡ In (k, w) ∷ [] = subst P same (move_here t run b w k odd some free) in
-          ap (λ ms. latest_by (room t a) (is_of s) ms) (moves-push t a run (Arrive w b) ∙ ap (λ m. moves t a run ++ m) here) ∙ latest_by-in (room t a) (is_of s) (moves t a run) (k, w)
+          ap (λ ms. latest_by (room t a) (is_of_stream s) ms) (moves-push t a run (Arrive w b) ∙ ap (λ m. moves t a run ++ m) here) ∙ latest_by-in (room t a) (is_of_stream s) (moves t a run) (k, w)
       | inr other ↦ latest-other t s run (Arrive w b) (move_elsewhere t run a b w other)
     ]
 
-pub replies-arrive : (t : TableRows) (old new : ReplyWatch) (run : List Event) (b w s : ℕ) (d : BusData) (r : Reply) → b < length old.buses.items → is_odd w ≡ true → stream_of t b w ≡ Some s → refuses t b run (Some s) ≡ false
+pub replies-arrive : (t : TableRows) (old new : ReplyWatch) (run : List Event) (b w s : ℕ) (d : BusData) (r : Reply) → b < length old.buses.items → is_odd w ≡ true → stream_of t b w ≡ Some s → refuses_early t b run (Some s) ≡ false
     → Received (room t b) d (moves t b run) (s, w) r → new.tick ≡ old.tick → new.buses.items ≡ set old.buses.items b d → new.latest.items ≡ old.latest.items → new.cursors.items ≡ old.cursors.items → new.sent.items ≡ old.sent.items
     → Holds t old run → Replies t new run (Arrive w b) r
 unfolding reply
@@ -330,8 +330,8 @@ module _ (t : TableRows) (old new : ReplyWatch) (run : List Event) (r b : ℕ) (
     unfolding latest
     latest_empty s = elim (cases_eq b (stream_row t s).bus) [
       | inl same ↦
-          let P : ℕ → Type 0 = λ a. latest_by (room t a) (is_of s) (moves t a (run ++ Route r ∷ [])) ≡ latest_by (room t a) (is_of s) (moves t a run) in
-          subst P same (rw more_b (latest_by-same (room t b) (is_of s) (moves t b run) Visit [] ((queue-visit (room t b) (moves t b run)).1 ∙ sym (append-nil _)) empty_is))
+          let P : ℕ → Type 0 = λ a. latest_by (room t a) (is_of_stream s) (moves t a (run ++ Route r ∷ [])) ≡ latest_by (room t a) (is_of_stream s) (moves t a run) in
+          subst P same (rw more_b (latest_by-same (room t b) (is_of_stream s) (moves t b run) Visit [] ((queue-visit (room t b) (moves t b run)).1 ∙ sym (append-nil _)) empty_is))
       | inr other ↦ latest_elsewhere s other
     ]
 
@@ -358,14 +358,14 @@ module _ (t : TableRows) (old new : ReplyWatch) (run : List Event) (r b : ℕ) (
         let P : ℕ × ℕ → Type 0 = λ y. stream_of t b y.1 ≡ Some y.0 in
         subst P (sym item_is) (entered-declared t b (room t b) (taken (room t b) (moves t b run)) run waits)
 
-    latest_took : (s : ℕ) → b ≡ (stream_row t s).bus → latest t s (run ++ Route r ∷ []) ≡ cond (is_of s x) (Some (x, old.tick)) (latest t s run)
+    latest_took : (s : ℕ) → b ≡ (stream_row t s).bus → latest t s (run ++ Route r ∷ []) ≡ cond (is_of_stream s x) (Some (x, old.tick)) (latest t s run)
     unfolding latest
     latest_took s same =
         let time : ticks_in (moves t b run) ≡ old.tick = ticks_in-moves t b run ∙ sym h.clock in
-        let P : ℕ → Type 0 = λ a. latest_by (room t a) (is_of s) (moves t a (run ++ Route r ∷ [])) ≡ cond (is_of s x) (Some (x, old.tick)) (latest_by (room t a) (is_of s) (moves t a run)) in
-        subst P same (ap (λ ms. latest_by (room t b) (is_of s) ms) more_b ∙ latest_by-takes (room t b) (is_of s) (moves t b run) waits
-        ∙ ap (λ y. cond (is_of s y) (Some (y, ticks_in (moves t b run))) (latest_by (room t b) (is_of s) (moves t b run))) (sym item_is)
-        ∙ ap (λ k. cond (is_of s x) (Some (x, k)) (latest_by (room t b) (is_of s) (moves t b run))) time)
+        let P : ℕ → Type 0 = λ a. latest_by (room t a) (is_of_stream s) (moves t a (run ++ Route r ∷ [])) ≡ cond (is_of_stream s x) (Some (x, old.tick)) (latest_by (room t a) (is_of_stream s) (moves t a run)) in
+        subst P same (ap (λ ms. latest_by (room t b) (is_of_stream s) ms) more_b ∙ latest_by-takes (room t b) (is_of_stream s) (moves t b run) waits
+        ∙ ap (λ y. cond (is_of_stream s y) (Some (y, ticks_in (moves t b run))) (latest_by (room t b) (is_of_stream s) (moves t b run))) (sym item_is)
+        ∙ ap (λ k. cond (is_of_stream s x) (Some (x, k)) (latest_by (room t b) (is_of_stream s) (moves t b run))) time)
 
     latest_other : (s : ℕ) → (x.0 ≡ s → ⊥) → latest t s (run ++ Route r ∷ []) ≡ latest t s run
     latest_other s apart = elim (cases_eq b (stream_row t s).bus) [
@@ -498,7 +498,7 @@ unfolding latest
 latest-tick t s run =
     let a = (stream_row t s).bus in
     let q = queue-tick (room t a) (moves t a run) in
-    rw (moves-push t a run Tick) (latest_by-same (room t a) (is_of s) (moves t a run) TickMove [] (q.1 ∙ sym (append-nil _)) q.2)
+    rw (moves-push t a run Tick) (latest_by-same (room t a) (is_of_stream s) (moves t a run) TickMove [] (q.1 ∙ sym (append-nil _)) q.2)
 
 pub replies-tick : (t : TableRows) (old new : ReplyWatch) (run : List Event) → new.tick ≡ old.tick + 1 → new.buses ≡ old.buses → new.latest ≡ old.latest → new.cursors ≡ old.cursors → new.sent ≡ old.sent → Holds t old run → Replies t new run Tick (Now new.tick)
 unfolding reply

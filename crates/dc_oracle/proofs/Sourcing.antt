@@ -14,8 +14,8 @@ use Rattle.dc_event.specs.Buses.{bus_arrivals, arrivals, arrival_of}
 use Rattle.dc_event.specs.Admissible.{KeepsSources}
 use Rattle.dc_event.specs.lemmas.RunPush.{tick-push}
 use Rattle.dc_event.specs.lemmas.BudgetsPush.{rest-same, calm}
-use Rattle.dc_event.specs.Offers.{only, cap_of, refuses}
-use Rattle.dc_event.specs.lemmas.Arrivals.{arrival_on, refuses-none, stream_of-there, even-none, elsewhere-none, undeclared-none, arrival-here, arrival-own, arrival-others, arrivals-nil, bus_arrivals-nil, arrivals-other, bus_arrivals-other, arrivals-push, bus_arrivals-push, bus_arrivals-none_later, stream_rests-push, wire_rests-push}
+use Rattle.dc_event.specs.Offers.{only, cap_of, refuses_early}
+use Rattle.dc_event.specs.lemmas.Arrivals.{arrival_on, refuses_early-none, stream_of-there, even-none, elsewhere-none, undeclared-none, arrival-here, arrival-own, arrival-others, arrivals-nil, bus_arrivals-nil, arrivals-other, bus_arrivals-other, arrivals-push, bus_arrivals-push, bus_arrivals-none_later, stream_rests-push, wire_rests-push}
 use Rattle.dc_event.specs.declared.event.Event.{Event}
 use Rattle.dc_event.specs.declared.event.Event.TheVariants.{Tick, Arrive}
 use Rattle.dc_oracle.specs.declared.wire.WireLoad.{WireLoad}
@@ -149,8 +149,8 @@ pub record IsArrival (t : TableRows) (a w s : ℕ) : Type 0 where
   pub free : is_policed t a ≡ false
 
 module _ (t : TableRows) (v : AreValid t) (run : List Event) (a w s : ℕ) (is : IsArrival t a w s) where
-  let_in_here : refuses t a run (Some s) ≡ false
-  let_in_here = refuses-none t a run (Some s) is.free
+  let_in_here : refuses_early t a run (Some s) ≡ false
+  let_in_here = refuses_early-none t a run (Some s) is.free
 
   here : arrival_of t a run (Arrive w a) ≡ Some s
   here = arrival-here t run a w s is.odd is.declared let_in_here

@@ -3,7 +3,7 @@ use Rattle.std.proofs.Common.{◌≡◌, ℕ, suc, ◌+◌, ◌-◌, ◌*◌, �
 use Rattle.std.proofs.Math.Nat.{mul-le-mul_right, le-div_iff_mul-le}
 use Rattle.std.proofs.lemmas.Bool.{cases_lt}
 use Rattle.dc_bound.specs.Window.{count_in}
-use Rattle.dc_bound.specs.lemmas.Counts.{within_cases, count_in-nil, ceil_from}
+use Rattle.dc_bound.specs.lemmas.Counts.{one_in_cases, count_in-nil, ceil_from}
 use Rattle.dc_bound.specs.lemmas.Budget.{count_in_sum}
 use Rattle.dc_bound.specs.lemmas.Steps.{count_in-push}
 use Rattle.dc_bound.specs.lemmas.Recent.{NoneLater, recent}
@@ -27,7 +27,7 @@ since-new k ts none = none (suc k) (suc (suc k) - suc k) (omega arith)
 
 since-push : (u k : ℕ) (ts : List ℕ) → u ≤ k → since u k (ts ++ (k ∷ [])) ≡ since u k ts + 1
 since-push u k ts h =
-    elim (within_cases u (suc k - u) k) [
+    elim (one_in_cases u (suc k - u) k) [
       | inl w ↦ omega (arith, w.2, count_in-push u (suc k - u) ts k)
       | inr v ↦ elim v [ inl w ↦ absurd (omega arith) | inr w ↦ absurd (omega arith) ]
     ]

@@ -5,7 +5,7 @@ use Rattle.dc_word.specs.Word.{is_odd}
 use Rattle.dc_tables.specs.Declares.{stream_of}
 use Rattle.dc_tables.specs.TableRows.{TableRows, stream_row, is_policed}
 use Rattle.dc_event.specs.Time.{tick_after}
-use Rattle.dc_event.specs.Offers.{refuses}
+use Rattle.dc_event.specs.Offers.{refuses_early}
 use Rattle.dc_event.specs.Buses.{arrivals}
 use Rattle.dc_event.specs.declared.event.Event.{Event}
 use Rattle.dc_event.specs.declared.event.Event.TheVariants.{Tick, Arrive, Route, Send}
@@ -15,7 +15,7 @@ use Rattle.dc_oracle.specs.Pace.{IsPaceOf, no_pace}
 -- whether the event brings an odd word that a policed bus refuses as early
 abbrev pub is_refused : TableRows → List Event → Event → Bool
 is_refused t run Tick = false
-is_refused t run (Arrive w b) = is_odd w && refuses t b run (stream_of t b w)
+is_refused t run (Arrive w b) = is_odd w && refuses_early t b run (stream_of t b w)
 is_refused t run (Route r) = false
 is_refused t run (Send o) = false
 

@@ -45,8 +45,8 @@ window_text fault = if names_window fault.condition then codes " window " ++ dec
 -- where a condition fails: a list, or a member with its name and, where the condition names one, the window
 abbrev pub place_text : TableRows → CheckFault → List ℕ
 place_text t fault =
-    if is_of_a_list fault.condition then list_text fault.part
-    else member_text fault.part ++ member_name t fault.part fault.index ++ window_text fault
+    if is_of_a_list fault.condition then list_text fault.list
+    else member_text fault.list ++ member_name t fault.list fault.index ++ window_text fault
 
 -- as `refused C06 input A window 1`
 unfoldable pub refused_text : TableRows → CheckFault → List ℕ

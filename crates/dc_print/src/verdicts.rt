@@ -3,7 +3,7 @@ ghost use Rattle.std.specs.Prelude.{◌≡◌, ◌++◌, ◌+◌, ◌<◌, ◌�
 ghost use Rattle.arrayvec.specs.ArrayVec.{array_vec_len};
 ghost use Rattle.dc_cert.specs.Faults.{fault_text};
 ghost use Rattle.dc_parts.specs.FaultText.{table_fault_text};
-ghost use Rattle.dc_check.specs.Placed.{IsPlaced, part_count};
+ghost use Rattle.dc_check.specs.Placed.{IsPlaced, member_count};
 ghost use Rattle.dc_print.specs.Verdicts.{accepted_text, is_of_a_list, list_text, member_name, member_text, names_window, place_text, refused_text, window_text};
 ghost use Rattle.std.specs.Prelude.{codes};
 ghost use Rattle.dc_parts.specs.declared.limits.TheConstants.{NAME_LIMIT};
@@ -32,11 +32,11 @@ fn has_window(condition: Condition) -> bool
 }
 
 /// The name of a list.
-fn list(part: CertificateList) -> &'static [u8]
-    ensures text { result.now ≡ list_text part }
+fn list(list: CertificateList) -> &'static [u8]
+    ensures text { result.now ≡ list_text list }
     ensures short { length result.now ≤ 7 }
 {
-    match part {
+    match list {
         CertificateList::Inputs => b"inputs",
         CertificateList::Outputs => b"outputs",
         CertificateList::Labels => b"labels",
@@ -44,11 +44,11 @@ fn list(part: CertificateList) -> &'static [u8]
 }
 
 /// What a member of a list is called, and a space.
-fn member(part: CertificateList) -> &'static [u8]
-    ensures text { result.now ≡ member_text part }
+fn member(list: CertificateList) -> &'static [u8]
+    ensures text { result.now ≡ member_text list }
     ensures short { length result.now ≤ 7 }
 {
-    match part {
+    match list {
         CertificateList::Inputs => b"input ",
         CertificateList::Outputs => b"output ",
         CertificateList::Labels => b"label ",
@@ -56,12 +56,12 @@ fn member(part: CertificateList) -> &'static [u8]
 }
 
 /// The name of a bus, an output or a label.
-fn name(tables: &Tables, part: CertificateList, index: usize) -> &[u8]
-    requires { index < part_count tables.now part }
-    ensures text { result.now ≡ member_name tables.now part index }
+fn name(tables: &Tables, list: CertificateList, index: usize) -> &[u8]
+    requires { index < member_count tables.now list }
+    ensures text { result.now ≡ member_name tables.now list index }
     ensures short { length result.now ≤ NAME_LIMIT }
 {
-    match part {
+    match list {
         CertificateList::Inputs => tables.bus_name(index).text(),
         CertificateList::Outputs => tables.output_name(index).text(),
         CertificateList::Labels => tables.label_name(index).text(),
@@ -69,14 +69,14 @@ fn name(tables: &Tables, part: CertificateList, index: usize) -> &[u8]
 }
 
 /// Puts what a member of a list is called and its name at the end.
-pub fn append_member(text: &mut Text, tables: &Tables, part: CertificateList, index: usize)
+pub fn append_member(text: &mut Text, tables: &Tables, list: CertificateList, index: usize)
     requires room { array_vec_len text.old ≤ 60 }
-    requires place { index < part_count tables.now part }
-    ensures items { text.new.items ≡ text.old.items ++ member_text part ++ member_name tables.now part index }
+    requires place { index < member_count tables.now list }
+    ensures items { text.new.items ≡ text.old.items ++ member_text list ++ member_name tables.now list index }
     ensures len { array_vec_len text.new ≤ array_vec_len text.old + 23 }
 {
-    append(text, member(part));
-    append(text, name(tables, part, index));
+    append(text, member(list));
+    append(text, name(tables, list, index));
 }
 
 /// Puts the window at the end, where the condition names one.
@@ -97,10 +97,10 @@ fn append_place(text: &mut Text, tables: &Tables, fault: CheckFault)
     ensures { text.new.items ≡ text.old.items ++ place_text tables.now fault }
 {
     if is_of_list(fault.condition) {
-        append(text, list(fault.part));
+        append(text, list(fault.list));
         return;
     }
-    append_member(text, tables, fault.part, fault.index);
+    append_member(text, tables, fault.list, fault.index);
     append_window(text, fault);
 }
 

@@ -9,7 +9,7 @@ use dc_tables::Entry;
 use std::alloc::AllocError;
 
 /// Whether an entry is of the label; of all where none is named.
-fn is_of(entry: Entry, label: Option<usize>) -> bool {
+fn is_of_label(entry: Entry, label: Option<usize>) -> bool {
     match label {
         None => true,
         Some(label) => entry.label == label,
@@ -26,7 +26,7 @@ pub fn push_strip(
     text.push_str("<svg viewBox='-1 0 402 14'><path class='e' d='")?;
     let mut last = None;
     for entry in entries {
-        if is_of(*entry, label) {
+        if is_of_label(*entry, label) {
             let x = share(u64::from(entry.offset), u64::from(frame), 400);
             if last != Some(x) {
                 write!(text, "M{x} 1v12")?;

@@ -19,8 +19,8 @@ use dc_margin::{InputMargins, OutputMargins};
 use dc_tables::Tables;
 use std::alloc::{AllocError, Global};
 
-/// Adds the margins and the drawings of all parts, given the margins of the inputs and outputs.
-fn push_parts(
+/// Adds the sections of all inputs, outputs and labels, given the margins of the inputs and outputs.
+fn push_sections(
     text: &mut String,
     tables: &Tables,
     certificate: &Certificate,
@@ -43,7 +43,7 @@ fn push_parts(
     Ok(())
 }
 
-/// Adds what is promised, where that is something, and all parts.
+/// Adds what is promised, where that is something, and all sections.
 fn push_named(
     alloc: Global,
     text: &mut String,
@@ -58,7 +58,7 @@ fn push_named(
     }
     let inputs = inputs_known(alloc, tables, certificate)?;
     let outputs = outputs_known(alloc, tables, certificate)?;
-    push_parts(
+    push_sections(
         text,
         tables,
         certificate,

@@ -1,4 +1,4 @@
-//! The part of an input.
+//! The section of an input.
 
 ghost use Rattle.std.specs.Prelude.{◌<◌, length};
 ghost use Rattle.dc_cert.specs.Bounds.{certificate_rows};
@@ -70,7 +70,7 @@ fn push_curves(
     )
 }
 
-/// Adds the part of the input of this number, with its margins.
+/// Adds the section of the input of this number, with its margins.
 pub fn push_input(
     text: &mut String,
     tables: &Tables,

@@ -1,4 +1,4 @@
-//! The part of a label.
+//! The section of a label.
 
 ghost use Rattle.std.specs.Prelude.{◌<◌, length};
 ghost use Rattle.dc_cert.specs.Bounds.{certificate_rows};
@@ -138,7 +138,7 @@ fn push_sources(
     text.push_str("</div>\n")
 }
 
-/// Adds the part of the label of this number.
+/// Adds the section of the label of this number.
 pub fn push_label(
     text: &mut String,
     tables: &Tables,

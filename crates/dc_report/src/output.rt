@@ -1,4 +1,4 @@
-//! The part of an output with its labels.
+//! The section of an output with its labels.
 
 ghost use Rattle.std.specs.Prelude.{◌<◌, length};
 ghost use Rattle.dc_cert.specs.Bounds.{certificate_rows};
@@ -88,7 +88,7 @@ fn push_labels(
     Ok(())
 }
 
-/// Adds the part of the output of this number, with its margins.
+/// Adds the section of the output of this number, with its margins.
 pub fn push_output(
     text: &mut String,
     tables: &Tables,

@@ -48,7 +48,7 @@ pub fn remedy(condition: Condition) -> &'static str {
 
 /// What the margin of a line counts. Words of an output are its entries.
 fn unit_of(line: MarginLine) -> Unit {
-    match (line.measure(), line.part) {
+    match (line.measure(), line.list) {
         (Measure::Ticks, _) => Unit::Ticks,
         (Measure::Words, CertificateList::Outputs) => Unit::Entries,
         (Measure::Words, _) => Unit::Words,

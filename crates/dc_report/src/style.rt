@@ -26,7 +26,7 @@ path{fill:none;stroke:var(--ink);stroke-width:2}.x{stroke:var(--soft);stroke-wid
 <h1>Report on a certificate</h1>
 ";
 
-/// All after the last part.
+/// All after the last section.
 pub const FOOT: &str =
     "<p class='s'>Made by dc429. That an accepted certificate keeps its claims is proved; that this page shows the right numbers is tested.</p>
 </body></html>";

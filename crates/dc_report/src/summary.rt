@@ -83,7 +83,7 @@ fn note(leasts: &mut Leasts, lines: &[MarginLine], name: Name) {
     }
 }
 
-/// The least margins of all parts, given those of the inputs and outputs.
+/// The least margins of all jobs, given those of the inputs and outputs.
 fn leasts_of(
     tables: &Tables,
     certificate: &Certificate,
@@ -111,8 +111,8 @@ fn leasts_of(
 }
 
 /// What a member of a list is called.
-pub fn member(part: CertificateList) -> &'static str {
-    match part {
+pub fn member(list: CertificateList) -> &'static str {
+    match list {
         CertificateList::Inputs => "input",
         CertificateList::Outputs => "output",
         CertificateList::Labels => "label",
@@ -126,7 +126,7 @@ fn push_least(text: &mut String, least: &Least) -> Result<(), AllocError> {
     let code = line.condition.code();
     let question = asks(line.condition);
     let margin = MarginText(line);
-    let member = member(line.part);
+    let member = member(line.list);
     let name = Escaped(least.name.text());
     write!(
         text,

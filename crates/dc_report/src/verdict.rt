@@ -1,7 +1,7 @@
 //! The verdict, in one sentence.
 
 ghost use Rattle.std.specs.Prelude.{◌<◌, length};
-ghost use Rattle.dc_check.specs.Placed.{IsPlaced, part_count};
+ghost use Rattle.dc_check.specs.Placed.{IsPlaced, member_count};
 
 use crate::amount::{Amount, Unit};
 use crate::escape::Escaped;
@@ -33,10 +33,10 @@ pub fn push_accepted(text: &mut String, tables: &Tables) -> Result<(), AllocErro
 }
 
 /// The name of a bus, an output or a label.
-fn name(tables: &Tables, part: CertificateList, index: usize) -> Name
-    requires { index < part_count tables.now part }
+fn name(tables: &Tables, list: CertificateList, index: usize) -> Name
+    requires { index < member_count tables.now list }
 {
-    match part {
+    match list {
         CertificateList::Inputs => *tables.bus_name(index),
         CertificateList::Outputs => *tables.output_name(index),
         CertificateList::Labels => *tables.label_name(index),
@@ -47,11 +47,11 @@ fn name(tables: &Tables, part: CertificateList, index: usize) -> Name
 fn push_place(text: &mut String, tables: &Tables, fault: CheckFault) -> Result<(), AllocError>
     requires { IsPlaced tables.now fault }
 {
-    let member = member(fault.part);
+    let member = member(fault.list);
     if matches!(fault.condition, Condition::NamesDiffer) {
         return write!(text, "the {member}s");
     }
-    let own = name(tables, fault.part, fault.index);
+    let own = name(tables, fault.list, fault.index);
     let name = Escaped(own.text());
     write!(text, "{member} {name}")?;
     if fault.window == 0 {

@@ -6,7 +6,7 @@ ghost use Rattle.dc_tables.specs.Bounds.{AreBounds, AreBoundsOf, jittered_cap, a
 ghost use Rattle.dc_bound.specs.declared.limits.TheConstants.{GREATEST_JITTER};
 ghost use Rattle.dc_parts.specs.declared.limits.TheConstants.{MOST_STREAMS};
 
-use crate::bounds::part;
+use crate::bounds::piece;
 use crate::rows::{Bus, Stream};
 use dc_bound::{Alike, Jittered};
 use std::alloc::{AllocError, Global};
@@ -61,7 +61,7 @@ pub(crate) fn bus_bounds(
 {
     let mut rows = Vec::new(alloc);
     for bus in buses {
-        let own = part(streams, bus.first, bus.streams);
+        let own = piece(streams, bus.first, bus.streams);
         rows.push(BusBounds::of(alloc, own)?)?;
     }
     Ok(rows)

@@ -78,7 +78,7 @@ pub(crate) fn output_offsets(
 }
 
 /// So many of the items, from this one on.
-pub(crate) fn part<T>(items: &[T], first: usize, count: usize) -> &[T]
+pub(crate) fn piece<T>(items: &[T], first: usize, count: usize) -> &[T]
     requires inside { first + count ≤ length items.now }
     requires small { length items.now ≤ MOST_STREAMS }
     ensures { result.now ≡ take count (drop first items.now) }

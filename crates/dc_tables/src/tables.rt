@@ -5,7 +5,7 @@ ghost use Rattle.dc_tables.specs.TableRows.{visited, bus_row, router_row, bus_st
 ghost use Rattle.dc_tables.specs.Declares.{declares, stream_of, fits};
 
 use crate::alike::BusBounds;
-use crate::bounds::{FrameOffsets, part, wire_of};
+use crate::bounds::{FrameOffsets, piece, wire_of};
 use crate::index::{NameIndex, Names};
 use crate::made::{Rows, make_kept};
 use crate::rows::{Bus, Output, OutputLabel, Router, Stream};
@@ -331,7 +331,7 @@ impl Tables {
         ensures { result.now ≡ bus_streams self.now bus }
     {
         let row = &self.buses[bus];
-        part(&self.streams, row.first, row.streams)
+        piece(&self.streams, row.first, row.streams)
     }
 
     /// The number of the stream of the bus that declares the word; a bus that is not there has none.

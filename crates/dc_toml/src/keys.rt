@@ -179,7 +179,7 @@ pub fn jitter(table: &Table, version: Version, place: TablePlace) -> Result<u32,
 }
 
 /// A number within its range.
-pub fn within(
+pub fn number_between(
     number: Option<i64>,
     low: u32,
     high: u32,
@@ -206,7 +206,7 @@ pub fn number(
 ) -> Result<u32, TableFault>
     ensures { result ≡ number_at place key.now low high (table_view table.now) }
 {
-    within(integer(table, key), low, high, place)
+    number_between(integer(table, key), low, high, place)
 }
 
 /// The text at a key, if it is one.

@@ -7,7 +7,7 @@ ghost use Rattle.dc_toml.specs.Faults.{seen, Gives, wanted};
 ghost use Rattle.dc_toml.specs.Keys.{array_at, all_items, is_text, is_number, each_item, name_item as name_in_item, number_item, counted, items_len, names_at, offsets_at, tables_at, optional_at};
 ghost use Rattle.dc_parts.specs.declared.limits.TheConstants.{LAST_OFFSET};
 
-use crate::keys::{find, within};
+use crate::keys::{find, number_between};
 use crate::place::TablePlace;
 use dc_parts::{BuildError, LAST_OFFSET, Name, TableFault, TableRule};
 use std::alloc::{AllocError, Global};
@@ -126,7 +126,7 @@ fn each_offset(alloc: Global, values: &[Value], place: TablePlace) -> Result<Vec
 {
     let mut offsets = Vec::new(alloc);
     for value in values {
-        match within(value.as_integer(), 0, LAST_OFFSET, place) {
+        match number_between(value.as_integer(), 0, LAST_OFFSET, place) {
             Err(fault) => return Err(BuildError::Refused(fault)),
             Ok(offset) => match offsets.push(offset) {
                 Ok(()) => {}

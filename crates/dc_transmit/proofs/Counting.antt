@@ -5,8 +5,8 @@ use Rattle.std.specs.List.Sorted.{IsPartitionedBy, IsPartitionPoint}
 use Rattle.std.proofs.lemmas.Bool.{cases_lt}
 use Rattle.std.proofs.lemmas.List.Sums.{sum_by-cons}
 use Rattle.std.proofs.lemmas.List.Sorted.{IsPartitionedBy-leb, IsNonDecreasingBy-from_default}
-use Rattle.dc_bound.specs.Frame.{due_by, due_of_entry, IsFrame}
-use Rattle.dc_bound.specs.lemmas.Dues.{due_by_frames, due_by-frames, due_by_frames-is, due_in_ascends, ascending_ge}
+use Rattle.dc_bound.specs.Frame.{due_so_far, due_of_entry, IsFrame}
+use Rattle.dc_bound.specs.lemmas.Dues.{due_so_far_frames, due_so_far-frames, due_so_far_frames-is, due_in_ascends, ascending_ge}
 use Rattle.dc_tables.specs.declared.rows.Entry.{Entry}
 use Rattle.dc_transmit.specs.Schedule.{off, no_entry}
 
@@ -31,11 +31,11 @@ pub rising : (frame : ℕ) (es : List Entry) → IsFrame off no_entry frame es �
 rising frame es f i j h l = elim (cases_lt i j) [ inl k ↦ omega (arith, f.ascend i j k l) | inr k ↦ let e : i ≡ j = omega arith in omega (arith, ap (λ n. off (get_or es n no_entry)) e) ]
 
 -- no more entries are due by a tick than there are ticks by it
-pub few_due : (frame : ℕ) (es : List Entry) → IsFrame off no_entry frame es → (tick : ℕ) → due_by_frames off frame es tick ≤ tick + 1
+pub few_due : (frame : ℕ) (es : List Entry) → IsFrame off no_entry frame es → (tick : ℕ) → due_so_far_frames off frame es tick ≤ tick + 1
 few_due frame es f tick =
     let due = due_in_ascends off no_entry frame es f in
-    elim (cases_lt (tick + 1) (due_by_frames off frame es tick)) [
-      | inl l ↦ absurd (omega (arith, (due_by_frames-is off no_entry frame es f (tick + 1) tick).0 l, ascending_ge (due_of_entry off no_entry frame es) due (tick + 1)))
+    elim (cases_lt (tick + 1) (due_so_far_frames off frame es tick)) [
+      | inl l ↦ absurd (omega (arith, (due_so_far_frames-is off no_entry frame es f (tick + 1) tick).0 l, ascending_ge (due_of_entry off no_entry frame es) due (tick + 1)))
       | inr l ↦ l
     ]
 
@@ -45,9 +45,9 @@ parted frame r es f = IsPartitionedBy-leb off es r (IsNonDecreasingBy-from_defau
 
 pub due-found : (frame wide : ℕ) (es : List Entry) → wide ≡ frame → IsFrame off no_entry frame es → (tick i : ℕ) → i ≤ length es
     → IsPartitionPoint (λ (e : Entry). leb (off e) (tick % wide) ≡ true) (λ (e : Entry). leb (off e) (tick % wide) ≡ false) es i
-    → (tick / wide * length es + i ≡ due_by (due_of_entry off no_entry frame es) tick) × (tick / wide * length es + i ≤ tick + 1)
+    → (tick / wide * length es + i ≡ due_so_far (due_of_entry off no_entry frame es) tick) × (tick / wide * length es + i ≤ tick + 1)
 due-found frame wide es same f tick i l point =
     let count = count-at (λ e. leb (off e) (tick % wide)) es i l (λ k h. point.0 k no_entry (omega arith) h) (λ k h j. point.1 k no_entry h j) in
     let q = ap (λ w. tick / w * length es) same in
     let n = ap (λ w. count_by (λ e. leb (off e) (tick % w)) es) same in
-    (omega (arith, due_by-frames off no_entry frame es f tick, count, q, n), omega (arith, few_due frame es f tick, count, q, n))
+    (omega (arith, due_so_far-frames off no_entry frame es f tick, count, q, n), omega (arith, few_due frame es f tick, count, q, n))

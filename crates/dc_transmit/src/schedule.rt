@@ -3,7 +3,7 @@
 ghost use Rattle.std.specs.Prelude.{◌≡◌, ℕ, ◌+◌, ◌<◌, ◌≤◌, ◌^◌, length, slice_index_or};
 ghost use Rattle.dc_tables.specs.TableRows.{TableRows, output_row};
 ghost use Rattle.dc_transmit.specs.Gaps.{first_off, least_gap, greatest_gap};
-ghost use Rattle.dc_transmit.specs.Schedule.{ScheduleData, schedule_of, label_at, due_tick, due_count, least_label_gap, greatest_label_gap, off, is_of};
+ghost use Rattle.dc_transmit.specs.Schedule.{ScheduleData, schedule_of, label_at, due_at, due_count, least_label_gap, greatest_label_gap, off, is_of_label};
 ghost use Rattle.dc_transmit.specs.declared.limits.TheConstants.{LAST_TICK, MOST_SENT};
 
 use dc_tables::{Entry, Tables};
@@ -60,7 +60,7 @@ impl<'a> Schedule<'a> {
     pub fn next(&self, sent: u64) -> (usize, u64)
         requires { sent ≤ MOST_SENT }
         ensures label { result.0 ≡ label_at self.now sent }
-        ensures due { result.1 ≡ due_tick self.now sent }
+        ensures due { result.1 ≡ due_at self.now sent }
     {
         let len = self.entries.len() as u64;
         let entry = self.entries[(sent % len) as usize];
@@ -89,7 +89,7 @@ impl<'a> Schedule<'a> {
 
 /// The offset of the label's first entry, 0 where it has none.
 fn first_offset(entries: &[Entry], label: usize) -> u32
-    ensures { result ≡ first_off off (is_of label) entries.now 0 }
+    ensures { result ≡ first_off off (is_of_label label) entries.now 0 }
 {
     for entry in entries {
         if entry.label == label {
@@ -101,8 +101,8 @@ fn first_offset(entries: &[Entry], label: usize) -> u32
 
 /// The least and the greatest gap between the label's entries, by one pass from the last entry to the first.
 fn gaps(frame: u32, entries: &[Entry], label: usize) -> (u64, u64)
-    ensures least { result.0 ≡ least_gap off (is_of label) frame entries.now }
-    ensures greatest { result.1 ≡ greatest_gap off (is_of label) frame entries.now }
+    ensures least { result.0 ≡ least_gap off (is_of_label label) frame entries.now }
+    ensures greatest { result.1 ≡ greatest_gap off (is_of_label label) frame entries.now }
 {
     let mut next = u64::from(frame) + u64::from(first_offset(entries, label));
     let mut least = u64::from(frame);

@@ -3,16 +3,16 @@ use Rattle.std.proofs.Common.{◌≡◌, ℕ, zero, suc, ◌+◌, ◌-◌, ◌*�
 use Rattle.std.proofs.Math.Nat.{div-mul-le_self, div-add-mod', mod-lt, mul-le-mul_left, zero-div, mul-zero}
 use Rattle.std.proofs.lemmas.Bool.{cases_lt}
 use Rattle.std.proofs.lemmas.Bool.Decides.{nat_tests}
-use Rattle.dc_bound.specs.Window.{count_in, ticks_of, within, HoldAtLeast, HoldAtMost}
+use Rattle.dc_bound.specs.Window.{count_in, ticks_of, one_in, HoldAtLeast, HoldAtMost}
 use Rattle.dc_bound.specs.lemmas.Counts.{ceil_from, count_in-append, count_in-zero}
 
-within_sum : (u d e t : ℕ) → within u (d + e) t ≡ within u d t + within (u + d) e t
-within_sum u d e t = grind (arith, nat_tests)
+one_in_sum : (u d e t : ℕ) → one_in u (d + e) t ≡ one_in u d t + one_in (u + d) e t
+one_in_sum u d e t = grind (arith, nat_tests)
 
 pub count_in_sum : (u d e : ℕ) (ts : List ℕ) → count_in u (d + e) ts ≡ count_in u d ts + count_in (u + d) e ts
 unfolding count_in
 count_in_sum u d e [] = refl
-count_in_sum u d e (t ∷ ts) = omega (arith, within_sum u d e t, count_in_sum u d e ts)
+count_in_sum u d e (t ∷ ts) = omega (arith, one_in_sum u d e t, count_in_sum u d e ts)
 
 pub pace_times : (steps per whole : ℕ) (ts : List ℕ) → HoldAtLeast steps per whole ts → (n u d : ℕ) → n * per ≤ d → u + d ≤ whole → steps * n ≤ count_in u d ts
 pace_times steps per whole ts h zero u d f g = omega arith

@@ -3,19 +3,19 @@ use Rattle.std.proofs.Common.{◌≡◌, ℕ, ◌+◌, ◌-◌, ◌*◌, ◌/◌
 use Rattle.std.proofs.Math.Nat.{le-div_iff_mul-le, div-eq_of_lt, div-mul-le_self, mul-le-mul_left, div-le_self, div-le_of_le-mul, mul-add-mod_self_right, mod-eq_of_lt, div-add-mod', mul-le-mul_right}
 use Rattle.std.proofs.lemmas.Bool.{cases_lt}
 use Rattle.std.proofs.lemmas.Bool.Decides.{nat_tests}
-use Rattle.dc_bound.specs.Window.{count_in, ticks_of, within, Spaced, HoldsWire, wire_cap}
+use Rattle.dc_bound.specs.Window.{count_in, ticks_of, one_in, Spaced, HoldsWire, wire_cap}
 
 pub count_in-nil : (u d : ℕ) → count_in u d [] ≡ 0
 unfolding count_in
 count_in-nil u d = refl
 
-pub count_in-cons : (u d t : ℕ) (ts : List ℕ) → count_in u d (t ∷ ts) ≡ within u d t + count_in u d ts
+pub count_in-cons : (u d t : ℕ) (ts : List ℕ) → count_in u d (t ∷ ts) ≡ one_in u d t + count_in u d ts
 unfolding count_in
 count_in-cons u d t ts = refl
 
 -- within, as three cases
-pub within_cases : (u d t : ℕ) → ((u ≤ t) × (t < u + d) × (within u d t ≡ 1)) ⊎ ((t < u) × (within u d t ≡ 0)) ⊎ ((u + d ≤ t) × (within u d t ≡ 0))
-within_cases u d t = grind (arith, nat_tests)
+pub one_in_cases : (u d t : ℕ) → ((u ≤ t) × (t < u + d) × (one_in u d t ≡ 1)) ⊎ ((t < u) × (one_in u d t ≡ 0)) ⊎ ((u + d ≤ t) × (one_in u d t ≡ 0))
+one_in_cases u d t = grind (arith, nat_tests)
 
 pub ceil_from : (m c d : ℕ) → 1 ≤ m → c * m ≤ d → c ≤ d / m
 ceil_from m c d p h = (le-div_iff_mul-le p).1 h
@@ -35,16 +35,16 @@ ceil_le (suc m) (suc d) p = div-le_of_le-mul (suc m) (omega arith)
 pub ceil_bounded : (m d : ℕ) → 1 ≤ m → d ≤ 1000000 → (d + (m - 1)) / m ≤ 2 ^ 40
 ceil_bounded m d p h = omega (arith, ceil_le m d p)
 
-Spaced-step : (m u d x y c : ℕ) → 1 ≤ m → x + m ≤ y → c * m ≤ (u + d - y) + (m - 1) → (within u d x + c) * m ≤ (u + d - x) + (m - 1)
+Spaced-step : (m u d x y c : ℕ) → 1 ≤ m → x + m ≤ y → c * m ≤ (u + d - y) + (m - 1) → (one_in u d x + c) * m ≤ (u + d - x) + (m - 1)
 Spaced-step m u d x y zero p h r =
-    elim (within_cases u d x) [ inl w ↦ rw w.2 (omega arith) | inr v ↦ elim v [ inl w ↦ rw w.1 (omega arith) | inr w ↦ rw w.1 (omega arith) ] ]
+    elim (one_in_cases u d x) [ inl w ↦ rw w.2 (omega arith) | inr v ↦ elim v [ inl w ↦ rw w.1 (omega arith) | inr w ↦ rw w.1 (omega arith) ] ]
 Spaced-step m u d x y (suc c) p h r =
-    elim (within_cases u d x) [ inl w ↦ rw w.2 (omega arith) | inr v ↦ elim v [ inl w ↦ rw w.1 (omega arith) | inr w ↦ rw w.1 (omega arith) ] ]
+    elim (one_in_cases u d x) [ inl w ↦ rw w.2 (omega arith) | inr v ↦ elim v [ inl w ↦ rw w.1 (omega arith) | inr w ↦ rw w.1 (omega arith) ] ]
 
 -- the window's part from x on, times m
 Spaced-from : (m : ℕ) → 1 ≤ m → (x : ℕ × ℕ) (xs : List (ℕ × ℕ)) (u d : ℕ) → Spaced m (x ∷ xs) → count_in u d (ticks_of (x ∷ xs)) * m ≤ (u + d - x.0) + (m - 1)
 unfolding Spaced count_in
-Spaced-from m p x [] u d h = grind (arith, within_cases u d x.0)
+Spaced-from m p x [] u d h = grind (arith, one_in_cases u d x.0)
 Spaced-from m p x (y ∷ ys) u d h =
     let rest = Spaced-from m p y ys u d h.1 in
     let c : ℕ = count_in u d (ticks_of (y ∷ ys)) in
@@ -59,7 +59,7 @@ pub Spaced-count : (m : ℕ) → 1 ≤ m → (xs : List (ℕ × ℕ)) (u d : ℕ
 unfolding Spaced count_in
 Spaced-count m p [] u d h = omega arith
 Spaced-count m p (x ∷ xs) u d h =
-    elim (within_cases u d x.0) [
+    elim (one_in_cases u d x.0) [
       | inl w ↦ ceil_from m (count_in u d (ticks_of (x ∷ xs))) (d + (m - 1)) p (omega (arith, Spaced-from m p x xs u d h))
       | inr v ↦ elim v [
         | inl w ↦ rw w.1 (omega (arith, Spaced-count m p xs u d (Spaced-tail m x xs h)))
@@ -87,7 +87,7 @@ count_in-append u d (x ∷ xs) ys = omega (arith, count_in-append u d xs ys)
 pub count_in-zero : (u : ℕ) (ts : List ℕ) → count_in u 0 ts ≡ 0
 unfolding count_in
 count_in-zero u [] = refl
-count_in-zero u (t ∷ ts) = elim (within_cases u 0 t) [ inl w ↦ absurd (omega arith) | inr v ↦ elim v [ inl w ↦ omega (arith, count_in-zero u ts) | inr w ↦ omega (arith, count_in-zero u ts) ] ]
+count_in-zero u (t ∷ ts) = elim (one_in_cases u 0 t) [ inl w ↦ absurd (omega arith) | inr v ↦ elim v [ inl w ↦ omega (arith, count_in-zero u ts) | inr w ↦ omega (arith, count_in-zero u ts) ] ]
 
 pub wire_mono : (t s d e : ℕ) → 1 ≤ s → d ≤ e → wire_cap t s d ≤ wire_cap t s e
 wire_mono t s zero e p h = omega arith

@@ -3,7 +3,7 @@ use Rattle.std.proofs.Common.{◌≡◌, ℕ, zero, suc, ◌+◌, ◌*◌, ◌/�
 use Rattle.std.proofs.Math.Nat.{div-mul-le_self, div-add-mod', mod-lt, mul-le-mul_right, mul-add-mod_self_right, mod-eq_of_lt}
 use Rattle.std.proofs.lemmas.Bool.{cases_lt}
 use Rattle.dc_bound.specs.Window.{count_in, ticks_of}
-use Rattle.dc_bound.specs.lemmas.Counts.{within_cases, ceil_from, count_in-zero}
+use Rattle.dc_bound.specs.lemmas.Counts.{one_in_cases, ceil_from, count_in-zero}
 use Rattle.dc_bound.specs.lemmas.Budget.{count_in_sum}
 use Rattle.dc_bound.specs.Rounds.{among, most_among}
 use Rattle.dc_bound.specs.lemmas.Cycle.{most_holds}
@@ -12,14 +12,14 @@ use Rattle.dc_bound.specs.Frame.{due, IsDue, entries_at, Offsets}
 pub one_some : (ts : List ℕ) (t k : ℕ) → k < length ts → get_or ts k 0 ≡ t → 1 ≤ count_in t 1 ts
 unfolding count_in
 one_some [] t k h e = absurd (omega arith)
-one_some (x ∷ ts) t zero h e = elim (within_cases t 1 x) [ inl w ↦ omega arith | inr v ↦ elim v [ inl w ↦ absurd (omega arith) | inr w ↦ absurd (omega arith) ] ]
+one_some (x ∷ ts) t zero h e = elim (one_in_cases t 1 x) [ inl w ↦ omega arith | inr v ↦ elim v [ inl w ↦ absurd (omega arith) | inr w ↦ absurd (omega arith) ] ]
 one_some (x ∷ ts) t (suc k) h e = omega (arith, one_some ts t k (omega arith) e)
 
 pub none_or_at : (ts : List ℕ) (t : ℕ) → (count_in t 1 ts ≡ 0) ⊎ ((k : ℕ) × (k < length ts) × (get_or ts k 0 ≡ t))
 unfolding count_in
 none_or_at [] t = inl refl
 none_or_at (x ∷ ts) t =
-    elim (within_cases t 1 x) [
+    elim (one_in_cases t 1 x) [
       | inl w ↦ inr (0, omega arith, omega arith)
       | inr v ↦ elim (none_or_at ts t) [
         | inl e ↦ elim v [ inl w ↦ inl (omega arith) | inr w ↦ inl (omega arith) ]
@@ -32,7 +32,7 @@ unfolding count_in
 ascend_one [] t h = omega arith
 ascend_one (x ∷ ts) t h =
     let rest = ascend_one ts t (λ i j k l. h (suc i) (suc j) (omega arith) (omega arith)) in
-    elim (within_cases t 1 x) [
+    elim (one_in_cases t 1 x) [
       | inl w ↦ elim (none_or_at ts t) [
         | inl e ↦ omega arith
         | inr (k, l, e) ↦ absurd (omega (arith, h 0 (suc k) (omega arith) (omega arith)))

@@ -8,11 +8,11 @@ use Rattle.std.proofs.lemmas.Bool.Decides.{nat_tests}
 use Rattle.std.proofs.lemmas.List.Sums.{count_by-le-length, sum_by-cons}
 use Rattle.dc_bound.specs.Places.{count_below}
 use Rattle.dc_bound.specs.lemmas.Counts.{ceil_from}
-use Rattle.dc_bound.specs.Frame.{due_of_entry, IsFrame, due_by}
+use Rattle.dc_bound.specs.Frame.{due_of_entry, IsFrame, due_so_far}
 
 -- how many entries are due at a tick or before it, from the offsets: whole frames, and the part of the last
-abbrev pub due_by_frames : {E : Type 0} → (E → ℕ) → ℕ → List E → ℕ → ℕ
-due_by_frames off frame es tick = tick / frame * length es + count_by (λ e. nat_le (off e) (tick % frame)) es
+abbrev pub due_so_far_frames : {E : Type 0} → (E → ℕ) → ℕ → List E → ℕ → ℕ
+due_so_far_frames off frame es tick = tick / frame * length es + count_by (λ e. nat_le (off e) (tick % frame)) es
 
 -- `count` tells the number of entries due by each tick: entry n is among them where it is due
 abbrev pub IsDueCount : (due count : ℕ → ℕ) → Type 0
@@ -66,9 +66,9 @@ ascending_ge due up zero = omega arith
 ascending_ge due up (suc n) = omega (arith, ascending_ge due up n, up n (suc n) (omega arith))
 
 -- by counting, where due ticks ascend
-pub due_by-is : (due : ℕ → ℕ) → ((i j : ℕ) → i < j → due i < due j) → IsDueCount due (due_by due)
-unfolding due_by
-due_by-is due up n t =
+pub due_so_far-is : (due : ℕ → ℕ) → ((i j : ℕ) → i < j → due i < due j) → IsDueCount due (due_so_far due)
+unfolding due_so_far
+due_so_far-is due up n t =
     let p : ℕ → Bool = λ k. nat_le (due k) t in
     let below = below_count (λ k. nat_le (due k) t)
     (λ i j h y. elim (le_test (due i) t) [ inl w ↦ w.0 | inr w ↦ elim (le_test (due j) t) [ inl v ↦ absurd (omega (arith, up i j h)) | inr v ↦ let f = v.0 in absurd (cc) ] ]) (t + 1) n in (
@@ -128,8 +128,8 @@ module _ {E : Type 0} (off : E → ℕ) (z : E) where
         ]
 
     -- by frames
-    pub due_by_frames-is : IsDueCount (due_of_entry off z frame es) (due_by_frames off frame es)
-    due_by_frames-is n t =
+    pub due_so_far_frames-is : IsDueCount (due_of_entry off z frame es) (due_so_far_frames off frame es)
+    due_so_far_frames-is n t =
         let a : n % length es < length es = mod-lt n f.some in
         let few : count_by (λ e. nat_le (off e) (t % frame)) es ≤ length es = count_by-le-length (λ e. nat_le (off e) (t % frame)) es in
         let wide : 0 < frame = omega (arith, f.below 0 f.some) in
@@ -157,5 +157,5 @@ module _ {E : Type 0} (off : E → ℕ) (z : E) where
         ]
 
     -- both counts are one
-    pub due_by-frames : (t : ℕ) → due_by (due_of_entry off z frame es) t ≡ due_by_frames off frame es t
-    due_by-frames t = same_count (due_of_entry off z frame es) (due_by (due_of_entry off z frame es)) (due_by_frames off frame es) (due_by-is (due_of_entry off z frame es) due_in_ascends) due_by_frames-is t
+    pub due_so_far-frames : (t : ℕ) → due_so_far (due_of_entry off z frame es) t ≡ due_so_far_frames off frame es t
+    due_so_far-frames t = same_count (due_of_entry off z frame es) (due_so_far (due_of_entry off z frame es)) (due_so_far_frames off frame es) (due_so_far-is (due_of_entry off z frame es) due_in_ascends) due_so_far_frames-is t

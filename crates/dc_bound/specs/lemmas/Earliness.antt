@@ -1,10 +1,10 @@
 -- Early words: what is kept keeps the cap.
 use Rattle.std.proofs.Common.{◌≡◌, ℕ, zero, suc, ◌+◌, ◌-◌, ◌≤◌, ◌<◌, ◌↔◌, true, false, cond, is_some, ltb, List, [], ◌∷◌, ◌++◌, refl, sym, ap, ◌∙◌, arith, inl, inr}
 use Rattle.std.proofs.lemmas.Bool.{cases_lt, cases_Bool, ltb-true, ltb-false}
-use Rattle.dc_bound.specs.Window.{count_in, within}
+use Rattle.dc_bound.specs.Window.{count_in, one_in}
 use Rattle.dc_bound.specs.Places.{least_where}
 use Rattle.dc_bound.specs.lemmas.FirstPlaces.{least_where-cases, least_where-none, snoc_induction}
-use Rattle.dc_bound.specs.lemmas.Counts.{within_cases, count_in-zero, count_in-nil}
+use Rattle.dc_bound.specs.lemmas.Counts.{one_in_cases, count_in-zero, count_in-nil}
 use Rattle.dc_bound.specs.lemmas.Budget.{count_in_sum}
 use Rattle.dc_bound.specs.lemmas.Steps.{count_in-push}
 use Rattle.dc_bound.specs.lemmas.Recent.{NoneLater, most_push}
@@ -20,7 +20,7 @@ none_later-nil t u d h = refl
 
 pub none_later-push : (t : ℕ) (ts : List ℕ) → NoneLater t ts → NoneLater t (ts ++ t ∷ [])
 none_later-push t ts h u d late =
-    elim (within_cases u d t) [
+    elim (one_in_cases u d t) [
       | inl w ↦ absurd (omega arith)
       | inr v ↦ elim v [ inl w ↦ omega (arith, h u d late, count_in-push u d ts t) | inr w ↦ omega (arith, h u d late, count_in-push u d ts t) ]
     ]
@@ -82,7 +82,7 @@ kept-holds cap grows ts t none h e (suc d) u =
     let step = most_push (cap (suc d)) (suc d) t ts (omega arith) none in
     step.1 (
       h (suc d),
-      elim (within_cases (suc t - suc d) (suc d) t) [
+      elim (one_in_cases (suc t - suc d) (suc d) t) [
         | inl w ↦ omega (arith, count_in-push (suc t - suc d) (suc d) ts t, room)
         | inr v ↦ elim v [ inl w ↦ absurd (omega arith) | inr w ↦ absurd (omega arith) ]
       ],
@@ -114,7 +114,7 @@ pub admitted-fewer : (cap : ℕ → ℕ) (u d : ℕ) (ts : List ℕ) → count_i
 admitted-fewer cap u d ts =
     snoc_induction (λ ts. count_in u d (admitted cap ts) ≤ count_in u d ts) (rw (admitted-nil cap) (omega arith)) (λ ts t h.
     rw (admitted-push cap ts t, count_in-push u d ts t)
-    (elim (would_pass cap (admitted cap ts) t) as (λ b. count_in u d (cond b (admitted cap ts) (admitted cap ts ++ t ∷ [])) ≤ count_in u d ts + within u d t) [
+    (elim (would_pass cap (admitted cap ts) t) as (λ b. count_in u d (cond b (admitted cap ts) (admitted cap ts ++ t ∷ [])) ≤ count_in u d ts + one_in u d t) [
       | true ↦ omega (arith, h)
       | false ↦ omega (arith, h, count_in-push u d (admitted cap ts) t)
     ])) ts
@@ -131,9 +131,9 @@ never_fall-absurd t k (s ∷ ts) l h = never_fall-absurd t s ts (omega (arith, h
 
 never_fall-later : (t k : ℕ) (ts : List ℕ) (u d : ℕ) → NeverFall (k ∷ (ts ++ t ∷ [])) → t < u → count_in u d (k ∷ ts) ≡ 0
 unfolding NeverFall count_in
-never_fall-later t k [] u d h late = elim (within_cases u d k) [ inl w ↦ absurd (omega (arith, h.0)) | inr v ↦ elim v [ inl w ↦ omega arith | inr w ↦ omega arith ] ]
+never_fall-later t k [] u d h late = elim (one_in_cases u d k) [ inl w ↦ absurd (omega (arith, h.0)) | inr v ↦ elim v [ inl w ↦ omega arith | inr w ↦ omega arith ] ]
 never_fall-later t k (s ∷ ts) u d h late =
-    elim (within_cases u d k) [
+    elim (one_in_cases u d k) [
       | inl w ↦ absurd (never_fall-absurd t s ts (omega (arith, h.0)) h.1)
       | inr v ↦ elim v [ inl w ↦ omega (arith, never_fall-later t s ts u d h.1 late) | inr w ↦ omega (arith, never_fall-later t s ts u d h.1 late) ]
     ]

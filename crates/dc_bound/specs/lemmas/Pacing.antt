@@ -4,7 +4,7 @@ use Rattle.std.proofs.lemmas.Bool.{cases_lt, cases_Bool, lt-ltb, le-ltb}
 use Rattle.std.proofs.Math.Nat.{mul-le-mul_right}
 use Rattle.dc_bound.specs.Window.{count_in}
 use Rattle.dc_bound.specs.lemmas.FirstPlaces.{snoc_induction}
-use Rattle.dc_bound.specs.lemmas.Counts.{within_cases, count_in-nil, count_in-zero}
+use Rattle.dc_bound.specs.lemmas.Counts.{one_in_cases, count_in-nil, count_in-zero}
 use Rattle.dc_bound.specs.lemmas.Budget.{count_in_sum}
 use Rattle.dc_bound.specs.lemmas.Steps.{count_in-push}
 use Rattle.dc_bound.specs.lemmas.Recent.{NoneLater}
@@ -47,7 +47,7 @@ pace-later m k l n ts le none p = record {
 -- one more word in tick k
 since-push : (u k : ℕ) (ts : List ℕ) → u ≤ k → count_in u (suc k - u) (ts ++ k ∷ []) ≡ suc (count_in u (suc k - u) ts)
 since-push u k ts h =
-    elim (within_cases u (suc k - u) k) [
+    elim (one_in_cases u (suc k - u) k) [
       | inl w ↦ omega (arith, count_in-push u (suc k - u) ts k)
       | inr v ↦ elim v [ inl w ↦ absurd (omega arith) | inr w ↦ absurd (omega arith) ]
     ]
@@ -159,7 +159,7 @@ no_pace : (m t : ℕ) → IsPace m t 0 []
 no_pace m t = record { over = λ u h some. absurd (omega (arith, count_in-nil u (suc t - u))); met = inl refl }
 
 last_there : (k : ℕ) (ts : List ℕ) → 1 ≤ count_in k 1 (ts ++ k ∷ [])
-last_there k ts = elim (within_cases k 1 k) [ inl w ↦ omega (arith, count_in-push k 1 ts k) | inr v ↦ elim v [ inl w ↦ absurd (omega arith) | inr w ↦ absurd (omega arith) ] ]
+last_there k ts = elim (one_in_cases k 1 k) [ inl w ↦ omega (arith, count_in-push k 1 ts k) | inr v ↦ elim v [ inl w ↦ absurd (omega arith) | inr w ↦ absurd (omega arith) ] ]
 
 -- of ticks in order, the number is their pace, at their last tick and at any later
 pub is_pace : (m : ℕ) → 1 ≤ m → (ts : List ℕ) → NeverFall ts → (t : ℕ) → NoneLater t ts → IsPace m t (pace_of m ts) ts
@@ -185,7 +185,7 @@ front_before : (x t : ℕ) (ts : List ℕ) → NoneLater t (x ∷ ts) → x ≤ 
 unfolding count_in
 front_before x t ts none =
     elim (cases_lt t x) [
-      | inl l ↦ elim (within_cases x 1 x) [ inl w ↦ absurd (omega (arith, none x 1 l)) | inr v ↦ elim v [ inl w ↦ absurd (omega arith) | inr w ↦ absurd (omega arith) ] ]
+      | inl l ↦ elim (one_in_cases x 1 x) [ inl w ↦ absurd (omega (arith, none x 1 l)) | inr v ↦ elim v [ inl w ↦ absurd (omega arith) | inr w ↦ absurd (omega arith) ] ]
       | inr l ↦ l
     ]
 

@@ -1,7 +1,7 @@
 -- Budgets of an actor by the ticks of its steps, where tick `whole` is the unfinished one.
 use Rattle.std.proofs.Common.{◌≡◌, ℕ, ◌+◌, ◌-◌, ◌<◌, ◌≤◌, ◌↔◌, suc, List, [], ◌∷◌, ◌++◌, Option, Some, None, refl, ap, ◌∙◌, arith, inl, inr}
 use Rattle.dc_bound.specs.Window.{HoldAtMost, count_in, IsLast}
-use Rattle.dc_bound.specs.lemmas.Counts.{within_cases, count_in-zero}
+use Rattle.dc_bound.specs.lemmas.Counts.{one_in_cases, count_in-zero}
 use Rattle.dc_bound.specs.lemmas.Budget.{count_in_sum}
 use Rattle.dc_bound.specs.lemmas.Steps.{count_in-push}
 
@@ -37,12 +37,12 @@ pub most_push : (n d whole : ℕ) (ts : List ℕ) → 0 < d → NoneLater whole 
 most_push n d whole ts pos none = (
   (λ h. (
     (λ u. omega (arith, h u, count_in-push u d ts whole)),
-    elim (within_cases (suc whole - d) d whole) [
+    elim (one_in_cases (suc whole - d) d whole) [
       | inl w ↦ omega (arith, h (suc whole - d), count_in-push (suc whole - d) d ts whole)
       | inr v ↦ elim v [ inl w ↦ absurd (omega arith) | inr w ↦ absurd (omega arith) ]
     ],
   )),
-  (λ h u. elim (within_cases u d whole) [
+  (λ h u. elim (one_in_cases u d whole) [
     | inl w ↦ omega (arith, h.1, count_in-push u d ts whole, recent-most u d whole ts none w.0 w.1)
     | inr v ↦ elim v [ inl w ↦ omega (arith, h.0 u, count_in-push u d ts whole) | inr w ↦ omega (arith, h.0 u, count_in-push u d ts whole) ]
   ]),
@@ -65,7 +65,7 @@ last-near d k whole ts h near =
 pub last-now : (whole : ℕ) (ts : List ℕ) → IsLast (Some whole) whole (ts ++ (whole ∷ []))
 last-now whole ts = (
   omega arith,
-  elim (within_cases whole 1 whole) [ inl w ↦ omega (arith, count_in-push whole 1 ts whole) | inr v ↦ elim v [ inl w ↦ absurd (omega arith) | inr w ↦ absurd (omega arith) ] ],
+  elim (one_in_cases whole 1 whole) [ inl w ↦ omega (arith, count_in-push whole 1 ts whole) | inr v ↦ elim v [ inl w ↦ absurd (omega arith) | inr w ↦ absurd (omega arith) ] ],
   omega (arith, same_window (ts ++ (whole ∷ [])) (suc whole) (suc whole) (whole - whole) 0 refl (omega arith), count_in-zero (suc whole) (ts ++ (whole ∷ []))),
 )
 

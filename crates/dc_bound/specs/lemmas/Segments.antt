@@ -1,7 +1,7 @@
 -- Segments of a run, and the windows of ticks that they lie in or hold.
 use Rattle.std.proofs.Common.{◌≡◌, ℕ, ◌+◌, ◌<◌, ◌≤◌, suc, List, [], ◌∷◌, ◌++◌, Option, Some, None, refl, ap, arith, inl, inr, add-zero, add_assoc}
-use Rattle.dc_bound.specs.Window.{count_in, ticks_of, within}
-use Rattle.dc_bound.specs.lemmas.Counts.{within_cases}
+use Rattle.dc_bound.specs.Window.{count_in, ticks_of, one_in}
+use Rattle.dc_bound.specs.lemmas.Counts.{one_in_cases}
 use Rattle.dc_bound.specs.Run.{ticks, picks, stamp, stamped, one_if}
 
 module _ {E X : Type 0} (ends : E → ℕ) (pick : E → Option X) where
@@ -21,7 +21,7 @@ module _ {E X : Type 0} (ends : E → ℕ) (pick : E → Option X) where
 
   hit : ℕ → ℕ → ℕ → Option X → ℕ
   hit u d t None = 0
-  hit u d t (Some x) = within u d t
+  hit u d t (Some x) = one_in u d t
 
   count-stamp : (u d t : ℕ) (o : Option X) (rest : List (ℕ × X)) → count_in u d (ticks_of (stamp t o rest)) ≡ hit u d t o + count_in u d (ticks_of rest)
   unfolding count_in hit
@@ -39,22 +39,22 @@ module _ {E X : Type 0} (ends : E → ℕ) (pick : E → Option X) where
   hit-le : (u d t : ℕ) (o : Option X) → hit u d t o ≤ one_if o
   unfolding hit
   hit-le u d t None = omega arith
-  hit-le u d t (Some x) = elim (within_cases u d t) [ inl w ↦ omega arith | inr v ↦ elim v [ inl w ↦ omega arith | inr w ↦ omega arith ] ]
+  hit-le u d t (Some x) = elim (one_in_cases u d t) [ inl w ↦ omega arith | inr v ↦ elim v [ inl w ↦ omega arith | inr w ↦ omega arith ] ]
 
   hit-in : (u d t : ℕ) (o : Option X) → u ≤ t → t < u + d → hit u d t o ≡ one_if o
   unfolding hit
   hit-in u d t None h k = refl
-  hit-in u d t (Some x) h k = elim (within_cases u d t) [ inl w ↦ omega arith | inr v ↦ elim v [ inl w ↦ omega arith | inr w ↦ omega arith ] ]
+  hit-in u d t (Some x) h k = elim (one_in_cases u d t) [ inl w ↦ omega arith | inr v ↦ elim v [ inl w ↦ omega arith | inr w ↦ omega arith ] ]
 
   hit-before : (u d t : ℕ) (o : Option X) → t < u → hit u d t o ≡ 0
   unfolding hit
   hit-before u d t None h = refl
-  hit-before u d t (Some x) h = elim (within_cases u d t) [ inl w ↦ omega arith | inr v ↦ elim v [ inl w ↦ omega arith | inr w ↦ omega arith ] ]
+  hit-before u d t (Some x) h = elim (one_in_cases u d t) [ inl w ↦ omega arith | inr v ↦ elim v [ inl w ↦ omega arith | inr w ↦ omega arith ] ]
 
   hit-after : (u d t : ℕ) (o : Option X) → u + d ≤ t → hit u d t o ≡ 0
   unfolding hit
   hit-after u d t None h = refl
-  hit-after u d t (Some x) h = elim (within_cases u d t) [ inl w ↦ omega arith | inr v ↦ elim v [ inl w ↦ omega arith | inr w ↦ omega arith ] ]
+  hit-after u d t (Some x) h = elim (one_in_cases u d t) [ inl w ↦ omega arith | inr v ↦ elim v [ inl w ↦ omega arith | inr w ↦ omega arith ] ]
 
   pub hits-append : (u d t : ℕ) (a b : List E) → hits u d t (a ++ b) ≡ hits u d t a + hits u d (t + ticks ends a) b
   unfolding ticks

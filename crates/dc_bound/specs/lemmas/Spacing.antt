@@ -3,7 +3,7 @@ use Rattle.std.proofs.Common.{ℕ, ◌+◌, ◌-◌, ◌*◌, ◌/◌, ◌≤◌
 use Rattle.std.proofs.Math.Nat.{div-mul-le_self, mul-le-mul_right}
 use Rattle.std.proofs.lemmas.Bool.{cases_lt}
 use Rattle.dc_bound.specs.Window.{count_in, ticks_of, Spaced, HoldAtMost}
-use Rattle.dc_bound.specs.lemmas.Counts.{within_cases, Spaced-count}
+use Rattle.dc_bound.specs.lemmas.Counts.{one_in_cases, Spaced-count}
 use Rattle.dc_bound.specs.Turns.{NeverFall}
 
 -- m ticks, rounded up to whole spans of m, are one span
@@ -24,8 +24,8 @@ holds_spaced m some (x ∷ []) order h = tt
 holds_spaced m some (x ∷ y ∷ xs) order h = (
   elim (cases_lt y.0 (x.0 + m)) [
     | inl near ↦
-        absurd (elim (within_cases x.0 m x.0) [
-          | inl a ↦ elim (within_cases x.0 m y.0) [
+        absurd (elim (one_in_cases x.0 m x.0) [
+          | inl a ↦ elim (one_in_cases x.0 m y.0) [
             | inl b ↦ omega (arith, h x.0, order.0)
             | inr v ↦ elim v [ inl b ↦ omega (arith, order.0) | inr b ↦ omega arith ]
           ]

@@ -7,7 +7,7 @@ use Rattle.std.proofs.lemmas.Bool.{cases_lt}
 use Rattle.std.proofs.lemmas.Bool.Decides.{nat_tests}
 use Rattle.std.proofs.lemmas.List.{get_or_append_left}
 use Rattle.std.proofs.lemmas.List.Sums.{sum_by-cons}
-use Rattle.dc_bound.specs.Window.{count_in, ticks_of, within}
+use Rattle.dc_bound.specs.Window.{count_in, ticks_of, one_in}
 use Rattle.dc_bound.specs.lemmas.Steps.{ticks_of-append}
 use Rattle.dc_bound.specs.lemmas.Counts.{at_mod, at_div}
 use Rattle.dc_bound.specs.Rounds.{among, greatest_to}
@@ -15,7 +15,7 @@ use Rattle.dc_bound.specs.lemmas.Cycle.{most_holds, most_mono}
 use Rattle.dc_bound.specs.Frame.{due, IsDue, entries_at, Offsets, IsLeastSpan}
 use Rattle.dc_bound.specs.lemmas.Due.{due_ascend, due_most}
 use Rattle.dc_bound.specs.Frame.{IsFrame}
-use Rattle.dc_bound.specs.lemmas.Dues.{IsDueCount, due_by_frames, due_by_frames-is}
+use Rattle.dc_bound.specs.lemmas.Dues.{IsDueCount, due_so_far_frames, due_so_far_frames-is}
 use Rattle.dc_bound.specs.Frame.{cyclic_cap}
 
 -- ---- one more tick
@@ -27,10 +27,10 @@ up_to r xs = count_by (λ x. nat_le x r) xs
 up_to-cons : (r x : ℕ) (xs : List ℕ) → up_to r (x ∷ xs) ≡ cond (nat_le x r) 1 0 + up_to r xs
 up_to-cons r x xs = sum_by-cons (λ y. cond (nat_le y r) 1 0) x xs
 
-at_next : (x r : ℕ) → cond (nat_le x (suc r)) 1 0 ≡ cond (nat_le x r) 1 0 + within (suc r) 1 x
+at_next : (x r : ℕ) → cond (nat_le x (suc r)) 1 0 ≡ cond (nat_le x r) 1 0 + one_in (suc r) 1 x
 at_next x r = grind (arith, nat_tests)
 
-at_zero : (x : ℕ) → cond {A = ℕ} (nat_le x 0) 1 0 ≡ within 0 1 x
+at_zero : (x : ℕ) → cond {A = ℕ} (nat_le x 0) 1 0 ≡ one_in 0 1 x
 at_zero x = grind (arith, nat_tests)
 
 at_small : (x r : ℕ) → x ≤ r → cond {A = ℕ} (nat_le x r) 1 0 ≡ 1
@@ -96,11 +96,11 @@ module _ (frame : ℕ) (offsets : List ℕ) (o : Offsets frame offsets) where
 
   -- how many are due at a tick or before it
   count : ℕ → ℕ
-  count t = due_by_frames (λ (x : ℕ). x) frame offsets t
+  count t = due_so_far_frames (λ (x : ℕ). x) frame offsets t
 
   counted : IsDueCount (due frame offsets) count
   unfolding count
-  counted = due_by_frames-is (λ x. x) 0 frame offsets is_frame
+  counted = due_so_far_frames-is (λ x. x) 0 frame offsets is_frame
 
   count-zero : count 0 ≡ entries_at offsets (0 % frame)
   unfolding count

@@ -1,9 +1,9 @@
 -- Budgets and spacings when one event is added to a run.
 use Rattle.std.proofs.Common.{◌≡◌, ℕ, suc, ◌+◌, ◌-◌, ◌≤◌, ◌<◌, ◌↔◌, List, [], ◌∷◌, ◌++◌, Option, Some, None, refl, sym, ap, ◌∙◌, arith, inl, inr, add-zero, add_assoc, length}
 use Rattle.std.proofs.lemmas.Bool.{cases_lt}
-use Rattle.dc_bound.specs.Window.{count_in, ticks_of, within, HoldAtLeast, HoldAtMost}
+use Rattle.dc_bound.specs.Window.{count_in, ticks_of, one_in, HoldAtLeast, HoldAtMost}
 use Rattle.dc_bound.specs.Run.{ticks, picks, stamp, stamped}
-use Rattle.dc_bound.specs.lemmas.Counts.{within_cases}
+use Rattle.dc_bound.specs.lemmas.Counts.{one_in_cases}
 
 pub ticks_of-append : {X : Type 0} (xs ys : List (ℕ × X)) → ticks_of (xs ++ ys) ≡ ticks_of xs ++ ticks_of ys
 ticks_of-append [] ys = refl
@@ -24,7 +24,7 @@ unfolding stamped picks
 stamped-count f pick t [] = refl
 stamped-count f pick t (e ∷ es) = omega (arith, stamp-count t (pick e) (stamped f pick (t + f e) es), stamped-count f pick (t + f e) es)
 
-pub count_in-push : (u d : ℕ) (ts : List ℕ) (t : ℕ) → count_in u d (ts ++ (t ∷ [])) ≡ count_in u d ts + within u d t
+pub count_in-push : (u d : ℕ) (ts : List ℕ) (t : ℕ) → count_in u d (ts ++ (t ∷ [])) ≡ count_in u d ts + one_in u d t
 unfolding count_in
 count_in-push u d [] t = omega arith
 count_in-push u d (x ∷ ts) t = omega (arith, count_in-push u d ts t)
@@ -46,7 +46,7 @@ module _ {E X : Type 0} (ends : E → ℕ) (pick : E → Option X) where
 pub pace_step : (steps per whole : ℕ) (ts : List ℕ) → HoldAtLeast steps per whole (ts ++ (whole ∷ [])) ↔ HoldAtLeast steps per whole ts
 pace_step steps per whole ts =
     let same : (u : ℕ) → u + per ≤ whole → count_in u per (ts ++ (whole ∷ [])) ≡ count_in u per ts = λ u h.
-    elim (within_cases u per whole) [
+    elim (one_in_cases u per whole) [
       | inl w ↦ absurd (omega arith)
       | inr v ↦ elim v [ inl w ↦ omega (arith, count_in-push u per ts whole) | inr w ↦ omega (arith, count_in-push u per ts whole) ]
     ] in
@@ -62,15 +62,15 @@ pace_tick steps per whole ts = (
   ]),
 )
 
-within_le : (u d t : ℕ) → within u d t ≤ 1
-within_le u d t = elim (within_cases u d t) [ inl w ↦ omega arith | inr v ↦ elim v [ inl w ↦ omega arith | inr w ↦ omega arith ] ]
+one_in_le : (u d t : ℕ) → one_in u d t ≤ 1
+one_in_le u d t = elim (one_in_cases u d t) [ inl w ↦ omega arith | inr v ↦ elim v [ inl w ↦ omega arith | inr w ↦ omega arith ] ]
 
 -- one more step in tick t
 pub most_step : (most : ℕ) (ts : List ℕ) (t : ℕ) → HoldAtMost most 1 (ts ++ (t ∷ [])) ↔ (HoldAtMost most 1 ts × (count_in t 1 ts < most))
 most_step most ts t = (
-  (λ h. ((λ u. omega (arith, h u, count_in-push u 1 ts t)), elim (within_cases t 1 t) [ inl w ↦ omega (arith, h t, count_in-push t 1 ts t) | inr v ↦ elim v [ inl w ↦ absurd (omega arith) | inr w ↦ absurd (omega arith) ] ])),
-  (λ h u. elim (within_cases u 1 t) [
-    | inl w ↦ let e : u ≡ t = omega arith in rw e (omega (arith, h.1, count_in-push t 1 ts t, within_le t 1 t))
+  (λ h. ((λ u. omega (arith, h u, count_in-push u 1 ts t)), elim (one_in_cases t 1 t) [ inl w ↦ omega (arith, h t, count_in-push t 1 ts t) | inr v ↦ elim v [ inl w ↦ absurd (omega arith) | inr w ↦ absurd (omega arith) ] ])),
+  (λ h u. elim (one_in_cases u 1 t) [
+    | inl w ↦ let e : u ≡ t = omega arith in rw e (omega (arith, h.1, count_in-push t 1 ts t, one_in_le t 1 t))
     | inr v ↦ elim v [ inl w ↦ omega (arith, h.0 u, count_in-push u 1 ts t) | inr w ↦ omega (arith, h.0 u, count_in-push u 1 ts t) ]
   ]),
 )

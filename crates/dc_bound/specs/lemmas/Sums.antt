@@ -6,7 +6,7 @@ use Rattle.std.proofs.lemmas.Bool.Decides.{nat_tests}
 use Rattle.std.proofs.lemmas.List.{get_or_append_left}
 use Rattle.std.proofs.lemmas.List.Elements.{All-tail, All-head, filter-append}
 use Rattle.std.proofs.lemmas.List.Sums.{sum_by-cons, sum_by-le-sum_by}
-use Rattle.dc_bound.specs.Window.{count_in, ticks_of, within}
+use Rattle.dc_bound.specs.Window.{count_in, ticks_of, one_in}
 use Rattle.dc_bound.specs.Tags.{with_tag, SumAllows}
 use Rattle.dc_bound.specs.Tags.{EachAllows}
 
@@ -19,13 +19,13 @@ sum_zero f h (b ∷ bs) = omega (arith, sum_by-cons f b bs, h b, sum_zero f h bs
 -- how many entries that pass lie in the window
 passing : (ℕ × ℕ → Bool) → ℕ → ℕ → List (ℕ × ℕ) → ℕ
 passing p u d [] = 0
-passing p u d (x ∷ xs) = cond (p x) (within u d x.0) 0 + passing p u d xs
+passing p u d (x ∷ xs) = cond (p x) (one_in u d x.0) 0 + passing p u d xs
 
 passing-filter : (p : ℕ × ℕ → Bool) (u d : ℕ) (xs : List (ℕ × ℕ)) → count_in u d (ticks_of (filter p xs)) ≡ passing p u d xs
 unfolding count_in passing
 passing-filter p u d [] = refl
 passing-filter p u d (x ∷ xs) =
-    elim (p x) as (λ b. count_in u d (ticks_of (cond b (x ∷ filter p xs) (filter p xs))) ≡ cond b (within u d x.0) 0 + passing p u d xs) [
+    elim (p x) as (λ b. count_in u d (ticks_of (cond b (x ∷ filter p xs) (filter p xs))) ≡ cond b (one_in u d x.0) 0 + passing p u d xs) [
       | true ↦ omega (arith, passing-filter p u d xs)
       | false ↦ omega (arith, passing-filter p u d xs)
     ]
@@ -46,19 +46,19 @@ tag_more i w t h = grind (arith, nat_tests)
 from_tag_split : (i u d : ℕ) (xs : List (ℕ × ℕ)) → from_tag i u d xs ≡ passing (λ e. eqb e.1 i) u d xs + from_tag (suc i) u d xs
 unfolding from_tag passing
 from_tag_split i u d [] = refl
-from_tag_split i u d (x ∷ xs) = omega (arith, tag_split i (within u d x.0) x.1, from_tag_split i u d xs)
+from_tag_split i u d (x ∷ xs) = omega (arith, tag_split i (one_in u d x.0) x.1, from_tag_split i u d xs)
 
 from_tag_none : (i u d : ℕ) (xs : List (ℕ × ℕ)) → All (λ e. e.1 < i) xs → from_tag i u d xs ≡ 0
 unfolding from_tag passing
 from_tag_none i u d [] h = refl
 from_tag_none i u d (x ∷ xs) h =
-    omega (arith, tag_less i (within u d x.0) x.1 (All-head (λ e. e.1 < i) x xs h), from_tag_none i u d xs (All-tail (λ e. e.1 < i) x xs h))
+    omega (arith, tag_less i (one_in u d x.0) x.1 (All-head (λ e. e.1 < i) x xs h), from_tag_none i u d xs (All-tail (λ e. e.1 < i) x xs h))
 
 from_tag_all : (i u d : ℕ) (xs : List (ℕ × ℕ)) → All (λ e. i ≤ e.1) xs → from_tag i u d xs ≡ count_in u d (ticks_of xs)
 unfolding from_tag passing count_in
 from_tag_all i u d [] h = refl
 from_tag_all i u d (x ∷ xs) h =
-    omega (arith, tag_more i (within u d x.0) x.1 (All-head (λ e. i ≤ e.1) x xs h), from_tag_all i u d xs (All-tail (λ e. i ≤ e.1) x xs h))
+    omega (arith, tag_more i (one_in u d x.0) x.1 (All-head (λ e. i ≤ e.1) x xs h), from_tag_all i u d xs (All-tail (λ e. i ≤ e.1) x xs h))
 
 each_count : {B : Type 0} (P : B → List (ℕ × ℕ) → Type 0) (u d : ℕ) (cap : B → ℕ) →
     ((b : B) (xs : List (ℕ × ℕ)) → P b xs → count_in u d (ticks_of xs) ≤ cap b) →

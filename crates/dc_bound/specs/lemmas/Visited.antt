@@ -1,8 +1,8 @@
 -- The steps of a table that visit one bus.
 use Rattle.std.proofs.Common.{◌≡◌, ℕ, suc, ◌+◌, ◌*◌, ◌/◌, ◌%◌, ◌≤◌, ◌<◌, cond, true, false, eqb, List, [], ◌∷◌, length, get_or, refl, ap, ◌∙◌, arith, inl, inr, ◌++◌, add-zero, sym}
 use Rattle.std.proofs.lemmas.Bool.{cases_lt}
-use Rattle.dc_bound.specs.Window.{count_in, within, HoldAtLeast}
-use Rattle.dc_bound.specs.lemmas.Counts.{within_cases}
+use Rattle.dc_bound.specs.Window.{count_in, one_in, HoldAtLeast}
+use Rattle.dc_bound.specs.lemmas.Counts.{one_in_cases}
 use Rattle.dc_bound.specs.lemmas.Budget.{pace_holds}
 use Rattle.dc_bound.specs.Rounds.{among, is_at, fewest_visits}
 use Rattle.dc_bound.specs.lemmas.Cycle.{among_front, fewest_holds, fewest_grows, fewest_zero}
@@ -27,30 +27,30 @@ visited-append table bus n (t ∷ ts) us =
       | false ↦ r
     ]
 
-outside : (u d t : ℕ) → u + d ≤ t → within u d t ≡ 0
-outside u d t late = elim (within_cases u d t) [ inl w ↦ absurd (omega arith) | inr v ↦ elim v [ inl w ↦ w.1 | inr w ↦ w.1 ] ]
+outside : (u d t : ℕ) → u + d ≤ t → one_in u d t ≡ 0
+outside u d t late = elim (one_in_cases u d t) [ inl w ↦ absurd (omega arith) | inr v ↦ elim v [ inl w ↦ w.1 | inr w ↦ w.1 ] ]
 
-early : (u d t : ℕ) → t < u → within u d t ≡ 0
-early u d t before = elim (within_cases u d t) [ inl w ↦ absurd (omega arith) | inr v ↦ elim v [ inl w ↦ w.1 | inr w ↦ w.1 ] ]
+early : (u d t : ℕ) → t < u → one_in u d t ≡ 0
+early u d t before = elim (one_in_cases u d t) [ inl w ↦ absurd (omega arith) | inr v ↦ elim v [ inl w ↦ w.1 | inr w ↦ w.1 ] ]
 
-inside : (u d t : ℕ) → u ≤ t → t < u + d → within u d t ≡ 1
-inside u d t from to = elim (within_cases u d t) [ inl w ↦ w.2 | inr v ↦ elim v [ inl w ↦ absurd (omega arith) | inr w ↦ absurd (omega arith) ] ]
+inside : (u d t : ℕ) → u ≤ t → t < u + d → one_in u d t ≡ 1
+inside u d t from to = elim (one_in_cases u d t) [ inl w ↦ w.2 | inr v ↦ elim v [ inl w ↦ absurd (omega arith) | inr w ↦ absurd (omega arith) ] ]
 
 module _ (table : List ℕ) (bus : ℕ) where
-  count-visited : (u d n t : ℕ) (ts : List ℕ) → count_in u d (visited table bus n (t ∷ ts)) ≡ within u d t * is_at table bus (n % length table) + count_in u d (visited table bus (suc n) ts)
+  count-visited : (u d n t : ℕ) (ts : List ℕ) → count_in u d (visited table bus n (t ∷ ts)) ≡ one_in u d t * is_at table bus (n % length table) + count_in u d (visited table bus (suc n) ts)
   unfolding count_in visited
   count-visited u d n t ts =
       elim (eqb (get_or table (n % length table) 0) bus) as
-      (λ b. count_in u d (cond b (t ∷ visited table bus (suc n) ts) (visited table bus (suc n) ts)) ≡ within u d t * cond b 1 0 + count_in u d (visited table bus (suc n) ts)) [
+      (λ b. count_in u d (cond b (t ∷ visited table bus (suc n) ts) (visited table bus (suc n) ts)) ≡ one_in u d t * cond b 1 0 + count_in u d (visited table bus (suc n) ts)) [
         | true ↦ omega arith
         | false ↦ omega arith
       ]
 
-  visited_out : (u d n t : ℕ) (ts : List ℕ) → within u d t ≡ 0 → (count_in u d (t ∷ ts) ≡ count_in u d ts) × (count_in u d (visited table bus n (t ∷ ts)) ≡ count_in u d (visited table bus (suc n) ts))
+  visited_out : (u d n t : ℕ) (ts : List ℕ) → one_in u d t ≡ 0 → (count_in u d (t ∷ ts) ≡ count_in u d ts) × (count_in u d (visited table bus n (t ∷ ts)) ≡ count_in u d (visited table bus (suc n) ts))
   unfolding count_in
   visited_out u d n t ts e = (omega (arith, e), count-visited u d n t ts ∙ ap (λ w. w * is_at table bus (n % length table) + count_in u d (visited table bus (suc n) ts)) e ∙ omega arith)
 
-  visited_in : (u d n t : ℕ) (ts : List ℕ) → within u d t ≡ 1 → (count_in u d (t ∷ ts) ≡ suc (count_in u d ts)) × (count_in u d (visited table bus n (t ∷ ts)) ≡ is_at table bus (n % length table) + count_in u d (visited table bus (suc n) ts))
+  visited_in : (u d n t : ℕ) (ts : List ℕ) → one_in u d t ≡ 1 → (count_in u d (t ∷ ts) ≡ suc (count_in u d ts)) × (count_in u d (visited table bus n (t ∷ ts)) ≡ is_at table bus (n % length table) + count_in u d (visited table bus (suc n) ts))
   unfolding count_in
   visited_in u d n t ts e = (omega (arith, e), count-visited u d n t ts ∙ ap (λ w. w * is_at table bus (n % length table) + count_in u d (visited table bus (suc n) ts)) e ∙ omega arith)
 

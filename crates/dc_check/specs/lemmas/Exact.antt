@@ -43,15 +43,15 @@ unfolding unless
 none-unless true fault h = refl
 none-unless false fault h = absurd cc
 
-at_window-none : (part : CertificateList) (index : ℕ) (condition : Condition) (o : Option ℕ) → at_window part index condition o ≡ None → o ≡ None
+at_window-none : (list : CertificateList) (index : ℕ) (condition : Condition) (o : Option ℕ) → at_window list index condition o ≡ None → o ≡ None
 unfolding at_window
-at_window-none part index condition None h = refl
-at_window-none part index condition (Some w) h = absurd cc
+at_window-none list index condition None h = refl
+at_window-none list index condition (Some w) h = absurd cc
 
-none-at_window : (part : CertificateList) (index : ℕ) (condition : Condition) (o : Option ℕ) → o ≡ None → at_window part index condition o ≡ None
+none-at_window : (list : CertificateList) (index : ℕ) (condition : Condition) (o : Option ℕ) → o ≡ None → at_window list index condition o ≡ None
 unfolding at_window
-none-at_window part index condition None h = refl
-none-at_window part index condition (Some w) h = absurd cc
+none-at_window list index condition None h = refl
+none-at_window list index condition (Some w) h = absurd cc
 
 -- ---- windows
 
@@ -164,15 +164,15 @@ none-first_of : (rules : List (Option CheckFault)) → AllNone rules → first_o
 none-first_of [] h = refl
 none-first_of (rule ∷ rules) h = none-or rule (first_of rules) h.0 (none-first_of rules h.1)
 
-pub ranges-none : (part : CertificateList) (index window delay : ℕ) → first_of (range_rules part index window delay) ≡ None → (1 ≤ window) × (window ≤ 100000) × (delay ≤ 100000)
-ranges-none part index window delay h =
-    let r = first_of-none (range_rules part index window delay) h in
+pub ranges-none : (list : CertificateList) (index window delay : ℕ) → first_of (range_rules list index window delay) ≡ None → (1 ≤ window) × (window ≤ 100000) × (delay ≤ 100000)
+ranges-none list index window delay h =
+    let r = first_of-none (range_rules list index window delay) h in
     let w = window-is window (unless-none _ _ r.0) in
     (w.0, w.1, leb-true delay 100000 (unless-none _ _ r.1.0))
 
-none-ranges : (part : CertificateList) (index window delay : ℕ) → 1 ≤ window → window ≤ 100000 → delay ≤ 100000 → first_of (range_rules part index window delay) ≡ None
-none-ranges part index window delay low high short =
-    none-first_of (range_rules part index window delay) (none-unless _ _ (is-window window low high), (none-unless _ _ (le-leb delay 100000 short), tt))
+none-ranges : (list : CertificateList) (index window delay : ℕ) → 1 ≤ window → window ≤ 100000 → delay ≤ 100000 → first_of (range_rules list index window delay) ≡ None
+none-ranges list index window delay low high short =
+    none-first_of (range_rules list index window delay) (none-unless _ _ (is-window window low high), (none-unless _ _ (le-leb delay 100000 short), tt))
 
 module _ (t : TableRows) where
   input-none : (b : ℕ) (c : InputBound) → first_of (range_rules Inputs b c.window c.delay) ≡ None → first_of (input_rules t b c) ≡ None → AcceptsInput t b c
@@ -346,7 +346,7 @@ none-names t claims ok =
       ),
     )
 
--- where no name is wrong, there are as many of each part as the tables have
+-- where no name is wrong, there are as many in each list as the tables have
 pub sized-by_names : (t : TableRows) (claims : NamedRows) → misnaming t claims ≡ None → IsSized t (numbers_of claims)
 sized-by_names t claims h =
     let ok = names-none t claims h in

@@ -109,7 +109,7 @@ module _ (cap floor own_cap own_floor : ℕ → ℕ) (same_cap : (d : ℕ) → c
       at ∙ delay_failure-same window delay ∙ ap (λ n. delay_failure own_cap own_floor n delay) w ∙ ap (delay_failure own_cap own_floor own_window) d
 
 -- ranges at equal windows and delays
-pub ranges-read : (part : CertificateList) (index window delay own_window own_delay : ℕ) (r : Option CheckFault) → r ≡ first_of (range_rules part index window delay) → window ≡ own_window → delay ≡ own_delay
-    → r ≡ first_of (range_rules part index own_window own_delay)
-ranges-read part index window delay own_window own_delay r at w d =
-    at ∙ ap (λ n. first_of (range_rules part index n delay)) w ∙ ap (λ n. first_of (range_rules part index own_window n)) d
+pub ranges-read : (list : CertificateList) (index window delay own_window own_delay : ℕ) (r : Option CheckFault) → r ≡ first_of (range_rules list index window delay) → window ≡ own_window → delay ≡ own_delay
+    → r ≡ first_of (range_rules list index own_window own_delay)
+ranges-read list index window delay own_window own_delay r at w d =
+    at ∙ ap (λ n. first_of (range_rules list index n delay)) w ∙ ap (λ n. first_of (range_rules list index own_window n)) d

@@ -5,7 +5,7 @@ use Rattle.std.proofs.lemmas.Bool.{cases_lt}
 use Rattle.dc_cert.specs.Bounds.{CertificateRows, InputBound, OutputBound, input_bound, output_bound, numbers_of}
 use Rattle.dc_cert.specs.NamedRows.{NamedRows}
 use Rattle.dc_check.specs.lemmas.Exact.{job-input, job-output, job-label}
-use Rattle.dc_check.specs.Placed.{IsPlaced, part_count}
+use Rattle.dc_check.specs.Placed.{IsPlaced, member_count}
 use Rattle.dc_check.specs.Verdict.{fault_at, unless, at_window, first_of, name_rules, misnaming, range_rules, input_rules, output_rules, label_rules, job_count, job_verdict, first_job_fault, verdict_of}
 use Rattle.dc_check.specs.declared.fault.CheckFault.{CheckFault}
 use Rattle.dc_check.specs.declared.fault.Condition.{Condition}
@@ -37,10 +37,10 @@ module _ (P : CheckFault → Type 0) where
   of_unless true fault h = tt
   of_unless false fault h = h
 
-  of_window : (part : CertificateList) (index : ℕ) (condition : Condition) (o : Option ℕ) → ((w : ℕ) → P (fault_at part index condition w)) → Of (at_window part index condition o)
+  of_window : (list : CertificateList) (index : ℕ) (condition : Condition) (o : Option ℕ) → ((w : ℕ) → P (fault_at list index condition w)) → Of (at_window list index condition o)
   unfolding at_window
-  of_window part index condition None h = tt
-  of_window part index condition (Some w) h = h w
+  of_window list index condition None h = tt
+  of_window list index condition (Some w) h = h w
 
   of_jobs : (verdict : ℕ → Option CheckFault) (n : ℕ) → ((k : ℕ) → k < n → Of (verdict k)) → Of (first_job_fault verdict n)
   unfolding first_job_fault
@@ -48,9 +48,9 @@ module _ (P : CheckFault → Type 0) where
   of_jobs verdict (suc n) h = of_or (first_job_fault verdict n) (verdict n) (of_jobs verdict n (λ k l. h k (omega arith))) (h n (omega arith))
 
 module _ (t : TableRows) where
-  ranges_placed : (part : CertificateList) (index window delay : ℕ) → index < part_count t part → Of (IsPlaced t) (first_of (range_rules part index window delay))
-  ranges_placed part index window delay there =
-      of_first (IsPlaced t) (range_rules part index window delay) (of_unless (IsPlaced t) _ _ (λ other. there), (of_unless (IsPlaced t) _ _ (λ other. there), tt))
+  ranges_placed : (list : CertificateList) (index window delay : ℕ) → index < member_count t list → Of (IsPlaced t) (first_of (range_rules list index window delay))
+  ranges_placed list index window delay there =
+      of_first (IsPlaced t) (range_rules list index window delay) (of_unless (IsPlaced t) _ _ (λ other. there), (of_unless (IsPlaced t) _ _ (λ other. there), tt))
 
   input_placed : (b : ℕ) (c : InputBound) → b < length t.buses → Of (IsPlaced t) (first_of (input_rules t b c))
   input_placed b c there =
@@ -91,7 +91,7 @@ module _ (t : TableRows) where
 
   names_placed : (claims : NamedRows) → Of (IsPlaced t) (misnaming t claims)
   names_placed claims =
-      let at : (holds : Bool) (part : CertificateList) → Of (IsPlaced t) (unless holds (fault_at part 0 NamesDiffer 0)) = λ holds part. of_unless (IsPlaced t) holds (fault_at part 0 NamesDiffer 0) (λ other. absurd (other refl)) in
+      let at : (holds : Bool) (list : CertificateList) → Of (IsPlaced t) (unless holds (fault_at list 0 NamesDiffer 0)) = λ holds list. of_unless (IsPlaced t) holds (fault_at list 0 NamesDiffer 0) (λ other. absurd (other refl)) in
       of_first (IsPlaced t) (name_rules t claims) (at _ _, (at _ _, (at _ _, tt)))
 
   verdict_of_placed : (claims : NamedRows) → Of (IsPlaced t) (verdict_of t claims)

@@ -23,7 +23,7 @@ use Rattle.dc_tables.specs.Declares.{stream_of, declares, fits}
 use Rattle.dc_tables.specs.TableRows.{TableRows, stream_row, is_policed}
 use Rattle.dc_tables.specs.declared.rows.Stream.{Stream}
 use Rattle.dc_event.specs.Time.{tick_after}
-use Rattle.dc_event.specs.Offers.{offer_of, only, offer_on, offered, cap_of, is_early, refuses, let_in}
+use Rattle.dc_event.specs.Offers.{offer_of, only, offer_on, offered, cap_of, is_early, refuses_early, let_in}
 use Rattle.dc_event.specs.Buses.{visited_bus, in_of, move_of, moves, bus_arrivals, arrivals, arrival_of}
 use Rattle.dc_event.specs.lemmas.RunPush.{moves-push, ticks_in-moves, ticks-other, ticks-step, tick-push}
 use Rattle.dc_event.specs.lemmas.RunMoves.{moves-nil}
@@ -168,12 +168,12 @@ offered-up_to t s run = each-up_to (offered t s) (λ run e. offer_on t s e) (off
 
 -- ---- a bus that is not policed: its arrivals are what is offered
 
-pub refuses-none : (t : TableRows) (b : ℕ) (past : List Event) (o : Option ℕ) → is_policed t b ≡ false → refuses t b past o ≡ false
-refuses-none t b past None h = refl
-refuses-none t b past (Some s) h = ap (λ v. v && is_early t s past) h
+pub refuses_early-none : (t : TableRows) (b : ℕ) (past : List Event) (o : Option ℕ) → is_policed t b ≡ false → refuses_early t b past o ≡ false
+refuses_early-none t b past None h = refl
+refuses_early-none t b past (Some s) h = ap (λ v. v && is_early t s past) h
 
 pub let_in-all : (t : TableRows) (b : ℕ) (past : List Event) (o : Option ℕ) → is_policed t b ≡ false → let_in t b past o ≡ o
-let_in-all t b past o h = ap (λ v. cond v None o) (refuses-none t b past o h)
+let_in-all t b past o h = ap (λ v. cond v None o) (refuses_early-none t b past o h)
 
 pub arrivals-unpoliced : (t : TableRows) (s : ℕ) (run : List Event) → is_policed t (stream_row t s).bus ≡ false → ticks_of (arrivals t s run) ≡ offered t s run
 arrivals-unpoliced t s run free =
@@ -307,7 +307,7 @@ offer-here : (t : TableRows) (b w k : ℕ) → is_odd w ≡ true → stream_of t
 offer-here t b w k odd some = let e : (b == b) ≡ true = eq-eqb b b refl in rw (e, odd) some
 
 -- a word that its bus refuses is an arrival of no bus
-pub refused-none : (t : TableRows) (run : List Event) (b w k : ℕ) → is_odd w ≡ true → stream_of t b w ≡ Some k → refuses t b run (Some k) ≡ true → (a : ℕ) → arrival_of t a run (Arrive w b) ≡ None
+pub refused-none : (t : TableRows) (run : List Event) (b w k : ℕ) → is_odd w ≡ true → stream_of t b w ≡ Some k → refuses_early t b run (Some k) ≡ true → (a : ℕ) → arrival_of t a run (Arrive w b) ≡ None
 refused-none t run b w k odd some early a = elim (cases_eq b a) [
   | inl same ↦
       let P : ℕ → Type 0 = λ a. arrival_of t a run (Arrive w b) ≡ None in
@@ -316,16 +316,16 @@ refused-none t run b w k odd some early a = elim (cases_eq b a) [
 ]
 
 -- each other word is an arrival of its bus, and of its stream alone
-pub arrival-here : (t : TableRows) (run : List Event) (b w k : ℕ) → is_odd w ≡ true → stream_of t b w ≡ Some k → refuses t b run (Some k) ≡ false → arrival_of t b run (Arrive w b) ≡ Some k
+pub arrival-here : (t : TableRows) (run : List Event) (b w k : ℕ) → is_odd w ≡ true → stream_of t b w ≡ Some k → refuses_early t b run (Some k) ≡ false → arrival_of t b run (Arrive w b) ≡ Some k
 arrival-here t run b w k odd some free = ap (let_in t b run) (offer-here t b w k odd some) ∙ ap (λ v. cond v None (Some k)) free
 
-pub arrival-own : (t : TableRows) (run : List Event) (b w k : ℕ) → is_odd w ≡ true → stream_of t b w ≡ Some k → refuses t b run (Some k) ≡ false → arrival_on t k run (Arrive w b) ≡ Some k
+pub arrival-own : (t : TableRows) (run : List Event) (b w k : ℕ) → is_odd w ≡ true → stream_of t b w ≡ Some k → refuses_early t b run (Some k) ≡ false → arrival_on t k run (Arrive w b) ≡ Some k
 arrival-own t run b w k odd some free =
     let own = stream_of-there t b w k some in
     let e : eqb k k ≡ true = eq-eqb k k refl in
     ap (λ a. only k (arrival_of t a run (Arrive w b))) own.1 ∙ ap (only k) (arrival-here t run b w k odd some free) ∙ ap (λ v. cond v (Some k) None) e
 
-pub arrival-others : (t : TableRows) (run : List Event) (b w k : ℕ) → is_odd w ≡ true → stream_of t b w ≡ Some k → refuses t b run (Some k) ≡ false → (s : ℕ) → (k ≡ s → ⊥) → arrival_on t s run (Arrive w b) ≡ None
+pub arrival-others : (t : TableRows) (run : List Event) (b w k : ℕ) → is_odd w ≡ true → stream_of t b w ≡ Some k → refuses_early t b run (Some k) ≡ false → (s : ℕ) → (k ≡ s → ⊥) → arrival_on t s run (Arrive w b) ≡ None
 arrival-others t run b w k odd some free s other = elim (cases_eq b (stream_row t s).bus) [
   | inl same ↦
       let P : ℕ → Type 0 = λ a. only s (arrival_of t a run (Arrive w b)) ≡ None in

@@ -8,7 +8,7 @@ use Rattle.dc_bound.specs.Run.{ticks, stamp, stamped}
 use Rattle.dc_bound.specs.Places.{each_from, each_place}
 use Rattle.dc_bound.specs.Moves.{move_ends, tag_of, entries}
 use Rattle.dc_bound.specs.lemmas.Segments.{ticks-append}
-use Rattle.dc_bound.specs.lemmas.Counts.{within_cases}
+use Rattle.dc_bound.specs.lemmas.Counts.{one_in_cases}
 use Rattle.dc_bound.specs.lemmas.Steps.{stamped-append, ticks_of-append, count-append}
 use Rattle.dc_bound.specs.Tags.{with_tag}
 use Rattle.dc_tables.specs.TableRows.{TableRows, stream_row}
@@ -85,7 +85,7 @@ KeepsSources-beginning t past rest k = record {
 stamp-later : (u d t : ℕ) (o : Option ℕ) (rest : List (ℕ × ℕ)) → u + d ≤ t → count_in u d (ticks_of (stamp t o rest)) ≡ count_in u d (ticks_of rest)
 unfolding count_in
 stamp-later u d t None rest h = refl
-stamp-later u d t (Some x) rest h = elim (within_cases u d t) [ inl w ↦ absurd (omega arith) | inr v ↦ elim v [ inl w ↦ omega arith | inr w ↦ omega arith ] ]
+stamp-later u d t (Some x) rest h = elim (one_in_cases u d t) [ inl w ↦ absurd (omega arith) | inr v ↦ elim v [ inl w ↦ omega arith | inr w ↦ omega arith ] ]
 
 -- steps from a tick on are in no window before it
 later-none : (pick : Event → Option ℕ) (u d t : ℕ) (es : List Event) → u + d ≤ t → count_in u d (ticks_of (stamped ends pick t es)) ≡ 0

@@ -5,8 +5,8 @@ use Rattle.std.proofs.lemmas.List.{append-nil, length-map, get_or-map}
 use Rattle.std.proofs.lemmas.Bool.{cases_lt, cases_eq, eq-eqb, ne_eqb, lt-ltb, le-ltb, le-leb, lt-leb}
 use Rattle.std.proofs.lemmas.Grind.{flat_map-append}
 use Rattle.std.proofs.Math.Nat.{mod-lt}
-use Rattle.dc_bound.specs.Window.{count_in, within}
-use Rattle.dc_bound.specs.lemmas.Counts.{within_cases}
+use Rattle.dc_bound.specs.Window.{count_in, one_in}
+use Rattle.dc_bound.specs.lemmas.Counts.{one_in_cases}
 use Rattle.dc_bound.specs.Run.{picks}
 use Rattle.dc_bound.specs.Places.{each_place, count_below}
 use Rattle.dc_bound.specs.Moves.{Move, visits, ins, passed}
@@ -47,17 +47,17 @@ output_moves t o run = entries_due t o 0 ++ flat_map (λ ms. ms) (each_place (ou
 
 -- ---- the entries due in a tick
 
-entry_in-count : (at : ℕ) (e : Entry) → length (ins (entry_in at e)) ≡ within at 1 e.offset
+entry_in-count : (at : ℕ) (e : Entry) → length (ins (entry_in at e)) ≡ one_in at 1 e.offset
 unfolding ins
 entry_in-count at e =
     elim (cases_eq e.offset at) [
       | inl same ↦
           let yes' : eqb e.offset at ≡ true = eq-eqb e.offset at same in
-          let one : within at 1 e.offset ≡ 1 = elim (within_cases at 1 e.offset) [ inl w ↦ w.2 | inr v ↦ elim v [ inl w ↦ absurd (omega arith) | inr w ↦ absurd (omega arith) ] ] in
+          let one : one_in at 1 e.offset ≡ 1 = elim (one_in_cases at 1 e.offset) [ inl w ↦ w.2 | inr v ↦ elim v [ inl w ↦ absurd (omega arith) | inr w ↦ absurd (omega arith) ] ] in
           rw yes' (sym one)
       | inr other ↦
           let no' : eqb e.offset at ≡ false = ne_eqb e.offset at other in
-          let none : within at 1 e.offset ≡ 0 = elim (within_cases at 1 e.offset) [ inl w ↦ absurd (other (let s : e.offset ≡ at = omega arith in s)) | inr v ↦ elim v [ inl w ↦ w.1 | inr w ↦ w.1 ] ] in
+          let none : one_in at 1 e.offset ≡ 0 = elim (one_in_cases at 1 e.offset) [ inl w ↦ absurd (other (let s : e.offset ≡ at = omega arith in s)) | inr v ↦ elim v [ inl w ↦ w.1 | inr w ↦ w.1 ] ] in
           rw no' (sym none)
     ]
 

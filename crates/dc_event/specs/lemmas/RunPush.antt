@@ -10,7 +10,7 @@ use Rattle.dc_bound.specs.Places.{each_place}
 use Rattle.dc_bound.specs.Moves.{Move, move_ends, visit_of, ticks_in, ins, latest_by, entered, item, before, latch}
 use Rattle.dc_bound.specs.Moves.Move.{Visit}
 use Rattle.dc_bound.specs.lemmas.Segments.{ticks-append, picks-append}
-use Rattle.dc_bound.specs.lemmas.Counts.{within_cases}
+use Rattle.dc_bound.specs.lemmas.Counts.{one_in_cases}
 use Rattle.dc_bound.specs.lemmas.Recent.{NoneLater}
 use Rattle.dc_bound.specs.lemmas.Steps.{stamped-append, count_in-push, ticks_of-append}
 use Rattle.dc_bound.specs.lemmas.Queued.{ins-append}
@@ -20,9 +20,9 @@ use Rattle.dc_word.specs.Word.{is_odd}
 use Rattle.dc_tables.specs.TableRows.{TableRows, visited, stream_row}
 use Rattle.dc_tables.specs.Declares.{stream_of}
 use Rattle.dc_event.specs.Time.{ends, tick_after, send_of, routes, sends}
-use Rattle.dc_event.specs.Offers.{refuses, let_in}
+use Rattle.dc_event.specs.Offers.{refuses_early, let_in}
 use Rattle.dc_event.specs.Buses.{in_of, move_of, moves, room}
-use Rattle.dc_event.specs.Latest.{is_of, latest}
+use Rattle.dc_event.specs.Latest.{is_of_stream, latest}
 use Rattle.dc_event.specs.Outputs.{due_tick, due_by, sent}
 use Rattle.dc_event.specs.Replies.{reply, outputs_of}
 use Rattle.dc_event.specs.declared.event.Event.{Event}
@@ -69,7 +69,7 @@ module _ (pick : Event → Option ℕ) where
 
   none_more : (u d k : ℕ) (ts : List ℕ) (o : Option ℕ) → k < u → count_in u d ts ≡ 0 → count_in u d (ts ++ ticks_of (stamp k o [])) ≡ 0
   none_more u d k ts None l h = ap (λ x. count_in u d x) (append-nil ts) ∙ h
-  none_more u d k ts (Some x) l h = elim (within_cases u d k) [ inl w ↦ absurd (omega arith) | inr v ↦ elim v [ inl w ↦ omega (arith, h, count_in-push u d ts k) | inr w ↦ omega (arith, h, count_in-push u d ts k) ] ]
+  none_more u d k ts (Some x) l h = elim (one_in_cases u d k) [ inl w ↦ absurd (omega arith) | inr v ↦ elim v [ inl w ↦ omega (arith, h, count_in-push u d ts k) | inr w ↦ omega (arith, h, count_in-push u d ts k) ] ]
 
   none_start : (u d : ℕ) → count_in u d (ticks_of (stamped ends pick 0 [])) ≡ 0
   unfolding stamped count_in
@@ -93,7 +93,7 @@ moves-other t b run e h = moves-push t b run e ∙ ap (λ ms. moves t b run ++ m
 
 pub latest-other : (t : TableRows) (s : ℕ) (run : List Event) (e : Event) → move_of t (stream_row t s).bus run e ≡ [] → latest t s (run ++ e ∷ []) ≡ latest t s run
 unfolding latest
-latest-other t s run e h = ap (λ ms. latest_by (room t (stream_row t s).bus) (is_of s) ms) (moves-other t (stream_row t s).bus run e h)
+latest-other t s run e h = ap (λ ms. latest_by (room t (stream_row t s).bus) (is_of_stream s) ms) (moves-other t (stream_row t s).bus run e h)
 
 -- ---- what is due, and what was sent
 
@@ -163,7 +163,7 @@ declared-append t b (x ∷ xs) ys h g (suc n) l = declared-append t b xs ys (λ 
 
 -- what is let in was offered
 pub let_in-some : (t : TableRows) (b : ℕ) (past : List Event) (o : Option ℕ) (s : ℕ) → let_in t b past o ≡ Some s → o ≡ Some s
-let_in-some t b past o s h = elim (refuses t b past o) as (λ v. cond v None o ≡ Some s → o ≡ Some s) [ true ↦ λ h. absurd cc | false ↦ λ h. h ] h
+let_in-some t b past o s h = elim (refuses_early t b past o) as (λ v. cond v None o ≡ Some s → o ≡ Some s) [ true ↦ λ h. absurd cc | false ↦ λ h. h ] h
 
 arrival_declared : (t : TableRows) (b w : ℕ) (o : Option ℕ) → ((s : ℕ) → o ≡ Some s → stream_of t b w ≡ Some s) → AllDeclared t b (ins (in_of o w))
 unfolding ins

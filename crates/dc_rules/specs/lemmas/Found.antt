@@ -4,7 +4,7 @@ use Rattle.std.specs.List.{position}
 use Rattle.std.specs.Prelude.{IfSome}
 use Rattle.std.proofs.lemmas.List.{length-take, length-map, get_or-take, get_or-map}
 use Rattle.std.proofs.lemmas.Bool.Decides.{nat_tests}
-use Rattle.dc_dict.specs.Rows.{is_of, row_of, refusal_of}
+use Rattle.dc_dict.specs.Rows.{is_row_of, row_of, refusal_of}
 use Rattle.dc_dict.specs.declared.parameter.Parameter.{Parameter as ParameterPart}
 use Rattle.dc_parts.specs.declared.keys.ParameterKey.{ParameterKey}
 use Rattle.dc_rules.specs.Rules.{outside, parameter_out, parameter_of, doubled, first_inverted}
@@ -23,7 +23,7 @@ found_in Q p (x ∷ xs) r each h = found_step Q p x xs r (p x) h (each 0 x (omeg
 
 -- what holds of each parameter holds of the one that is found
 pub found_holds : (Q : ParameterPart → Type 0) (ps : List ParameterPart) (key : ParameterKey) (p : ParameterPart) → ((k : ℕ) (d : ParameterPart) → k < length ps → Q (get_or ps k d)) → parameter_of ps key ≡ Some p → Q p
-found_holds Q ps key p each h = found_in Q (is_of key.label key.equipment) ps p each h
+found_holds Q ps key p each h = found_in Q (is_row_of key.label key.equipment) ps p each h
 
 -- the same of an answer
 pub found_all : (Q : ParameterPart → Type 0) (ps : List ParameterPart) (key : ParameterKey) (found : Option ParameterPart) → found ≡ parameter_of ps key → ((k : ℕ) (d : ParameterPart) → k < length ps → Q (get_or ps k d)) → IfSome found Q
@@ -49,13 +49,13 @@ never_refused ps rows i row past l at shape once ordered =
     let o : nat_lt row.max_us row.min_us ≡ false = ap (λ (p : ParameterPart). nat_lt p.max_us p.min_us) at ∙ each_fails (λ (p : ParameterPart). nat_lt p.max_us p.min_us) ps ordered i row l in
     let n : is_some (row_of rows row.label row.equipment) ≡ false =
     ap (λ (rs : List ParameterPart). is_some (row_of rs row.label row.equipment)) past
-    ∙ none_found (is_of row.label row.equipment) (take i ps) (λ k d m.
+    ∙ none_found (is_row_of row.label row.equipment) (take i ps) (λ k d m.
     let key : ParameterKey = parameter_key row in
     let less : k < i = omega (arith, m, length-take i ps) in
     let keys = map parameter_key ps in
     let mine : get_or keys i key ≡ key = get_or-map parameter_key ps i row key l ∙ ap parameter_key (sym at) in
     let its : get_or keys k key ≡ parameter_key (get_or ps k d) = get_or-map parameter_key ps k d key (omega (arith, less, l)) in
-    ap (is_of row.label row.equipment) (get_or-take i ps k d less)
+    ap (is_row_of row.label row.equipment) (get_or-take i ps k d less)
     ∙ sym (ap (λ a. same_parameter a (get_or keys k key)) mine ∙ ap (same_parameter key) its)
     ∙ apart same_parameter keys once k i key less (omega (arith, l, length-map ps parameter_key))) in
     rw (z, y, o, n) refl

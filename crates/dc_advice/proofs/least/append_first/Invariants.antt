@@ -3,5 +3,5 @@ use Rattle.dc_cert.specs.Bounds.{certificate_rows}
 use Rattle.dc_advice.specs.Margins.{fed, lines_of_first}
 use Rattle.dc_advice.proofs.least.append_first.Given as goal
 
-abbrev pub invariant-loop-part : goal.invariant-loop-part
-invariant-loop-part l = l.text.items ≡ l.initial.text.items ++ fed (lines_of_first l.part l.tables (certificate_rows l.certificate))
+abbrev pub invariant-loop-job : goal.invariant-loop-job
+invariant-loop-job l = l.text.items ≡ l.initial.text.items ++ fed (lines_of_first l.job l.tables (certificate_rows l.certificate))

@@ -6,5 +6,5 @@ pub returns-in-Ok-append_first-clause-answer : goal.returns-in-Ok-append_first-c
 returns-in-Ok-append_first-clause-answer c =
     let kept = c.in_ok-outcome.ensures in
     let got = c.in-Ok.ensures in
-    obstacle_judged c.args.tables.now c.args.fault (named_rows c.in-Ok.reached.certificate) c.in-Ok.reached.parts c.keep_obstacle.new.line.items c.append_first.new.text.items c.in_ok-outcome.outcome
-    (c.requires.none kept.fault) (c.requires.first kept.fault) got.parts got.reached kept.kept c.in-Ok-append_first.ensures kept.outcome
+    obstacle_judged c.args.tables.now c.args.fault (named_rows c.in-Ok.reached.certificate) c.in-Ok.reached.jobs c.keep_obstacle.new.line.items c.append_first.new.text.items c.in_ok-outcome.outcome
+    (c.requires.none kept.fault) (c.requires.first kept.fault) got.jobs got.reached kept.kept c.in-Ok-append_first.ensures kept.outcome

@@ -7,6 +7,6 @@ returns c =
     omega (
       arith,
       fewest_rounds c.args.visits.now c.args.bus c.args.steps c.requires.some,
-      c.fewest_in_part-least.ensures.value,
+      c.fewest_in_rest-least.ensures.value,
       ap (λ k. c.args.steps / length c.args.visits.now * k) c.visits_in_front-round.ensures.value,
     )

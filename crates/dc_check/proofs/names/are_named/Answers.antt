@@ -2,7 +2,7 @@ use Rattle.std.proofs.Common.{◌≡◌, sym, ap, ◌<◌, length, map, ◌∙�
 use Rattle.std.proofs.lemmas.List.{length-map}
 use Rattle.dc_check.proofs.Naming.{names_agree, names_counted, names_differ, other_name, row_read, same_all, same_more}
 use Rattle.dc_check.specs.Names.{names_of}
-use Rattle.dc_check.specs.Placed.{part_count}
+use Rattle.dc_check.specs.Placed.{member_count}
 use Rattle.dc_parts.specs.Names.{text_of}
 use Rattle.dc_check.proofs.names.are_named.Goals as goal
 
@@ -13,7 +13,7 @@ returns-then-ne g c =
     let key = c.name_of-name.result.now in
     let there : c.loop-number.number < length (names_of t c.args.list) = omega (arith, names_counted t c.args.list c.named.ensures) in
     let differ = names_differ c.ne.result _ _ _ _ c.if-ne.true c.ne.ensures (c.text.ensures.text ∙ ap text_of c.name.ensures) c.text-in-loop-number.ensures.text in
-    sym (other_name (part_count t c.args.list) (map (λ row. text_of (name row)) c.args.rows.now) (names_of t c.args.list) c.loop-number.number _ key there
+    sym (other_name (member_count t c.args.list) (map (λ row. text_of (name row)) c.args.rows.now) (names_of t c.args.list) c.loop-number.number _ key there
     (row_read name c.args.rows.now c.loop-number.number c.index-rows-number.result (omega arith) c.index-rows-number.is) c.name_of-name.ensures differ)
 
 pub loop-number-preserved : goal.loop-number-preserved
@@ -30,6 +30,6 @@ pub returns : goal.returns
 returns g c =
     let t = c.args.tables.now in
     let name = g.T.Row.name in
-    let count = part_count t c.args.list in
+    let count = member_count t c.args.list in
     let sized : length (map (λ row. text_of (name row)) c.args.rows.now) ≡ count = length-map c.args.rows.now (λ row. text_of (name row)) ∙ omega arith in
     sym (same_all count (map (λ row. text_of (name row)) c.args.rows.now) (names_of t c.args.list) sized (names_counted t c.args.list c.named.ensures) (λ k l. c.loop-number.invariant k (omega arith)))

@@ -1,5 +1,5 @@
 use Rattle.std.proofs.Common.{◌≡◌, ℕ, ◌<◌, ◌≤◌, length, slice_index_or}
-use Rattle.dc_core.specs.Parts.{no_output, output_turned}
+use Rattle.dc_core.specs.States.{no_output, output_turned}
 use Rattle.dc_core.proofs.machine.turn_outputs.Given as goal
 
 abbrev pub invariant-loop-i : goal.invariant-loop-i

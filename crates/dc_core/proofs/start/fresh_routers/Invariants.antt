@@ -1,5 +1,5 @@
 use Rattle.dc_core.specs.Fresh.{fresh_router, AllMade}
-use Rattle.dc_core.specs.Parts.{no_router}
+use Rattle.dc_core.specs.States.{no_router}
 use Rattle.dc_core.proofs.start.fresh_routers.Given as goal
 
 abbrev pub invariant-loop-r : goal.invariant-loop-r

@@ -22,8 +22,8 @@ loop-child-preserved g c =
     let is = one-last (λ h. (h.promise.hub.value ≡ c.args.hub.now) × (h.promise.gate.value ≡ c.args.gate.now)) c.loop-child.children.items c.pop.new.self.items c.in-Some.child before.2 c.in-Some.ensures.items in (
       joined g.S.Player.seat c.loop-child.children.items c.pop.new.self.items c.in-Some.child (λ h. h.promise.seat.value) (c.args.seats.now.items ++ out_with (λ h. h.promise.seat.value) c.args.children.now.items)
           c.loop-child.seats.items c.push_reserved.new.self.items c.join-seat.result.seat before.0 c.in-Some.ensures.items c.push_reserved.ensures.items c.join-seat.ensures.0,
-      subst (All (g.S.Player.is_of c.args.hub.now)) (sym c.push_reserved.ensures.items)
-          (All-push (g.S.Player.is_of c.args.hub.now) c.loop-child.seats.items c.join-seat.result.seat before.1 (subst (λ b. g.S.Player.is_of b c.join-seat.result.seat) is.0 c.join-seat.ensures.1)),
+      subst (All (g.S.Player.is_of_hub c.args.hub.now)) (sym c.push_reserved.ensures.items)
+          (All-push (g.S.Player.is_of_hub c.args.hub.now) c.loop-child.seats.items c.join-seat.result.seat before.1 (subst (λ b. g.S.Player.is_of_hub b c.join-seat.result.seat) is.0 c.join-seat.ensures.1)),
       all-fewer (λ h. (h.promise.hub.value ≡ c.args.hub.now) × (h.promise.gate.value ≡ c.args.gate.now)) c.loop-child.children.items c.pop.new.self.items c.in-Some.child before.2 c.in-Some.ensures.items,
       omega (arith, before.3, c.in-Some.ensures.len, c.push_reserved.ensures.len, c.push_reserved.ensures.capacity),
       either (HaltsAs g.L.Charter.certified g.L.Charter.limit (MayStickAt (g.G.Gate.may_stick c.args.gate.now))) c.loop-child.end c.join-seat.result.end c.first-end.result c.first-end.ensures before.4

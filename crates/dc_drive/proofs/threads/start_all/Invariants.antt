@@ -6,7 +6,7 @@ use Rattle.dc_drive.proofs.threads.start_all.Given as goal
 abbrev pub invariant-loop-seat : goal.invariant-loop-seat
 invariant-loop-seat g l =
     (l.fn.seats.items ≡ l.seats.items ++ out_with (λ h. h.promise.seat.value) l.children.items)
-    × All (g.S.Player.is_of l.hub) l.seats.items
+    × All (g.S.Player.is_of_hub l.hub) l.seats.items
     × All (λ h. (h.promise.hub.value ≡ l.hub) × (h.promise.gate.value ≡ l.stage.gate.now)) l.children.items
     × (vec_len l.seats + vec_len l.children ≡ vec_len l.fn.seats)
     × (vec_len l.fn.seats ≤ vec_capacity l.children)

@@ -6,7 +6,7 @@ use Rattle.dc_cert.specs.declared.certificate.InputRow.{InputRow}
 use Rattle.dc_find.proofs.Broken.{age-older}
 use Rattle.dc_find.proofs.Claimed.{inputs-clear, least-accepted}
 use Rattle.dc_find.proofs.Lists.{if_err-map}
-use Rattle.dc_find.proofs.Parts.{none-accepted}
+use Rattle.dc_find.proofs.Jobs.{none-accepted}
 use Rattle.dc_find.specs.Least.{NoneAccepted}
 use Rattle.dc_find.specs.Rows.{AreLabelRows}
 use Rattle.dc_find.specs.Ways.{IsFirstInTheWay}

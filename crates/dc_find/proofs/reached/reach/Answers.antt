@@ -7,14 +7,14 @@ use Rattle.dc_find.specs.Rows.{AreLabelRows}
 use Rattle.dc_find.proofs.reached.reach.Goals as goal
 
 pub reached_inputs-requires : goal.reached_inputs-requires
-reached_inputs-requires c = subst (CloseBelow c.args.tables.now) (sym c.parts_before-parts.ensures.parts) (close-below c.args.tables.now c.args.fault c.requires)
+reached_inputs-requires c = subst (CloseBelow c.args.tables.now) (sym c.jobs_before-jobs.ensures.jobs) (close-below c.args.tables.now c.args.fault c.requires)
 
 pub reached_outputs-requires : goal.reached_outputs-requires
-reached_outputs-requires c = subst (CloseBelow c.args.tables.now) (sym c.parts_before-parts.ensures.parts) (close-below c.args.tables.now c.args.fault c.requires)
+reached_outputs-requires c = subst (CloseBelow c.args.tables.now) (sym c.jobs_before-jobs.ensures.jobs) (close-below c.args.tables.now c.args.fault c.requires)
 
 pub returns-clause-reached : goal.returns-clause-reached
 returns-clause-reached c =
     let labels : AreLabelRows c.args.tables.now (map named_input c.in_ok-inputs.inputs.items) (map named_label c.in_ok-labels.labels.items) =
     subst (λ (l : List InputRow). AreLabelRows c.args.tables.now (map named_input l) (map named_label c.in_ok-labels.labels.items)) c.as_slice.ensures.value c.in_ok-labels.ensures in
-    reached c.args.tables.now c.parts_before-parts.result (named_rows (record { inputs = c.in_ok-inputs.inputs; outputs = c.in_ok-outputs.outputs; labels = c.in_ok-labels.labels }))
+    reached c.args.tables.now c.jobs_before-jobs.result (named_rows (record { inputs = c.in_ok-inputs.inputs; outputs = c.in_ok-outputs.outputs; labels = c.in_ok-labels.labels }))
     c.named.ensures c.in_ok-inputs.ensures c.in_ok-outputs.ensures labels

@@ -7,5 +7,5 @@ use Rattle.dc_find.proofs.reached.reached_inputs.Goals as goal
 
 pub loop-bus-preserved : goal.loop-bus-preserved
 loop-bus-preserved c =
-    subst (λ (l : List InputRow). AreRows (IsInputReached c.args.tables.now c.args.parts) (c.loop-bus.bus + 1) (map named_input l)) (sym c.in_ok-push.ensures.items)
-    (row_pushed named_input (IsInputReached c.args.tables.now c.args.parts) c.loop-bus.bus c.loop-bus.rows.items c.reached_input.result c.loop-bus.invariant c.reached_input.ensures)
+    subst (λ (l : List InputRow). AreRows (IsInputReached c.args.tables.now c.args.jobs) (c.loop-bus.bus + 1) (map named_input l)) (sym c.in_ok-push.ensures.items)
+    (row_pushed named_input (IsInputReached c.args.tables.now c.args.jobs) c.loop-bus.bus c.loop-bus.rows.items c.reached_input.result c.loop-bus.invariant c.reached_input.ensures)

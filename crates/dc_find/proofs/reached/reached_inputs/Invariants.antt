@@ -5,4 +5,4 @@ use Rattle.dc_find.specs.Reached.{IsInputReached}
 use Rattle.dc_find.proofs.reached.reached_inputs.Given as goal
 
 abbrev pub invariant-loop-bus : goal.invariant-loop-bus
-invariant-loop-bus l = AreRows (IsInputReached l.tables l.parts) l.bus (map named_input l.rows.items)
+invariant-loop-bus l = AreRows (IsInputReached l.tables l.jobs) l.bus (map named_input l.rows.items)

@@ -5,4 +5,4 @@ use Rattle.dc_find.specs.Reached.{IsOutputReached}
 use Rattle.dc_find.proofs.reached.reached_outputs.Given as goal
 
 abbrev pub invariant-loop-output : goal.invariant-loop-output
-invariant-loop-output l = AreRows (IsOutputReached l.tables l.parts) l.output (map named_output l.rows.items)
+invariant-loop-output l = AreRows (IsOutputReached l.tables l.jobs) l.output (map named_output l.rows.items)

@@ -5,16 +5,16 @@ use Rattle.dc_cert.specs.NamedRows.{named_input}
 use Rattle.dc_cert.specs.declared.certificate.InputRow.{InputRow}
 use Rattle.dc_find.proofs.Claimed.{inputs-clear}
 use Rattle.dc_find.proofs.Lists.{AreRows, row_pushed, pushed, if_err-map}
-use Rattle.dc_find.proofs.Parts.{first-of_all}
+use Rattle.dc_find.proofs.Jobs.{first-of_all}
 use Rattle.dc_find.specs.Rows.{IsInputRow}
-use Rattle.dc_find.specs.Ways.{IsFirstOfPart, IsFirstInTheWay}
+use Rattle.dc_find.specs.Ways.{IsFirstOfJob, IsFirstInTheWay}
 use Rattle.dc_find.specs.declared.fault.FindFault.TheVariants.{Memory}
 use Rattle.dc_find.proofs.rows.input_rows.Goals as goal
 
 pub returns-in_err-row-clause-fault : goal.returns-in_err-row-clause-fault
 returns-in_err-row-clause-fault c =
-    let found : IfErr c.from_residual.result (λ fault. IsFirstOfPart c.args.tables.now c.loop-bus.bus fault) = search rules in
-    if_err-map c.from_residual.result (λ fault. IsFirstOfPart c.args.tables.now c.loop-bus.bus fault) (λ fault. fault ≢ Memory → IsFirstInTheWay c.args.tables.now fault) (λ fault first other. first-of_all c.args.tables.now c.loop-bus.bus fault
+    let found : IfErr c.from_residual.result (λ fault. IsFirstOfJob c.args.tables.now c.loop-bus.bus fault) = search rules in
+    if_err-map c.from_residual.result (λ fault. IsFirstOfJob c.args.tables.now c.loop-bus.bus fault) (λ fault. fault ≢ Memory → IsFirstInTheWay c.args.tables.now fault) (λ fault first other. first-of_all c.args.tables.now c.loop-bus.bus fault
     (inputs-clear c.args.tables.now c.loop-bus.bus (map named_input c.loop-bus.rows.items) (omega (arith, c.loop-bus.auto.bus-end, c.bus_count-bus-end.ensures)) c.loop-bus.invariant) first) found
 
 pub loop-bus-preserved : goal.loop-bus-preserved

@@ -16,4 +16,4 @@ loop-bus-preserved c =
     let row = get_or buses at none in
     let P : List (List Alike) → Type 0 = λ all. AreBounds all (take (at + 1) buses) streams in
     let Q : List Stream → Type 0 = λ own. AreBoundsOf c.in_ok-of.field-0 own in
-    subst P (sym c.in_ok-push.ensures.items) (bounds_more c.loop-bus.rows.items c.in_ok-of.field-0 buses streams at row c.loop-bus-test.true (same_read buses at none c.loop-bus-test.true) c.loop-bus.invariant (subst Q c.part-own.ensures c.in_ok-of.ensures))
+    subst P (sym c.in_ok-push.ensures.items) (bounds_more c.loop-bus.rows.items c.in_ok-of.field-0 buses streams at row c.loop-bus-test.true (same_read buses at none c.loop-bus-test.true) c.loop-bus.invariant (subst Q c.piece-own.ensures c.in_ok-of.ensures))

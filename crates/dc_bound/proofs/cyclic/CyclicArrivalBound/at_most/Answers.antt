@@ -9,10 +9,10 @@ overflow_add-result c =
     let x = c.args.self.now in
     let rounds = cap_rounds c.args.self.now.frame c.args.self.now.offsets.now c.args.self.now.framed (c.args.d / c.args.self.now.frame) (c.args.d % c.args.self.now.frame) in
     let whole : c.args.d / c.args.self.now.frame * c.args.self.now.frame + c.args.d % c.args.self.now.frame ≡ c.args.d = div-add-mod' c.args.d c.args.self.now.frame in
-    omega (arith, rounds, cyclic_le c.args.self.now.frame c.args.self.now.offsets.now c.args.self.now.framed (c.args.d / c.args.self.now.frame * c.args.self.now.frame + c.args.d % c.args.self.now.frame), c.most_in_part.ensures)
+    omega (arith, rounds, cyclic_le c.args.self.now.frame c.args.self.now.offsets.now c.args.self.now.framed (c.args.d / c.args.self.now.frame * c.args.self.now.frame + c.args.d % c.args.self.now.frame), c.most_in_rest.ensures)
 
 pub returns : goal.returns
 returns c =
     let rounds = cap_rounds c.args.self.now.frame c.args.self.now.offsets.now c.args.self.now.framed (c.args.d / c.args.self.now.frame) (c.args.d % c.args.self.now.frame) in
     let whole : c.args.d / c.args.self.now.frame * c.args.self.now.frame + c.args.d % c.args.self.now.frame ≡ c.args.d = div-add-mod' c.args.d c.args.self.now.frame in
-    omega (arith, rounds, ap (λ n. cyclic_cap c.args.self.now.frame c.args.self.now.offsets.now n) whole, c.most_in_part.ensures)
+    omega (arith, rounds, ap (λ n. cyclic_cap c.args.self.now.frame c.args.self.now.offsets.now n) whole, c.most_in_rest.ensures)

@@ -4,8 +4,8 @@ use Rattle.std.proofs.lemmas.List.{get_or_read, length-set}
 use Rattle.dc_event.specs.declared.event.Event.TheVariants.{Route}
 use Rattle.dc_queue.specs.QueueData.{QueueData}
 use Rattle.dc_route.specs.Routing.{queue_at, rest_of}
-use Rattle.dc_core.specs.Parts.{BusData, bus_at, no_router}
-use Rattle.dc_core.specs.declared.parts.RouterState.{RouterState}
+use Rattle.dc_core.specs.States.{BusData, bus_at, no_router}
+use Rattle.dc_core.specs.declared.states.RouterState.{RouterState}
 use Rattle.dc_core.proofs.Standing.{may-follow, changes_queue}
 use Rattle.dc_core.proofs.Routing.{Hands, visit_from, route-spent, standing-route, words_routed, visit_reply-is, written, routed-length, numbers-step}
 use Rattle.dc_core.proofs.Paces.{paces-other}

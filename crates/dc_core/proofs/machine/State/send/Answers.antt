@@ -9,10 +9,10 @@ use Rattle.dc_event.specs.declared.event.Reply.TheVariants.{Sent}
 use Rattle.dc_tables.specs.TableRows.{output_row}
 use Rattle.dc_event.specs.Outputs.{entry_label}
 use Rattle.dc_route.specs.Choosing.{chosen_now}
-use Rattle.dc_core.specs.Parts.{bus_at, no_output}
+use Rattle.dc_core.specs.States.{bus_at, no_output}
 use Rattle.dc_transmit.specs.Schedule.{ScheduleData, label_at, due_count}
 use Rattle.dc_core.specs.Lacking.{too_soon}
-use Rattle.dc_core.specs.declared.parts.OutputState.{OutputState}
+use Rattle.dc_core.specs.declared.states.OutputState.{OutputState}
 use Rattle.dc_core.proofs.Standing.{may-follow}
 use Rattle.dc_core.proofs.Paces.{paces-other}
 use Rattle.dc_core.proofs.Sending.{send-soon, send-spent, standing-send, idle_reply, sent_reply, chosen_is}

@@ -2,7 +2,7 @@ use Rattle.std.proofs.Common.{Some, ◌&&◌, false, ap, ◌≡◌, ◌<◌, ◌
 use Rattle.std.proofs.lemmas.List.{get_or_read}
 use Rattle.dc_word.specs.Word.{is_odd}
 use Rattle.dc_tables.specs.Declares.{stream_of}
-use Rattle.dc_event.specs.Offers.{refuses}
+use Rattle.dc_event.specs.Offers.{refuses_early}
 use Rattle.dc_event.specs.Buses.{moves, room}
 use Rattle.dc_oracle.specs.BusData.{BusData}
 use Rattle.dc_oracle.specs.BusLog.{IsLog, Received, no_log}
@@ -20,8 +20,8 @@ pub returns-clause-reply : goal.returns-clause-reply
 returns-clause-reply c = λ run h l unrefused.
     let odd : is_odd c.args.word ≡ true = sym c.is_odd.ensures.test ∙ c.if-not-is_odd.false in
     let some : stream_of c.args.tables.now c.args.bus c.args.word ≡ Some c.in-Some.stream = sym c.in-Some.ensures.stream in
-    let free : refuses c.args.tables.now c.args.bus run (Some c.in-Some.stream) ≡ false =
-    ap (refuses c.args.tables.now c.args.bus run) (sym some) ∙ ap (λ v. v && refuses c.args.tables.now c.args.bus run (stream_of c.args.tables.now c.args.bus c.args.word)) (sym odd) ∙ unrefused in
+    let free : refuses_early c.args.tables.now c.args.bus run (Some c.in-Some.stream) ≡ false =
+    ap (refuses_early c.args.tables.now c.args.bus run) (sym some) ∙ ap (λ v. v && refuses_early c.args.tables.now c.args.bus run (stream_of c.args.tables.now c.args.bus c.args.word)) (sym odd) ∙ unrefused in
     let there : c.args.bus < length c.args.self.now.buses.items = omega (arith, c.if-bus-len.false, c.len.ensures) in
     let read = get_or_read c.args.self.now.buses.items c.args.bus c.index_mut.result.now there c.index_mut.ensures.value no_log in
     let P : BusData → Type 0 = λ d. IsLog (room c.args.tables.now c.args.bus) d (moves c.args.tables.now c.args.bus run) in

@@ -3,7 +3,7 @@
 ghost use Rattle.std.specs.Prelude.{◌≡◌, ℕ, ◌+◌, ◌<◌, ◌^◌, length, Bool, true, cond, nat_lt, Option, Some, None, slice_get, slice_set};
 ghost use Rattle.dc_queue.specs.WindowData.{WindowData, added};
 ghost use Rattle.dc_route.specs.Routing.{next_bus, queue_at, rest_of, routed};
-ghost use Rattle.dc_core.specs.Parts.{Receives, visit_reply_of, router_stepped, router_turned, output_turned, output_sent};
+ghost use Rattle.dc_core.specs.States.{Receives, visit_reply_of, router_stepped, router_turned, output_turned, output_sent};
 
 use dc_event::Reply;
 use dc_queue::queue::WordQueue;

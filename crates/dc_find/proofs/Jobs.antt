@@ -1,11 +1,11 @@
--- What stands in the way, part by part.
+-- What stands in the way, job by job.
 use Rattle.std.proofs.Common.{◌≡◌, ℕ, ◌+◌, ◌<◌, length, refl, sym, subst, ◌∙◌, arith, inl, inr}
 use Rattle.dc_cert.specs.Bounds.{InputBound, OutputBound, CertificateRows, numbers_of}
 use Rattle.dc_check.specs.Accepts.{AcceptsInput, AcceptsOutput, AcceptsLabel}
 use Rattle.dc_check.specs.declared.fault.Condition.{Condition}
 use Rattle.dc_check.specs.declared.fault.Condition.TheVariants.{NamesDiffer, WindowOutOfRange, WindowDoesNotClose, BacklogTooSmall, QueueTooShort, DelayTooSmall, DelayOutOfRange, SentTooSoon, SentTooLate, AgeTooSmall, AgeOverLimit, SourceGoesStale}
 use Rattle.dc_find.specs.Least.{NoneAccepted}
-use Rattle.dc_find.specs.Ways.{AcceptsQueues, KeepsRule, StandsInTheWay, part_of, NothingAt, IsClearBelow, IsFirstOfPart, IsFirstInTheWay}
+use Rattle.dc_find.specs.Ways.{AcceptsQueues, KeepsRule, StandsInTheWay, job_of, NothingAt, IsClearBelow, IsFirstOfJob, IsFirstInTheWay}
 use Rattle.dc_find.specs.declared.fault.FindFault.{FindFault}
 use Rattle.dc_find.specs.declared.fault.FindFault.TheVariants.{WindowNeverCloses, QueueTooShort, LabelRule, Memory}
 use Rattle.dc_find.specs.declared.fault.Queue.TheVariants.{Input, Output}
@@ -55,13 +55,13 @@ module _ (t : TableRows) where
       stands.1 c queues (keeps-each t y c (subst (λ k. AcceptsLabel t k c) same ok) condition)
   label-clear x there c queues ok Memory here stands = stands
 
-  -- the first of its part, where nothing stands in the way before it
-  pub first-of_all : (part : ℕ) (fault : FindFault) → IsClearBelow t part → IsFirstOfPart t part fault → IsFirstInTheWay t fault
-  first-of_all part fault clear f = record {
+  -- the first of its job, where nothing stands in the way before it
+  pub first-of_all : (job : ℕ) (fault : FindFault) → IsClearBelow t job → IsFirstOfJob t job fault → IsFirstInTheWay t fault
+  first-of_all job fault clear f = record {
     stands = f.stands;
     first = λ other before.
         elim before [
-          | inl l ↦ clear (part_of t other) (omega (arith, l, f.here)) other refl
+          | inl l ↦ clear (job_of t other) (omega (arith, l, f.here)) other refl
           | inr e ↦ f.first other (e.0 ∙ f.here) e.1
         ];
   }

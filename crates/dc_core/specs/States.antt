@@ -6,8 +6,8 @@ use Rattle.dc_route.specs.Routing.{queue_at, moved_on}
 use Rattle.dc_tables.specs.TableRows.{TableRows}
 use Rattle.dc_event.specs.declared.event.Reply.{Reply}
 use Rattle.dc_event.specs.declared.event.Reply.TheVariants.{Queued, Overrun, Latched, Took, Empty}
-use Rattle.dc_core.specs.declared.parts.RouterState.{RouterState}
-use Rattle.dc_core.specs.declared.parts.OutputState.{OutputState}
+use Rattle.dc_core.specs.declared.states.RouterState.{RouterState}
+use Rattle.dc_core.specs.declared.states.OutputState.{OutputState}
 
 -- a bus: its queue, and whether it has latched
 pub record BusData : Type 0 where

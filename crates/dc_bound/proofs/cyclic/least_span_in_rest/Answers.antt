@@ -2,7 +2,7 @@ use Rattle.std.proofs.Common.{◌≡◌, ◌+◌, ◌-◌, ℕ, min, arith, subs
 use Rattle.dc_bound.specs.Frame.{due}
 use Rattle.dc_bound.specs.lemmas.Spans.{span_first, span_next, span_small, due-grows}
 use Rattle.dc_bound.specs.Frame.{IsLeastSpan}
-use Rattle.dc_bound.proofs.cyclic.least_span_in_part.Goals as goal
+use Rattle.dc_bound.proofs.cyclic.least_span_in_rest.Goals as goal
 
 pub loop-i-init : goal.loop-i-init
 loop-i-init c =
@@ -22,4 +22,4 @@ loop-i-preserved c =
     subst P e (span_next c.args.frame c.args.offsets.now c.requires.framed c.args.k c.loop-i.i c.loop-i.least c.loop-i.invariant)
 
 pub returns-clause-small : goal.returns-clause-small
-returns-clause-small c = span_small c.args.frame c.args.offsets.now c.requires.framed c.args.k c.loop-i.i c.loop-i.least c.loop-i.auto.i c.requires.part c.loop-i.invariant
+returns-clause-small c = span_small c.args.frame c.args.offsets.now c.requires.framed c.args.k c.loop-i.i c.loop-i.least c.loop-i.auto.i c.requires.rest c.loop-i.invariant

@@ -1,5 +1,5 @@
 use Rattle.dc_bound.specs.Frame.{IsLeastSpan}
-use Rattle.dc_bound.proofs.cyclic.least_span_in_part.Given as goal
+use Rattle.dc_bound.proofs.cyclic.least_span_in_rest.Given as goal
 
 abbrev pub invariant-loop-i : goal.invariant-loop-i
 invariant-loop-i l = IsLeastSpan l.frame l.offsets l.k l.i l.least

@@ -1,7 +1,7 @@
 use Rattle.std.proofs.Common.{◌≡◌, ◌*◌, ℕ, length, arith, subst}
 use Rattle.dc_bound.specs.lemmas.Spans.{IsBest, best_none, best_more, best_same, best_all}
-use Rattle.dc_bound.proofs.cyclic.most_in_part.Goals as goal
-use Rattle.dc_bound.proofs.cyclic.most_in_part.Goals.{then-due_of-ticks, else-due_of-ticks}
+use Rattle.dc_bound.proofs.cyclic.most_in_rest.Goals as goal
+use Rattle.dc_bound.proofs.cyclic.most_in_rest.Goals.{then-due_of-ticks, else-due_of-ticks}
 
 pub loop-j-init : goal.loop-j-init
 loop-j-init c = best_none c.args.frame c.args.offsets.now c.requires.framed c.args.ticks

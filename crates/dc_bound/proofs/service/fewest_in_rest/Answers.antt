@@ -1,7 +1,7 @@
 use Rattle.std.proofs.Common.{◌≡◌, ◌+◌, ◌-◌, length, arith, ◌∙◌}
 use Rattle.dc_bound.specs.Rounds.{among, is_at}
 use Rattle.dc_bound.specs.lemmas.Cycle.{slide_step, least_step, among_small, is_at_small}
-use Rattle.dc_bound.proofs.service.fewest_in_part.Goals as goal
+use Rattle.dc_bound.proofs.service.fewest_in_rest.Goals as goal
 
 pub loop-n-init : goal.loop-n-init
 loop-n-init c = (omega (arith, c.visits_in_front-here.ensures.small), c.visits_in_front-here.ensures.value, c.visits_in_front-here.ensures.value)
