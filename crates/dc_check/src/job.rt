@@ -5,9 +5,10 @@ ghost use Rattle.dc_cert.specs.Bounds.{certificate_rows};
 ghost use Rattle.dc_cert.specs.NamedRows.{named_rows};
 ghost use Rattle.dc_check.specs.Jobs.{IsJob};
 ghost use Rattle.dc_check.specs.Placed.{IsPlaced};
-ghost use Rattle.dc_check.specs.Verdict.{IsSized, job_count, job_ranges, job_verdict, job_backlog_failure, job_delay_failure, first_job_fault, verdict_of};
+ghost use Rattle.dc_check.specs.Verdict.{job_count, job_ranges, job_verdict, job_backlog_failure, job_delay_failure, first_job_fault, verdict_of};
 
 use crate::fault::CheckFault;
+use crate::fitted::Fitted;
 use crate::labels::label_fault;
 use crate::names::misnamed;
 use crate::queues::{input_fault, input_job, output_fault, output_job};
@@ -45,77 +46,71 @@ impl Job {
 }
 
 /// The first condition that fails in a job, of C02 to C12; `None` where none does.
-pub fn job_fault(tables: &Tables, certificate: &Certificate, job: usize) -> Option<CheckFault>
-    requires sized { IsSized tables.now (certificate_rows certificate.now) }
-    requires there { job < job_count tables.now }
-    ensures { result ≡ job_verdict tables.now (certificate_rows certificate.now) job }
+pub fn job_fault(fitted: &Fitted<'_>, job: usize) -> Option<CheckFault>
+    requires there { job < job_count fitted.now.tables.now }
+    ensures { result ≡ job_verdict fitted.now.tables.now (certificate_rows fitted.now.certificate.now) job }
 {
-    match Job::of(tables, job) {
+    match Job::of(fitted.tables, job) {
         Job::Input(bus) => input_job(
-            tables,
-            certificate,
+            fitted,
             bus,
-            &tables.bus_bound(bus),
-            &tables.bus_service(bus),
+            &fitted.tables.bus_bound(bus),
+            &fitted.tables.bus_service(bus),
         ),
         Job::Output(output) => output_job(
-            tables,
-            certificate,
+            fitted,
             output,
-            &tables.output_bound(output),
-            &tables.output_service(output),
+            &fitted.tables.output_bound(output),
+            &fitted.tables.output_service(output),
         ),
-        Job::Label(label) => label_fault(tables, certificate, label),
+        Job::Label(label) => label_fault(fitted, label),
     }
 }
 
 /// The same, given the job's first failing windows: that of its backlog, where it is an input, and that of its delay,
 /// where it is no label. C02 and C07 do not apply to it.
 pub fn job_fault_given(
-    tables: &Tables,
-    certificate: &Certificate,
+    fitted: &Fitted<'_>,
     job: usize,
     overfull: Option<u32>,
     overdue: Option<u32>,
 ) -> Option<CheckFault>
-    requires sized { IsSized tables.now (certificate_rows certificate.now) }
-    requires there { job < job_count tables.now }
-    requires ranges { job_ranges tables.now (certificate_rows certificate.now) job ≡ None }
-    requires overfull { overfull ≡ job_backlog_failure tables.now (certificate_rows certificate.now) job }
-    requires overdue { overdue ≡ job_delay_failure tables.now (certificate_rows certificate.now) job }
-    ensures { result ≡ job_verdict tables.now (certificate_rows certificate.now) job }
+    requires there { job < job_count fitted.now.tables.now }
+    requires ranges { job_ranges fitted.now.tables.now (certificate_rows fitted.now.certificate.now) job ≡ None }
+    requires overfull { overfull ≡ job_backlog_failure fitted.now.tables.now (certificate_rows fitted.now.certificate.now) job }
+    requires overdue { overdue ≡ job_delay_failure fitted.now.tables.now (certificate_rows fitted.now.certificate.now) job }
+    ensures { result ≡ job_verdict fitted.now.tables.now (certificate_rows fitted.now.certificate.now) job }
 {
-    match Job::of(tables, job) {
+    match Job::of(fitted.tables, job) {
         Job::Input(bus) => input_fault(
-            tables,
-            certificate,
+            fitted,
             bus,
-            &tables.bus_bound(bus),
-            &tables.bus_service(bus),
+            &fitted.tables.bus_bound(bus),
+            &fitted.tables.bus_service(bus),
             overfull,
             overdue,
         ),
         Job::Output(output) => output_fault(
-            tables,
-            certificate,
+            fitted,
             output,
-            &tables.output_bound(output),
-            &tables.output_service(output),
+            &fitted.tables.output_bound(output),
+            &fitted.tables.output_service(output),
             overdue,
         ),
-        Job::Label(label) => label_fault(tables, certificate, label),
+        Job::Label(label) => label_fault(fitted, label),
     }
 }
 
 /// The first fault of all jobs.
-pub(crate) fn jobs_fault(tables: &Tables, certificate: &Certificate) -> Option<CheckFault>
-    requires { IsSized tables.now (certificate_rows certificate.now) }
-    ensures { result ≡ first_job_fault (job_verdict tables.now (certificate_rows certificate.now)) (job_count tables.now) }
+pub(crate) fn jobs_fault(fitted: &Fitted<'_>) -> Option<CheckFault>
+    ensures { result ≡ first_job_fault (job_verdict fitted.now.tables.now (certificate_rows fitted.now.certificate.now)) (job_count fitted.now.tables.now) }
 {
-    tables.valid();
-    let jobs = tables.bus_count() + tables.output_count() + tables.label_count();
+    fitted.tables.valid();
+    let jobs = fitted.tables.bus_count()
+        + fitted.tables.output_count()
+        + fitted.tables.label_count();
     for job in 0..jobs {
-        let fault = job_fault(tables, certificate, job);
+        let fault = job_fault(fitted, job);
         if fault.is_some() {
             return fault;
         }
@@ -131,7 +126,11 @@ pub fn verdict(tables: &Tables, certificate: &Certificate) -> Result<(), CheckFa
     if let Some(fault) = misnamed(tables, certificate) {
         return Err(fault);
     }
-    match jobs_fault(tables, certificate) {
+    let fitted = Fitted {
+        tables,
+        certificate,
+    };
+    match jobs_fault(&fitted) {
         None => Ok(()),
         Some(fault) => Err(fault),
     }

@@ -4,47 +4,42 @@ ghost use Rattle.std.specs.Prelude.{◌≡◌, ℕ, ◌+◌, ◌<◌, ◌≤◌,
 ghost use Rattle.std.specs.List.{list_all};
 ghost use Rattle.dc_cert.specs.Bounds.{certificate_rows, input_bound, output_bound};
 ghost use Rattle.dc_check.specs.Accepts.{gaps_of, source_delay};
-ghost use Rattle.dc_check.specs.Verdict.{IsSized, first_of, label_rules};
+ghost use Rattle.dc_check.specs.Verdict.{first_of, label_rules};
 ghost use Rattle.dc_tables.specs.TableRows.{stream_row, label_row};
 
 use crate::fault::{CertificateList, CheckFault, Condition};
+use crate::fitted::Fitted;
 use crate::rules::{fault, fault_unless, first_fault};
-use dc_cert::Certificate;
 use dc_tables::Tables;
 use dc_transmit::Schedule;
 
 /// The first fault of a label.
-pub(crate) fn label_fault(
-    tables: &Tables,
-    certificate: &Certificate,
-    label: usize,
-) -> Option<CheckFault>
-    requires sized { IsSized tables.now (certificate_rows certificate.now) }
-    requires there { label < length tables.now.labels }
-    ensures { result ≡ first_of (label_rules tables.now label (certificate_rows certificate.now)) }
+pub(crate) fn label_fault(fitted: &Fitted<'_>, label: usize) -> Option<CheckFault>
+    requires there { label < length fitted.now.tables.now.labels }
+    ensures { result ≡ first_of (label_rules fitted.now.tables.now label (certificate_rows fitted.now.certificate.now)) }
 {
-    tables.valid();
-    let delay = certificate.outputs[tables.label(label).output].delay;
-    let age = certificate.labels[label].age;
+    fitted.tables.valid();
+    let delay = fitted.certificate.outputs[fitted.tables.label(label).output].delay;
+    let age = fitted.certificate.labels[label].age;
     first_fault(&[
         fault_unless(
-            are_not_soon(tables, label, delay),
+            are_not_soon(fitted.tables, label, delay),
             fault(CertificateList::Labels, label, Condition::SentTooSoon),
         ),
         fault_unless(
-            are_not_late(tables, label, delay),
+            are_not_late(fitted.tables, label, delay),
             fault(CertificateList::Labels, label, Condition::SentTooLate),
         ),
         fault_unless(
-            are_within(tables, certificate, label, age),
+            are_within(fitted, label, age),
             fault(CertificateList::Labels, label, Condition::AgeTooSmall),
         ),
         fault_unless(
-            age <= tables.label(label).age_limit,
+            age <= fitted.tables.label(label).age_limit,
             fault(CertificateList::Labels, label, Condition::AgeOverLimit),
         ),
         fault_unless(
-            stay_fresh(tables, certificate, label),
+            stay_fresh(fitted, label),
             fault(CertificateList::Labels, label, Condition::SourceGoesStale),
         ),
     ])
@@ -75,16 +70,15 @@ fn are_not_late(tables: &Tables, label: usize, delay: u32) -> bool
 }
 
 /// Whether the age is long enough for the oldest word that the label still copies, from whichever source.
-fn are_within(tables: &Tables, certificate: &Certificate, label: usize, age: u32) -> bool
-    requires sized { IsSized tables.now (certificate_rows certificate.now) }
-    requires there { label < length tables.now.labels }
-    ensures { result ≡ list_all (λ s. nat_le ((label_row tables.now label).stale + source_delay tables.now (certificate_rows certificate.now) s) age) (label_row tables.now label).sources }
+fn are_within(fitted: &Fitted<'_>, label: usize, age: u32) -> bool
+    requires there { label < length fitted.now.tables.now.labels }
+    ensures { result ≡ list_all (λ s. nat_le ((label_row fitted.now.tables.now label).stale + source_delay fitted.now.tables.now (certificate_rows fitted.now.certificate.now) s) age) (label_row fitted.now.tables.now label).sources }
 {
-    tables.valid();
-    let row = tables.label(label);
+    fitted.tables.valid();
+    let row = fitted.tables.label(label);
     let sources = row.sources.as_slice();
     for stream in sources {
-        let delay = delay_of(tables, certificate, *stream);
+        let delay = delay_of(fitted, *stream);
         if u64::from(row.stale) + u64::from(delay) > u64::from(age) {
             return false;
         }
@@ -93,17 +87,16 @@ fn are_within(tables: &Tables, certificate: &Certificate, label: usize, age: u32
 }
 
 /// Whether the label's stale limit is long enough for each of its sources that keeps sending.
-fn stay_fresh(tables: &Tables, certificate: &Certificate, label: usize) -> bool
-    requires sized { IsSized tables.now (certificate_rows certificate.now) }
-    requires there { label < length tables.now.labels }
-    ensures { result ≡ list_all (λ s. nat_le (source_delay tables.now (certificate_rows certificate.now) s + (stream_row tables.now s).maximum) (label_row tables.now label).stale) (label_row tables.now label).sources }
+fn stay_fresh(fitted: &Fitted<'_>, label: usize) -> bool
+    requires there { label < length fitted.now.tables.now.labels }
+    ensures { result ≡ list_all (λ s. nat_le (source_delay fitted.now.tables.now (certificate_rows fitted.now.certificate.now) s + (stream_row fitted.now.tables.now s).maximum) (label_row fitted.now.tables.now label).stale) (label_row fitted.now.tables.now label).sources }
 {
-    tables.valid();
-    let row = tables.label(label);
+    fitted.tables.valid();
+    let row = fitted.tables.label(label);
     let sources = row.sources.as_slice();
     for stream in sources {
-        let delay = delay_of(tables, certificate, *stream);
-        let maximum = tables.stream(*stream).maximum;
+        let delay = delay_of(fitted, *stream);
+        let maximum = fitted.tables.stream(*stream).maximum;
         if u64::from(delay) + u64::from(maximum) > u64::from(row.stale) {
             return false;
         }
@@ -112,10 +105,9 @@ fn stay_fresh(tables: &Tables, certificate: &Certificate, label: usize) -> bool
 }
 
 /// The delay that the certificate claims of a stream's bus.
-fn delay_of(tables: &Tables, certificate: &Certificate, stream: usize) -> u32
-    requires sized { IsSized tables.now (certificate_rows certificate.now) }
-    requires there { stream < length tables.now.streams }
-    ensures { result ≡ source_delay tables.now (certificate_rows certificate.now) stream }
+fn delay_of(fitted: &Fitted<'_>, stream: usize) -> u32
+    requires there { stream < length fitted.now.tables.now.streams }
+    ensures { result ≡ source_delay fitted.now.tables.now (certificate_rows fitted.now.certificate.now) stream }
 {
-    certificate.inputs[tables.bus_of(stream)].delay
+    fitted.certificate.inputs[fitted.tables.bus_of(stream)].delay
 }

@@ -3,6 +3,7 @@
 
 mod certified;
 mod fault;
+mod fitted;
 mod job;
 mod judge;
 mod labels;
@@ -13,6 +14,7 @@ mod rules;
 
 pub use certified::Certified;
 pub use fault::{CertificateList, CheckFault, Condition};
+pub use fitted::Fitted;
 pub use job::{Job, job_fault, job_fault_given, verdict};
 pub use judge::{certify, check};
 pub use names::misnamed;

@@ -2,7 +2,7 @@
 
 ghost use Rattle.std.specs.Prelude.{◌≡◌, ℕ, ◌+◌, ◌<◌, ◌≤◌, true, length};
 ghost use Rattle.dc_cert.specs.Bounds.{certificate_rows, input_bound, output_bound};
-ghost use Rattle.dc_check.specs.Verdict.{IsSized, job_count, job_verdict};
+ghost use Rattle.dc_check.specs.Verdict.{job_count, job_verdict};
 ghost use Rattle.std.specs.Thread.{IsSync};
 ghost use Rattle.dc_tables.specs.TableRows.{bus_cap, bus_floor, output_cap, output_floor};
 ghost use Rattle.dc_busy.specs.declared.limits.TheConstants.{LONGEST_WINDOW};
@@ -13,55 +13,33 @@ use crate::long::first_failures;
 use dc_bound::{ArrivalBound, ServiceBound};
 use dc_busy::LONGEST_WINDOW;
 use dc_cert::Certificate;
-use dc_check::{CheckFault, Job, job_fault, job_fault_given};
-use dc_tables::Tables;
+use dc_check::{CheckFault, Fitted, Job, job_fault, job_fault_given};
 use std::marker::Sync;
 use std::thread::Threads;
 
-/// A certificate for tables, whose names are those of the tables. Its long windows may be searched in pieces.
+/// The verdict on a certificate for tables, job by job. Its long windows may be searched in pieces.
 #[derive(Drop)]
 pub(crate) struct Case<'a, R> {
-    rt: &'a R,
-    in_pieces: bool,
-    tables: &'a Tables,
-    certificate: &'a Certificate,
-    ghost sized: { IsSized tables.now (certificate_rows certificate.now) },
-}
-
-impl<'a, R> Case<'a, R> {
-    pub(crate) fn new(
-        rt: &'a R,
-        in_pieces: bool,
-        tables: &'a Tables,
-        certificate: &'a Certificate,
-    ) -> Case<'a, R>
-        requires { IsSized tables.now (certificate_rows certificate.now) }
-        ensures tables { result.tables.now ≡ tables.now }
-        ensures certificate { result.certificate.now ≡ certificate.now }
-    {
-        Case {
-            rt,
-            in_pieces,
-            tables,
-            certificate,
-        }
-    }
+    pub rt: &'a R,
+    pub in_pieces: bool,
+    pub fitted: &'a Fitted<'a>,
 }
 
 impl<'a, R: Threads + Sync> Jobs for Case<'a, R> {
     ghost may_ask = { λ x. IsSync R.row };
 
-    ghost jobs = { λ x. job_count x.tables.now };
+    ghost jobs = { λ x. job_count x.fitted.now.tables.now };
 
-    ghost verdict = { λ x. job_verdict x.tables.now (certificate_rows x.certificate.now) };
+    ghost verdict = { λ x. job_verdict x.fitted.now.tables.now (certificate_rows x.fitted.now.certificate.now) };
 
     fn len(&self) -> usize {
-        self.tables.valid();
-        self.tables.bus_count() + self.tables.output_count() + self.tables.label_count()
+        let tables = self.fitted.tables;
+        tables.valid();
+        tables.bus_count() + tables.output_count() + tables.label_count()
     }
 
     fn fault(&self, job: usize) -> Option<CheckFault> {
-        case_fault(self.rt, self.in_pieces, self.tables, self.certificate, job)
+        case_fault(self, job)
     }
 }
 
@@ -96,94 +74,73 @@ pub(crate) fn long_count(certificate: &Certificate) -> usize {
 }
 
 /// The first fault of a job, whose long windows several threads may search.
-fn case_fault<R: Threads + Sync>(
-    rt: &R,
-    in_pieces: bool,
-    tables: &Tables,
-    certificate: &Certificate,
-    job: usize,
-) -> Option<CheckFault>
-    requires sized { IsSized tables.now (certificate_rows certificate.now) }
-    requires there { job < job_count tables.now }
-    ensures { result ≡ job_verdict tables.now (certificate_rows certificate.now) job }
+fn case_fault<R: Threads + Sync>(case: &Case<'_, R>, job: usize) -> Option<CheckFault>
+    requires there { job < job_count case.now.fitted.now.tables.now }
+    ensures { result ≡ job_verdict case.now.fitted.now.tables.now (certificate_rows case.now.fitted.now.certificate.now) job }
 {
-    match Job::of(tables, job) {
+    match Job::of(case.fitted.tables, job) {
         Job::Input(bus) => input_fault(
-            rt,
-            in_pieces,
-            tables,
-            certificate,
+            case,
             bus,
-            &tables.bus_bound(bus),
-            &tables.bus_service(bus),
+            &case.fitted.tables.bus_bound(bus),
+            &case.fitted.tables.bus_service(bus),
         ),
         Job::Output(output) => output_fault(
-            rt,
-            in_pieces,
-            tables,
-            certificate,
+            case,
             output,
-            &tables.output_bound(output),
-            &tables.output_service(output),
+            &case.fitted.tables.output_bound(output),
+            &case.fitted.tables.output_service(output),
         ),
-        Job::Label(_) => job_fault(tables, certificate, job),
+        Job::Label(_) => job_fault(case.fitted, job),
     }
 }
 
 /// The first fault of an input, given the bounds of its bus.
 fn input_fault<A: ArrivalBound + Sync, S: ServiceBound + Sync, R: Threads + Sync>(
-    rt: &R,
-    in_pieces: bool,
-    tables: &Tables,
-    certificate: &Certificate,
+    case: &Case<'_, R>,
     bus: usize,
     arrivals: &A,
     service: &S,
 ) -> Option<CheckFault>
-    requires sized { IsSized tables.now (certificate_rows certificate.now) }
-    requires there { bus < length tables.now.buses }
-    requires arrivals { (d : ℕ) → A.cap arrivals.now d ≡ bus_cap tables.now bus d }
-    requires service { (d : ℕ) → S.floor service.now d ≡ bus_floor tables.now bus d }
-    ensures { result ≡ job_verdict tables.now (certificate_rows certificate.now) bus }
+    requires there { bus < length case.now.fitted.now.tables.now.buses }
+    requires arrivals { (d : ℕ) → A.cap arrivals.now d ≡ bus_cap case.now.fitted.now.tables.now bus d }
+    requires service { (d : ℕ) → S.floor service.now d ≡ bus_floor case.now.fitted.now.tables.now bus d }
+    ensures { result ≡ job_verdict case.now.fitted.now.tables.now (certificate_rows case.now.fitted.now.certificate.now) bus }
 {
-    tables.valid();
-    let row = &certificate.inputs[bus];
-    if !is_for_pieces(in_pieces, row.window, row.delay) {
-        return job_fault(tables, certificate, bus);
+    case.fitted.tables.valid();
+    let row = &case.fitted.certificate.inputs[bus];
+    if !is_for_pieces(case.in_pieces, row.window, row.delay) {
+        return job_fault(case.fitted, bus);
     }
     let (overfull, overdue) = first_failures(
-        rt,
+        case.rt,
         arrivals,
         service,
         row.window,
         u64::from(row.backlog),
         row.delay,
     );
-    job_fault_given(tables, certificate, bus, overfull, overdue)
+    job_fault_given(case.fitted, bus, overfull, overdue)
 }
 
 /// The first fault of an output, given its bounds.
 fn output_fault<A: ArrivalBound + Sync, S: ServiceBound + Sync, R: Threads + Sync>(
-    rt: &R,
-    in_pieces: bool,
-    tables: &Tables,
-    certificate: &Certificate,
+    case: &Case<'_, R>,
     output: usize,
     arrivals: &A,
     service: &S,
 ) -> Option<CheckFault>
-    requires sized { IsSized tables.now (certificate_rows certificate.now) }
-    requires there { output < length tables.now.outputs }
-    requires arrivals { (d : ℕ) → A.cap arrivals.now d ≡ output_cap tables.now output d }
-    requires service { (d : ℕ) → S.floor service.now d ≡ output_floor tables.now output d }
-    ensures { result ≡ job_verdict tables.now (certificate_rows certificate.now) (length tables.now.buses + output) }
+    requires there { output < length case.now.fitted.now.tables.now.outputs }
+    requires arrivals { (d : ℕ) → A.cap arrivals.now d ≡ output_cap case.now.fitted.now.tables.now output d }
+    requires service { (d : ℕ) → S.floor service.now d ≡ output_floor case.now.fitted.now.tables.now output d }
+    ensures { result ≡ job_verdict case.now.fitted.now.tables.now (certificate_rows case.now.fitted.now.certificate.now) (length case.now.fitted.now.tables.now.buses + output) }
 {
-    tables.valid();
-    let job = tables.bus_count() + output;
-    let row = &certificate.outputs[output];
-    if !is_for_pieces(in_pieces, row.window, row.delay) {
-        return job_fault(tables, certificate, job);
+    case.fitted.tables.valid();
+    let job = case.fitted.tables.bus_count() + output;
+    let row = &case.fitted.certificate.outputs[output];
+    if !is_for_pieces(case.in_pieces, row.window, row.delay) {
+        return job_fault(case.fitted, job);
     }
-    let (_, overdue) = first_failures(rt, arrivals, service, row.window, u64::MAX, row.delay);
-    job_fault_given(tables, certificate, job, None, overdue)
+    let (_, overdue) = first_failures(case.rt, arrivals, service, row.window, u64::MAX, row.delay);
+    job_fault_given(case.fitted, job, None, overdue)
 }

@@ -18,7 +18,7 @@ use crate::gate::Gate;
 use crate::pool::first_fault;
 use crate::worker::Halt;
 use dc_cert::Certificate;
-use dc_check::{Certified, certify, misnamed};
+use dc_check::{Certified, Fitted, certify, misnamed};
 use dc_tables::Tables;
 use std::alloc::Global;
 use std::marker::Sync;
@@ -73,7 +73,15 @@ fn verdict_by<G: Gate, R: Threads + Wait + Sync>(
         return Err(ParFault::Refused(fault));
     }
     let in_pieces = long_count(certificate) < workers;
-    let case = Case::new(rt, in_pieces, tables, certificate);
+    let fitted = Fitted {
+        tables,
+        certificate,
+    };
+    let case = Case {
+        rt,
+        in_pieces,
+        fitted: &fitted,
+    };
     match first_fault(rt, alloc, &case, gate, workers) {
         Ok(None) => Ok(()),
         Ok(Some(fault)) => Err(ParFault::Refused(fault)),

@@ -3,7 +3,7 @@
 ghost use Rattle.std.specs.Prelude.{◌≡◌, ◌^◌, ◌≤◌, ◌<◌, length};
 ghost use Rattle.dc_cert.specs.Bounds.{certificate_rows};
 ghost use Rattle.dc_check.specs.Accepts.{source_delay};
-ghost use Rattle.dc_check.specs.Verdict.{IsSized, is_delay};
+ghost use Rattle.dc_check.specs.Verdict.{is_delay};
 ghost use Rattle.dc_margin.specs.Margins.{told, margin_by, greater_of, slowest_source, rarest_source, silence, are_in_range, soon_margin_of, late_margin_of, age_margin_of, age_limit_margin_of, fresh_margin_of, label_margins_of};
 ghost use Rattle.dc_margin.specs.declared.margin.Decider.TheVariants.{Gap, Source};
 ghost use Rattle.dc_tables.specs.TableRows.{label_row};
@@ -11,25 +11,24 @@ ghost use Rattle.dc_transmit.specs.Schedule.{schedule_of, least_label_gap, great
 
 use crate::margin::{Decider, LabelMargins, Margin};
 use crate::queues::{difference, is_short, of_numbers};
-use dc_cert::Certificate;
+use dc_check::Fitted;
 use dc_tables::Tables;
 use dc_transmit::Schedule;
 
 /// The margins of the label of this number.
-pub fn label_margins(tables: &Tables, certificate: &Certificate, label: usize) -> LabelMargins
-    requires sized { IsSized tables.now (certificate_rows certificate.now) }
-    requires there { label < length tables.now.labels }
-    ensures { result ≡ label_margins_of tables.now label (certificate_rows certificate.now) }
+pub fn label_margins(fitted: &Fitted<'_>, label: usize) -> LabelMargins
+    requires there { label < length fitted.now.tables.now.labels }
+    ensures { result ≡ label_margins_of fitted.now.tables.now label (certificate_rows fitted.now.certificate.now) }
 {
-    tables.valid();
-    let delay = certificate.outputs[tables.label(label).output].delay;
-    let age = certificate.labels[label].age;
+    fitted.tables.valid();
+    let delay = fitted.certificate.outputs[fitted.tables.label(label).output].delay;
+    let age = fitted.certificate.labels[label].age;
     LabelMargins {
-        soon: soon_margin(tables, label, delay),
-        late: late_margin(tables, label, delay),
-        age: age_margin(tables, certificate, label, age),
-        age_limit: Some(age_limit_margin(tables.label(label).age_limit, age)),
-        fresh: fresh_margin(tables, certificate, label),
+        soon: soon_margin(fitted.tables, label, delay),
+        late: late_margin(fitted.tables, label, delay),
+        age: age_margin(fitted, label, age),
+        age_limit: Some(age_limit_margin(fitted.tables.label(label).age_limit, age)),
+        fresh: fresh_margin(fitted, label),
     }
 }
 
@@ -93,79 +92,78 @@ fn late_margin(tables: &Tables, label: usize, delay: u32) -> Option<Margin>
 }
 
 /// The margin of C10: the age less that of the oldest word from the slowest source, in ticks.
-fn age_margin(tables: &Tables, certificate: &Certificate, label: usize, age: u32) -> Option<Margin>
-    requires sized { IsSized tables.now (certificate_rows certificate.now) }
-    requires there { label < length tables.now.labels }
-    ensures { result ≡ told (are_in_range tables.now (certificate_rows certificate.now) label) (age_margin_of age (label_row tables.now label).stale (source_delay tables.now (certificate_rows certificate.now) (slowest_source tables.now (certificate_rows certificate.now) label)) (slowest_source tables.now (certificate_rows certificate.now) label)) }
+fn age_margin(fitted: &Fitted<'_>, label: usize, age: u32) -> Option<Margin>
+    requires there { label < length fitted.now.tables.now.labels }
+    ensures { let t = fitted.now.tables.now in
+        let c = certificate_rows fitted.now.certificate.now in
+        result ≡ told (are_in_range t c label) (age_margin_of age (label_row t label).stale (source_delay t c (slowest_source t c label)) (slowest_source t c label)) }
 {
-    let source = slowest(tables, certificate, label);
-    let delay = delay_of(tables, certificate, source);
+    let source = slowest(fitted, label);
+    let delay = delay_of(fitted, source);
     if !is_short(delay) {
         return None;
     }
-    let oldest = u64::from(tables.label(label).stale) + u64::from(delay);
+    let oldest = u64::from(fitted.tables.label(label).stale) + u64::from(delay);
     Some(source_margin(difference(u64::from(age), oldest), source))
 }
 
 /// The margin of C12: the stale limit less the longest time between two words of a source, in ticks.
-fn fresh_margin(tables: &Tables, certificate: &Certificate, label: usize) -> Option<Margin>
-    requires sized { IsSized tables.now (certificate_rows certificate.now) }
-    requires there { label < length tables.now.labels }
-    ensures { result ≡ told (are_in_range tables.now (certificate_rows certificate.now) label) (fresh_margin_of (label_row tables.now label).stale (silence tables.now (certificate_rows certificate.now) (rarest_source tables.now (certificate_rows certificate.now) label)) (rarest_source tables.now (certificate_rows certificate.now) label)) }
+fn fresh_margin(fitted: &Fitted<'_>, label: usize) -> Option<Margin>
+    requires there { label < length fitted.now.tables.now.labels }
+    ensures { let t = fitted.now.tables.now in
+        let c = certificate_rows fitted.now.certificate.now in
+        result ≡ told (are_in_range t c label) (fresh_margin_of (label_row t label).stale (silence t c (rarest_source t c label)) (rarest_source t c label)) }
 {
-    let delay = delay_of(tables, certificate, slowest(tables, certificate, label));
+    let delay = delay_of(fitted, slowest(fitted, label));
     if !is_short(delay) {
         return None;
     }
-    let source = rarest(tables, certificate, label);
-    let silent = silence_of(tables, certificate, source);
-    let stale = u64::from(tables.label(label).stale);
+    let source = rarest(fitted, label);
+    let silent = silence_of(fitted, source);
+    let stale = u64::from(fitted.tables.label(label).stale);
     Some(source_margin(difference(stale, silent), source))
 }
 
 /// The first source of the label whose bus delays it longest.
-fn slowest(tables: &Tables, certificate: &Certificate, label: usize) -> usize
-    requires sized { IsSized tables.now (certificate_rows certificate.now) }
-    requires there { label < length tables.now.labels }
-    ensures source { result ≡ slowest_source tables.now (certificate_rows certificate.now) label }
-    ensures there { result < length tables.now.streams }
+fn slowest(fitted: &Fitted<'_>, label: usize) -> usize
+    requires there { label < length fitted.now.tables.now.labels }
+    ensures source { result ≡ slowest_source fitted.now.tables.now (certificate_rows fitted.now.certificate.now) label }
+    ensures there { result < length fitted.now.tables.now.streams }
 {
-    tables.valid();
-    let row = tables.label(label);
+    fitted.tables.valid();
+    let row = fitted.tables.label(label);
     let sources = row.sources.as_slice();
     let mut best = sources[0];
     for stream in sources {
-        best = slower(tables, certificate, best, *stream);
+        best = slower(fitted, best, *stream);
     }
     best
 }
 
 /// The first source of the label whose words may lie apart longest when they are routed.
-fn rarest(tables: &Tables, certificate: &Certificate, label: usize) -> usize
-    requires sized { IsSized tables.now (certificate_rows certificate.now) }
-    requires there { label < length tables.now.labels }
-    ensures source { result ≡ rarest_source tables.now (certificate_rows certificate.now) label }
-    ensures there { result < length tables.now.streams }
+fn rarest(fitted: &Fitted<'_>, label: usize) -> usize
+    requires there { label < length fitted.now.tables.now.labels }
+    ensures source { result ≡ rarest_source fitted.now.tables.now (certificate_rows fitted.now.certificate.now) label }
+    ensures there { result < length fitted.now.tables.now.streams }
 {
-    tables.valid();
-    let row = tables.label(label);
+    fitted.tables.valid();
+    let row = fitted.tables.label(label);
     let sources = row.sources.as_slice();
     let mut best = sources[0];
     for stream in sources {
-        best = rarer(tables, certificate, best, *stream);
+        best = rarer(fitted, best, *stream);
     }
     best
 }
 
 /// The second of two streams where its bus delays it longer, else the first.
-fn slower(tables: &Tables, certificate: &Certificate, best: usize, stream: usize) -> usize
-    requires sized { IsSized tables.now (certificate_rows certificate.now) }
-    requires best { best < length tables.now.streams }
-    requires stream { stream < length tables.now.streams }
-    ensures { result ≡ greater_of (source_delay tables.now (certificate_rows certificate.now)) best stream }
+fn slower(fitted: &Fitted<'_>, best: usize, stream: usize) -> usize
+    requires best { best < length fitted.now.tables.now.streams }
+    requires stream { stream < length fitted.now.tables.now.streams }
+    ensures { result ≡ greater_of (source_delay fitted.now.tables.now (certificate_rows fitted.now.certificate.now)) best stream }
 {
-    let delay = delay_of(tables, certificate, stream);
-    if delay_of(tables, certificate, best) < delay {
+    let delay = delay_of(fitted, stream);
+    if delay_of(fitted, best) < delay {
         stream
     } else {
         best
@@ -173,14 +171,13 @@ fn slower(tables: &Tables, certificate: &Certificate, best: usize, stream: usize
 }
 
 /// The second of two streams where its words may lie further apart, else the first.
-fn rarer(tables: &Tables, certificate: &Certificate, best: usize, stream: usize) -> usize
-    requires sized { IsSized tables.now (certificate_rows certificate.now) }
-    requires best { best < length tables.now.streams }
-    requires stream { stream < length tables.now.streams }
-    ensures { result ≡ greater_of (silence tables.now (certificate_rows certificate.now)) best stream }
+fn rarer(fitted: &Fitted<'_>, best: usize, stream: usize) -> usize
+    requires best { best < length fitted.now.tables.now.streams }
+    requires stream { stream < length fitted.now.tables.now.streams }
+    ensures { result ≡ greater_of (silence fitted.now.tables.now (certificate_rows fitted.now.certificate.now)) best stream }
 {
-    let silent = silence_of(tables, certificate, stream);
-    if silence_of(tables, certificate, best) < silent {
+    let silent = silence_of(fitted, stream);
+    if silence_of(fitted, best) < silent {
         stream
     } else {
         best
@@ -188,20 +185,18 @@ fn rarer(tables: &Tables, certificate: &Certificate, best: usize, stream: usize)
 }
 
 /// How long the words of a stream may lie apart when they are routed.
-fn silence_of(tables: &Tables, certificate: &Certificate, stream: usize) -> u64
-    requires sized { IsSized tables.now (certificate_rows certificate.now) }
-    requires there { stream < length tables.now.streams }
-    ensures value { result ≡ silence tables.now (certificate_rows certificate.now) stream }
+fn silence_of(fitted: &Fitted<'_>, stream: usize) -> u64
+    requires there { stream < length fitted.now.tables.now.streams }
+    ensures value { result ≡ silence fitted.now.tables.now (certificate_rows fitted.now.certificate.now) stream }
     ensures short { result ≤ 2 ^ 33 }
 {
-    u64::from(delay_of(tables, certificate, stream)) + u64::from(tables.stream(stream).maximum)
+    u64::from(delay_of(fitted, stream)) + u64::from(fitted.tables.stream(stream).maximum)
 }
 
 /// The delay that the certificate claims of a stream's bus.
-fn delay_of(tables: &Tables, certificate: &Certificate, stream: usize) -> u32
-    requires sized { IsSized tables.now (certificate_rows certificate.now) }
-    requires there { stream < length tables.now.streams }
-    ensures { result ≡ source_delay tables.now (certificate_rows certificate.now) stream }
+fn delay_of(fitted: &Fitted<'_>, stream: usize) -> u32
+    requires there { stream < length fitted.now.tables.now.streams }
+    ensures { result ≡ source_delay fitted.now.tables.now (certificate_rows fitted.now.certificate.now) stream }
 {
-    certificate.inputs[tables.bus_of(stream)].delay
+    fitted.certificate.inputs[fitted.tables.bus_of(stream)].delay
 }

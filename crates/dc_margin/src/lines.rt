@@ -11,7 +11,7 @@ use crate::labels::label_margins;
 use crate::margin::{InputMargins, LabelMargins, Margin, OutputMargins};
 use crate::queues::{input_margins, output_margins};
 use dc_cert::Certificate;
-use dc_check::{CertificateList, Condition};
+use dc_check::{CertificateList, Condition, Fitted};
 use dc_tables::Tables;
 use std::alloc::{AllocError, Global};
 
@@ -163,19 +163,23 @@ pub fn job_lines(tables: &Tables, certificate: &Certificate, job: usize) -> Marg
     ensures placed { All (IsLinePlaced tables.now) (lines_in result) }
 {
     tables.valid();
+    let fitted = Fitted {
+        tables,
+        certificate,
+    };
     let buses = tables.bus_count();
     let outputs = tables.output_count();
     if job < buses {
-        let margins = input_margins(tables, certificate, job);
+        let margins = input_margins(&fitted, job);
         return MarginLines::Input(input_lines(job, &margins));
     }
     if job < buses + outputs {
         let output = job - buses;
-        let margins = output_margins(tables, certificate, output);
+        let margins = output_margins(&fitted, output);
         return MarginLines::Output(output_lines(output, &margins));
     }
     let label = job - (buses + outputs);
-    let margins = label_margins(tables, certificate, label);
+    let margins = label_margins(&fitted, label);
     MarginLines::Label(label_lines(label, &margins))
 }
 

@@ -4,7 +4,7 @@ ghost use Rattle.std.specs.Prelude.{◌≡◌, ℕ, ◌^◌, ◌<◌, ◌≤◌,
 ghost use Rattle.dc_bound.specs.declared.limits.TheConstants.{GREATEST_CAP};
 ghost use Rattle.dc_busy.specs.declared.limits.TheConstants.{LONGEST_WINDOW};
 ghost use Rattle.dc_cert.specs.Bounds.{certificate_rows, input_bound, output_bound};
-ghost use Rattle.dc_check.specs.Verdict.{IsSized, is_window, is_delay};
+ghost use Rattle.dc_check.specs.Verdict.{is_window, is_delay};
 ghost use Rattle.dc_margin.specs.Margins.{room, told, margin_by, by_window, window_margin_of, closing_margin_of, backlog_margin_of, queue_margin_of, delay_margin_of, delay_limit_margin_of, input_margins_of, output_margins_of};
 ghost use Rattle.dc_margin.specs.Margins.{input_margins_given, output_margins_given};
 ghost use Rattle.dc_margin.specs.declared.margin.Decider.TheVariants.{Numbers, Window};
@@ -13,8 +13,7 @@ use crate::margin::{Decider, InputMargins, Margin, OutputMargins};
 use crate::peaks::{Peak, peaks_of};
 use dc_bound::{ArrivalBound, ServiceBound};
 use dc_busy::LONGEST_WINDOW;
-use dc_cert::Certificate;
-use dc_tables::Tables;
+use dc_check::Fitted;
 
 /// How much more than `y` `x` is, both at most 2^62.
 pub(crate) fn difference(x: u64, y: u64) -> i64
@@ -185,17 +184,16 @@ fn output_margins_by<A: ArrivalBound, S: ServiceBound>(
 }
 
 /// The margins of the input of this number.
-pub fn input_margins(tables: &Tables, certificate: &Certificate, bus: usize) -> InputMargins
-    requires sized { IsSized tables.now (certificate_rows certificate.now) }
-    requires there { bus < length tables.now.buses }
-    ensures { result ≡ input_margins_of tables.now bus (input_bound (certificate_rows certificate.now) bus) }
+pub fn input_margins(fitted: &Fitted<'_>, bus: usize) -> InputMargins
+    requires there { bus < length fitted.now.tables.now.buses }
+    ensures { result ≡ input_margins_of fitted.now.tables.now bus (input_bound (certificate_rows fitted.now.certificate.now) bus) }
 {
-    tables.valid();
-    let row = &certificate.inputs[bus];
+    fitted.tables.valid();
+    let row = &fitted.certificate.inputs[bus];
     input_margins_by(
-        &tables.bus_bound(bus),
-        &tables.bus_service(bus),
-        tables.queue(bus),
+        &fitted.tables.bus_bound(bus),
+        &fitted.tables.bus_service(bus),
+        fitted.tables.queue(bus),
         row.window,
         row.backlog,
         row.delay,
@@ -203,16 +201,15 @@ pub fn input_margins(tables: &Tables, certificate: &Certificate, bus: usize) -> 
 }
 
 /// The margins of the output of this number.
-pub fn output_margins(tables: &Tables, certificate: &Certificate, output: usize) -> OutputMargins
-    requires sized { IsSized tables.now (certificate_rows certificate.now) }
-    requires there { output < length tables.now.outputs }
-    ensures { result ≡ output_margins_of tables.now output (output_bound (certificate_rows certificate.now) output) }
+pub fn output_margins(fitted: &Fitted<'_>, output: usize) -> OutputMargins
+    requires there { output < length fitted.now.tables.now.outputs }
+    ensures { result ≡ output_margins_of fitted.now.tables.now output (output_bound (certificate_rows fitted.now.certificate.now) output) }
 {
-    tables.valid();
-    let row = &certificate.outputs[output];
+    fitted.tables.valid();
+    let row = &fitted.certificate.outputs[output];
     output_margins_by(
-        &tables.output_bound(output),
-        &tables.output_service(output),
+        &fitted.tables.output_bound(output),
+        &fitted.tables.output_service(output),
         row.window,
         row.delay,
     )

@@ -1,13 +1,11 @@
 //! What an accepted certificate promises, in words with its numbers.
 
 ghost use Rattle.std.specs.Prelude.{◌<◌, length};
-ghost use Rattle.dc_cert.specs.Bounds.{certificate_rows};
-ghost use Rattle.dc_check.specs.Verdict.{IsSized};
 
 use crate::amount::{Grouped, ticks};
 use crate::escape::Escaped;
 use crate::facts::source_at;
-use dc_cert::Certificate;
+use dc_check::Fitted;
 use dc_tables::Tables;
 use std::alloc::AllocError;
 
@@ -29,45 +27,33 @@ fn push_end(text: &mut String, count: usize) -> Result<(), AllocError> {
 }
 
 /// Adds the claim on receive queues.
-fn push_queues(
-    text: &mut String,
-    tables: &Tables,
-    certificate: &Certificate,
-) -> Result<(), AllocError>
-    requires sized { IsSized tables.now (certificate_rows certificate.now) }
-{
+fn push_queues(text: &mut String, fitted: &Fitted<'_>) -> Result<(), AllocError> {
     text.push_str("<li><b>No receive queue overruns:</b>")?;
-    for bus in 0..tables.bus_count().min(NAMED) {
+    for bus in 0..fitted.tables.bus_count().min(NAMED) {
         push_between(text, bus)?;
-        let backlog = Grouped(u64::from(certificate.inputs[bus].backlog));
-        let queue = Grouped(u64::from(tables.queue(bus)));
-        let name = Escaped(tables.bus_name(bus).text());
+        let backlog = Grouped(u64::from(fitted.certificate.inputs[bus].backlog));
+        let queue = Grouped(u64::from(fitted.tables.queue(bus)));
+        let name = Escaped(fitted.tables.bus_name(bus).text());
         write!(
             text,
             "at most {backlog} of {queue} places of {name} are ever taken"
         )?;
     }
-    push_end(text, tables.bus_count())
+    push_end(text, fitted.tables.bus_count())
 }
 
 /// Adds the claim on the age of words.
-fn push_ages(
-    text: &mut String,
-    tables: &Tables,
-    certificate: &Certificate,
-) -> Result<(), AllocError>
-    requires sized { IsSized tables.now (certificate_rows certificate.now) }
-{
+fn push_ages(text: &mut String, fitted: &Fitted<'_>) -> Result<(), AllocError> {
     text.push_str(
         "<li><b>No old word leaves:</b> a word that leaves is marked as no computed data, or copies one that came at most so long before:",
     )?;
-    for label in 0..tables.label_count().min(NAMED) {
+    for label in 0..fitted.tables.label_count().min(NAMED) {
         push_between(text, label)?;
-        let age = ticks(certificate.labels[label].age);
-        let name = Escaped(tables.label_name(label).text());
+        let age = ticks(fitted.certificate.labels[label].age);
+        let name = Escaped(fitted.tables.label_name(label).text());
         write!(text, "{age} of label {name}")?;
     }
-    push_end(text, tables.label_count())
+    push_end(text, fitted.tables.label_count())
 }
 
 /// Adds the first source of a label, and how long it stays fresh.
@@ -112,19 +98,13 @@ fn push_intervals(text: &mut String, tables: &Tables) -> Result<(), AllocError> 
 }
 
 /// Adds the four claims with what they rest on.
-pub fn push_claims(
-    text: &mut String,
-    tables: &Tables,
-    certificate: &Certificate,
-) -> Result<(), AllocError>
-    requires sized { IsSized tables.now (certificate_rows certificate.now) }
-{
+pub fn push_claims(text: &mut String, fitted: &Fitted<'_>) -> Result<(), AllocError> {
     text.push_str(
         "<h2>What is promised</h2>\n<p>In every run in which the routers and the outputs keep their pace, and the sources of buses that are not policed send no sooner than their intervals and jitters let them and no more than the wire carries:</p>\n<ol>\n",
     )?;
-    push_queues(text, tables, certificate)?;
-    push_ages(text, tables, certificate)?;
-    push_sources(text, tables)?;
-    push_intervals(text, tables)?;
+    push_queues(text, fitted)?;
+    push_ages(text, fitted)?;
+    push_sources(text, fitted.tables)?;
+    push_intervals(text, fitted.tables)?;
     text.push_str("</ol>\n")
 }

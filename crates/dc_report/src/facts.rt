@@ -2,11 +2,9 @@
 //! margins.
 
 ghost use Rattle.std.specs.Prelude.{◌<◌, length};
-ghost use Rattle.dc_cert.specs.Bounds.{certificate_rows};
-ghost use Rattle.dc_check.specs.Verdict.{IsSized};
 ghost use Rattle.dc_tables.specs.TableRows.{label_row};
 
-use dc_cert::Certificate;
+use dc_check::Fitted;
 use dc_margin::{InputMargins, LabelMargins, OutputMargins, label_margins};
 use dc_parts::Name;
 use dc_tables::Tables;
@@ -61,21 +59,15 @@ pub struct SourceFacts {
 }
 
 /// The facts of the input of this number, with its margins.
-pub fn input_facts(
-    tables: &Tables,
-    certificate: &Certificate,
-    bus: usize,
-    margins: &InputMargins,
-) -> InputFacts
-    requires sized { IsSized tables.now (certificate_rows certificate.now) }
-    requires there { bus < length tables.now.buses }
+pub fn input_facts(fitted: &Fitted<'_>, bus: usize, margins: &InputMargins) -> InputFacts
+    requires there { bus < length fitted.now.tables.now.buses }
 {
-    tables.valid();
-    let row = &certificate.inputs[bus];
-    let own = tables.bus(bus);
+    fitted.tables.valid();
+    let row = &fitted.certificate.inputs[bus];
+    let own = fitted.tables.bus(bus);
     InputFacts {
-        name: *tables.bus_name(bus),
-        router: *tables.router_name(own.router),
+        name: *fitted.tables.bus_name(bus),
+        router: *fitted.tables.router_name(own.router),
         queue: own.queue,
         police: own.police,
         window: row.window,
@@ -86,19 +78,13 @@ pub fn input_facts(
 }
 
 /// The facts of the output of this number, with its margins.
-pub fn output_facts(
-    tables: &Tables,
-    certificate: &Certificate,
-    output: usize,
-    margins: &OutputMargins,
-) -> OutputFacts
-    requires sized { IsSized tables.now (certificate_rows certificate.now) }
-    requires there { output < length tables.now.outputs }
+pub fn output_facts(fitted: &Fitted<'_>, output: usize, margins: &OutputMargins) -> OutputFacts
+    requires there { output < length fitted.now.tables.now.outputs }
 {
-    let row = &certificate.outputs[output];
+    let row = &fitted.certificate.outputs[output];
     OutputFacts {
-        name: *tables.output_name(output),
-        frame: tables.output(output).frame,
+        name: *fitted.tables.output_name(output),
+        frame: fitted.tables.output(output).frame,
         window: row.window,
         delay: row.delay,
         margins: *margins,
@@ -106,37 +92,35 @@ pub fn output_facts(
 }
 
 /// The facts of the label of this number.
-pub fn label_facts(tables: &Tables, certificate: &Certificate, label: usize) -> LabelFacts
-    requires sized { IsSized tables.now (certificate_rows certificate.now) }
-    requires there { label < length tables.now.labels }
+pub fn label_facts(fitted: &Fitted<'_>, label: usize) -> LabelFacts
+    requires there { label < length fitted.now.tables.now.labels }
 {
-    tables.valid();
-    let row = tables.label(label);
-    let schedule = Schedule::of(tables, row.output);
+    fitted.tables.valid();
+    let row = fitted.tables.label(label);
+    let schedule = Schedule::of(fitted.tables, row.output);
     LabelFacts {
-        name: *tables.label_name(label),
+        name: *fitted.tables.label_name(label),
         least_gap: schedule.min_gap(label),
         greatest_gap: schedule.max_gap(label),
-        output_delay: certificate.outputs[row.output].delay,
+        output_delay: fitted.certificate.outputs[row.output].delay,
         minimum: row.minimum,
         maximum: row.maximum,
         stale: row.stale,
-        slowest: slowest_delay(tables, certificate, label),
-        age: certificate.labels[label].age,
+        slowest: slowest_delay(fitted, label),
+        age: fitted.certificate.labels[label].age,
         age_limit: row.age_limit,
-        margins: label_margins(tables, certificate, label),
+        margins: label_margins(fitted, label),
     }
 }
 
 /// The longest delay of the buses of a label's sources.
-fn slowest_delay(tables: &Tables, certificate: &Certificate, label: usize) -> u32
-    requires sized { IsSized tables.now (certificate_rows certificate.now) }
-    requires there { label < length tables.now.labels }
+fn slowest_delay(fitted: &Fitted<'_>, label: usize) -> u32
+    requires there { label < length fitted.now.tables.now.labels }
 {
     let mut longest = 0;
-    for place in 0..tables.label(label).sources.len() {
-        let stream = source_at(tables, label, place);
-        longest = delay_of(tables, certificate, stream).max(longest);
+    for place in 0..fitted.tables.label(label).sources.len() {
+        let stream = source_at(fitted.tables, label, place);
+        longest = delay_of(fitted, stream).max(longest);
     }
     longest
 }
@@ -153,23 +137,21 @@ pub fn source_at(tables: &Tables, label: usize, place: usize) -> usize
 }
 
 /// The delay that the certificate claims of a stream's bus.
-fn delay_of(tables: &Tables, certificate: &Certificate, stream: usize) -> u32
-    requires sized { IsSized tables.now (certificate_rows certificate.now) }
-    requires there { stream < length tables.now.streams }
+fn delay_of(fitted: &Fitted<'_>, stream: usize) -> u32
+    requires there { stream < length fitted.now.tables.now.streams }
 {
-    certificate.inputs[tables.bus_of(stream)].delay
+    fitted.certificate.inputs[fitted.tables.bus_of(stream)].delay
 }
 
 /// The facts of the source that is the stream of this number.
-pub fn source_facts(tables: &Tables, certificate: &Certificate, stream: usize) -> SourceFacts
-    requires sized { IsSized tables.now (certificate_rows certificate.now) }
-    requires there { stream < length tables.now.streams }
+pub fn source_facts(fitted: &Fitted<'_>, stream: usize) -> SourceFacts
+    requires there { stream < length fitted.now.tables.now.streams }
 {
-    let bus = tables.bus_of(stream);
+    let bus = fitted.tables.bus_of(stream);
     SourceFacts {
-        name: *tables.stream_name(stream),
-        bus: *tables.bus_name(bus),
-        delay: delay_of(tables, certificate, stream),
-        maximum: tables.stream(stream).maximum,
+        name: *fitted.tables.stream_name(stream),
+        bus: *fitted.tables.bus_name(bus),
+        delay: delay_of(fitted, stream),
+        maximum: fitted.tables.stream(stream).maximum,
     }
 }

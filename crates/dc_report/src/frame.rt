@@ -8,6 +8,9 @@ use crate::shares::share;
 use dc_tables::Entry;
 use std::alloc::AllocError;
 
+/// How wide a drawing of a label is, in the points of its picture.
+const STRIP_WIDTH: u64 = 400;
+
 /// Whether an entry is of the label; of all where none is named.
 fn is_of_label(entry: Entry, label: Option<usize>) -> bool {
     match label {
@@ -27,7 +30,7 @@ pub fn push_strip(
     let mut last = None;
     for entry in entries {
         if is_of_label(*entry, label) {
-            let x = share(u64::from(entry.offset), u64::from(frame), 400);
+            let x = share(u64::from(entry.offset), u64::from(frame), STRIP_WIDTH);
             if last != Some(x) {
                 write!(text, "M{x} 1v12")?;
                 last = Some(x);
@@ -46,7 +49,7 @@ pub fn roomy(longest: u64) -> u64 {
 pub fn place(ticks: u64, span: u64) -> Tenths
     ensures { result.0 ≤ 4000 }
 {
-    Tenths(share(ticks, span, 4000))
+    Tenths(share(ticks, span, 10 * STRIP_WIDTH))
 }
 
 /// Adds the interval that is wanted of a label, and in it the gaps, each shorter or longer by the output's delay.

@@ -1,10 +1,9 @@
 //! The whole page.
 
 ghost use Rattle.std.specs.Prelude.{◌≡◌, IfSome, length};
-ghost use Rattle.dc_cert.specs.Bounds.{certificate_rows};
 ghost use Rattle.dc_cert.specs.NamedRows.{named_rows};
 ghost use Rattle.dc_check.specs.Placed.{IsPlaced};
-ghost use Rattle.dc_check.specs.Verdict.{IsSized, verdict_of};
+ghost use Rattle.dc_check.specs.Verdict.{verdict_of};
 
 use crate::claims::push_claims;
 use crate::input::push_input;
@@ -14,7 +13,7 @@ use crate::style::{FOOT, HEAD};
 use crate::summary::push_summary;
 use crate::verdict::{push_accepted, push_refused};
 use dc_cert::Certificate;
-use dc_check::{CheckFault, misnamed};
+use dc_check::{CheckFault, Fitted, misnamed};
 use dc_margin::{InputMargins, OutputMargins};
 use dc_tables::Tables;
 use std::alloc::{AllocError, Global};
@@ -22,23 +21,21 @@ use std::alloc::{AllocError, Global};
 /// Adds the sections of all inputs, outputs and labels, given the margins of the inputs and outputs.
 fn push_sections(
     text: &mut String,
-    tables: &Tables,
-    certificate: &Certificate,
+    fitted: &Fitted<'_>,
     inputs: &[InputMargins],
     outputs: &[OutputMargins],
 ) -> Result<(), AllocError>
-    requires sized { IsSized tables.now (certificate_rows certificate.now) }
-    requires inputs { length inputs.now ≡ length tables.now.buses }
-    requires outputs { length outputs.now ≡ length tables.now.outputs }
+    requires inputs { length inputs.now ≡ length fitted.now.tables.now.buses }
+    requires outputs { length outputs.now ≡ length fitted.now.tables.now.outputs }
 {
-    push_summary(text, tables, certificate, inputs, outputs)?;
+    push_summary(text, fitted, inputs, outputs)?;
     text.push_str("<h2>Inputs</h2>\n")?;
-    for bus in 0..tables.bus_count() {
-        push_input(text, tables, certificate, bus, &inputs[bus])?;
+    for bus in 0..fitted.tables.bus_count() {
+        push_input(text, fitted, bus, &inputs[bus])?;
     }
     text.push_str("<h2>Outputs</h2>\n")?;
-    for output in 0..tables.output_count() {
-        push_output(text, tables, certificate, output, &outputs[output])?;
+    for output in 0..fitted.tables.output_count() {
+        push_output(text, fitted, output, &outputs[output])?;
     }
     Ok(())
 }
@@ -47,24 +44,15 @@ fn push_sections(
 fn push_named(
     alloc: Global,
     text: &mut String,
-    tables: &Tables,
-    certificate: &Certificate,
+    fitted: &Fitted<'_>,
     is_accepted: bool,
-) -> Result<(), AllocError>
-    requires sized { IsSized tables.now (certificate_rows certificate.now) }
-{
+) -> Result<(), AllocError> {
     if is_accepted {
-        push_claims(text, tables, certificate)?;
+        push_claims(text, fitted)?;
     }
-    let inputs = inputs_known(alloc, tables, certificate)?;
-    let outputs = outputs_known(alloc, tables, certificate)?;
-    push_sections(
-        text,
-        tables,
-        certificate,
-        inputs.as_slice(),
-        outputs.as_slice(),
-    )
+    let inputs = inputs_known(alloc, fitted)?;
+    let outputs = outputs_known(alloc, fitted)?;
+    push_sections(text, fitted, inputs.as_slice(), outputs.as_slice())
 }
 
 /// Adds the verdict: accepted, or this fault.
@@ -94,7 +82,11 @@ fn push_page(
     text.push_str(HEAD)?;
     push_verdict(text, tables, fault)?;
     if misnamed(tables, certificate).is_none() {
-        push_named(alloc, text, tables, certificate, fault.is_none())?;
+        let fitted = Fitted {
+            tables,
+            certificate,
+        };
+        push_named(alloc, text, &fitted, fault.is_none())?;
     }
     text.push_str(FOOT)
 }

@@ -1,8 +1,6 @@
 //! The section of an input.
 
 ghost use Rattle.std.specs.Prelude.{◌<◌, length};
-ghost use Rattle.dc_cert.specs.Bounds.{certificate_rows};
-ghost use Rattle.dc_check.specs.Verdict.{IsSized};
 
 use crate::amount::{Unit, ticks, words};
 use crate::escape::Escaped;
@@ -10,7 +8,7 @@ use crate::facts::{InputFacts, input_facts};
 use crate::plot::{Marks, needed, push_plot};
 use crate::rules::push_lines;
 use dc_busy::LONGEST_WINDOW;
-use dc_cert::Certificate;
+use dc_check::Fitted;
 use dc_margin::{InputMargins, input_lines};
 use dc_tables::Tables;
 use std::alloc::AllocError;
@@ -73,18 +71,16 @@ fn push_curves(
 /// Adds the section of the input of this number, with its margins.
 pub fn push_input(
     text: &mut String,
-    tables: &Tables,
-    certificate: &Certificate,
+    fitted: &Fitted<'_>,
     bus: usize,
     margins: &InputMargins,
 ) -> Result<(), AllocError>
-    requires sized { IsSized tables.now (certificate_rows certificate.now) }
-    requires there { bus < length tables.now.buses }
+    requires there { bus < length fitted.now.tables.now.buses }
 {
-    let facts = input_facts(tables, certificate, bus, margins);
+    let facts = input_facts(fitted, bus, margins);
     push_words(text, &facts)?;
     text.push_str("<div class='two'><div>")?;
-    push_curves(text, tables, &facts, bus)?;
+    push_curves(text, fitted.tables, &facts, bus)?;
     text.push_str("</div><div>")?;
     push_lines(text, &input_lines(bus, &facts.margins))?;
     text.push_str("</div></div></div>\n")

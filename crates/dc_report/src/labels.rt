@@ -1,15 +1,13 @@
 //! The section of a label.
 
 ghost use Rattle.std.specs.Prelude.{◌<◌, length};
-ghost use Rattle.dc_cert.specs.Bounds.{certificate_rows};
-ghost use Rattle.dc_check.specs.Verdict.{IsSized};
 
 use crate::amount::{Amount, Grouped, Unit, ticks};
 use crate::escape::Escaped;
 use crate::facts::{LabelFacts, label_facts, source_at, source_facts};
 use crate::frame::{push_age, push_interval, push_strip};
 use crate::rules::{MarginText, remedy};
-use dc_cert::Certificate;
+use dc_check::Fitted;
 use dc_margin::{MarginLine, label_lines};
 use dc_tables::Tables;
 use std::alloc::AllocError;
@@ -94,15 +92,13 @@ fn push_ages(
 /// Adds a source: the longest time between two of its words as they are taken, of the time for which it is fresh.
 fn push_source(
     text: &mut String,
-    tables: &Tables,
-    certificate: &Certificate,
+    fitted: &Fitted<'_>,
     stale: u32,
     stream: usize,
 ) -> Result<(), AllocError>
-    requires sized { IsSized tables.now (certificate_rows certificate.now) }
-    requires there { stream < length tables.now.streams }
+    requires there { stream < length fitted.now.tables.now.streams }
 {
-    let facts = source_facts(tables, certificate, stream);
+    let facts = source_facts(fitted, stream);
     let name = Escaped(facts.name.text());
     let bus = Escaped(facts.bus.text());
     let delay = facts.delay;
@@ -119,42 +115,34 @@ fn push_source(
 /// Adds the label's sources, with the margin of C12.
 fn push_sources(
     text: &mut String,
-    tables: &Tables,
-    certificate: &Certificate,
+    fitted: &Fitted<'_>,
     facts: &LabelFacts,
     label: usize,
     fresh: MarginLine,
 ) -> Result<(), AllocError>
-    requires sized { IsSized tables.now (certificate_rows certificate.now) }
-    requires there { label < length tables.now.labels }
+    requires there { label < length fitted.now.tables.now.labels }
 {
     let stale = Grouped(u64::from(facts.stale));
     write!(text, "<div>delay + longest interval, of {stale}")?;
-    for place in 0..tables.label(label).sources.len() {
-        let stream = source_at(tables, label, place);
-        push_source(text, tables, certificate, facts.stale, stream)?;
+    for place in 0..fitted.tables.label(label).sources.len() {
+        let stream = source_at(fitted.tables, label, place);
+        push_source(text, fitted, facts.stale, stream)?;
     }
     push_margin(text, fresh)?;
     text.push_str("</div>\n")
 }
 
 /// Adds the section of the label of this number.
-pub fn push_label(
-    text: &mut String,
-    tables: &Tables,
-    certificate: &Certificate,
-    label: usize,
-) -> Result<(), AllocError>
-    requires sized { IsSized tables.now (certificate_rows certificate.now) }
-    requires there { label < length tables.now.labels }
+pub fn push_label(text: &mut String, fitted: &Fitted<'_>, label: usize) -> Result<(), AllocError>
+    requires there { label < length fitted.now.tables.now.labels }
 {
-    let facts = label_facts(tables, certificate, label);
+    let facts = label_facts(fitted, label);
     let [soon, late, age, age_limit, fresh] = label_lines(label, &facts.margins);
     let name = Escaped(facts.name.text());
     write!(text, "<div class='l'><h4>Label {name}</h4><div class='g'>")?;
-    push_due(text, tables, label)?;
+    push_due(text, fitted.tables, label)?;
     push_gaps(text, &facts, soon, late)?;
     push_ages(text, &facts, age, age_limit)?;
-    push_sources(text, tables, certificate, &facts, label, fresh)?;
+    push_sources(text, fitted, &facts, label, fresh)?;
     text.push_str("</div></div>\n")
 }

@@ -1,8 +1,6 @@
 //! The section of an output with its labels.
 
 ghost use Rattle.std.specs.Prelude.{◌<◌, length};
-ghost use Rattle.dc_cert.specs.Bounds.{certificate_rows};
-ghost use Rattle.dc_check.specs.Verdict.{IsSized};
 
 use crate::amount::{Grouped, Unit, ticks};
 use crate::escape::Escaped;
@@ -12,7 +10,7 @@ use crate::input::{is_plotted, push_no_plot};
 use crate::labels::push_label;
 use crate::plot::{Marks, needed, push_plot};
 use crate::rules::push_lines;
-use dc_cert::Certificate;
+use dc_check::Fitted;
 use dc_margin::{OutputMargins, output_lines};
 use dc_tables::Tables;
 use std::alloc::AllocError;
@@ -72,17 +70,10 @@ fn push_frame(text: &mut String, tables: &Tables, output: usize) -> Result<(), A
 }
 
 /// Adds the labels of an output.
-fn push_labels(
-    text: &mut String,
-    tables: &Tables,
-    certificate: &Certificate,
-    output: usize,
-) -> Result<(), AllocError>
-    requires sized { IsSized tables.now (certificate_rows certificate.now) }
-{
-    for label in 0..tables.label_count() {
-        if tables.label(label).output == output {
-            push_label(text, tables, certificate, label)?;
+fn push_labels(text: &mut String, fitted: &Fitted<'_>, output: usize) -> Result<(), AllocError> {
+    for label in 0..fitted.tables.label_count() {
+        if fitted.tables.label(label).output == output {
+            push_label(text, fitted, label)?;
         }
     }
     Ok(())
@@ -91,22 +82,20 @@ fn push_labels(
 /// Adds the section of the output of this number, with its margins.
 pub fn push_output(
     text: &mut String,
-    tables: &Tables,
-    certificate: &Certificate,
+    fitted: &Fitted<'_>,
     output: usize,
     margins: &OutputMargins,
 ) -> Result<(), AllocError>
-    requires sized { IsSized tables.now (certificate_rows certificate.now) }
-    requires there { output < length tables.now.outputs }
+    requires there { output < length fitted.now.tables.now.outputs }
 {
-    let facts = output_facts(tables, certificate, output, margins);
+    let facts = output_facts(fitted, output, margins);
     push_words(text, &facts)?;
     text.push_str("<div class='two'><div>")?;
-    push_curves(text, tables, &facts, output)?;
+    push_curves(text, fitted.tables, &facts, output)?;
     text.push_str("</div><div>")?;
     push_lines(text, &output_lines(output, &facts.margins))?;
     text.push_str("</div></div>\n")?;
-    push_frame(text, tables, output)?;
-    push_labels(text, tables, certificate, output)?;
+    push_frame(text, fitted.tables, output)?;
+    push_labels(text, fitted, output)?;
     text.push_str("</div>\n")
 }

@@ -14,6 +14,18 @@ const LONGEST_SPAN: u64 = 300_000;
 /// The ticks of a plot, divided by this, are the stride of its curves: they have fewer than twice as many points.
 const MOST_POINTS: u64 = 120;
 
+/// Where the ticks of a plot begin, from the left of the picture, in tenths of its points.
+const LEFT: u64 = 400;
+
+/// How far the ticks go to the right.
+const WIDTH: u64 = 3_480;
+
+/// Where the counts of a plot begin, from the top of the picture.
+const FOOT: u64 = 1_880;
+
+/// How far the counts go up.
+const HEIGHT: u64 = 1_620;
+
 /// A height or a width, and the number of ticks at which it is.
 #[derive(Clone, Copy)]
 pub struct Measure {
@@ -32,9 +44,7 @@ pub struct Marks {
 
 /// The number that is needed, where so much is claimed and the margin is told.
 pub fn needed(claimed: u32, margin: Option<Margin>) -> Option<Measure> {
-    let Some(margin) = margin else {
-        return None;
-    };
+    let margin = margin?;
     match (margin.slack, margin.decider) {
         (Some(slack), Decider::Window(at)) => Some(Measure {
             at: u64::from(at),
@@ -56,7 +66,7 @@ impl Plane {
     fn x(self, tick: u64) -> Tenths
         ensures { (400 ≤ result.0) × (result.0 ≤ 3880) }
     {
-        Tenths(400 + share(tick, self.span, 3480))
+        Tenths(LEFT + share(tick, self.span, WIDTH))
     }
 
     /// Half a tick before the end of a tick.
@@ -64,14 +74,14 @@ impl Plane {
         ensures { (400 ≤ result.0) × (result.0 ≤ 3880) }
     {
         let halves = tick.saturating_mul(2).saturating_sub(1);
-        Tenths(400 + share(halves, self.span.saturating_mul(2), 3480))
+        Tenths(LEFT + share(halves, self.span.saturating_mul(2), WIDTH))
     }
 
     /// Where a count stands from the top.
     fn y(self, count: u64) -> Tenths
         ensures { (260 ≤ result.0) × (result.0 ≤ 1880) }
     {
-        Tenths(1880 - share(count, self.top, 1620))
+        Tenths(FOOT - share(count, self.top, HEIGHT))
     }
 
     /// How many ticks lie between two points of a curve.

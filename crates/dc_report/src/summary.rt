@@ -1,18 +1,14 @@
 //! How near a certificate came: of each condition the least margin, and where it is.
 
 ghost use Rattle.std.specs.Prelude.{◌≡◌, ◌<◌, length};
-ghost use Rattle.dc_cert.specs.Bounds.{certificate_rows};
-ghost use Rattle.dc_check.specs.Verdict.{IsSized};
 
 use crate::escape::Escaped;
 use crate::rules::{MarginText, asks, marks};
-use dc_cert::Certificate;
-use dc_check::{CertificateList, Condition};
+use dc_check::{CertificateList, Condition, Fitted};
 use dc_margin::{
     InputMargins, MarginLine, OutputMargins, input_lines, label_lines, label_margins, output_lines,
 };
 use dc_parts::Name;
-use dc_tables::Tables;
 use std::alloc::AllocError;
 
 /// The line of the least margin of a condition, and the name of what it is of: of those that are as small the first.
@@ -50,13 +46,8 @@ fn place_of(condition: Condition) -> usize
 
 /// The margin of a line as a number that is the least where no delay is enough; `None` where it is not told.
 fn weight(line: MarginLine) -> Option<i64> {
-    match line.margin {
-        None => None,
-        Some(margin) => match margin.slack {
-            None => Some(i64::MIN),
-            Some(slack) => Some(slack),
-        },
-    }
+    let margin = line.margin?;
+    Some(margin.slack.unwrap_or(i64::MIN))
 }
 
 /// Whether a line is nearer to failing than the least one so far.
@@ -84,28 +75,22 @@ fn note(leasts: &mut Leasts, lines: &[MarginLine], name: Name) {
 }
 
 /// The least margins of all jobs, given those of the inputs and outputs.
-fn leasts_of(
-    tables: &Tables,
-    certificate: &Certificate,
-    inputs: &[InputMargins],
-    outputs: &[OutputMargins],
-) -> Leasts
-    requires sized { IsSized tables.now (certificate_rows certificate.now) }
-    requires inputs { length inputs.now ≡ length tables.now.buses }
-    requires outputs { length outputs.now ≡ length tables.now.outputs }
+fn leasts_of(fitted: &Fitted<'_>, inputs: &[InputMargins], outputs: &[OutputMargins]) -> Leasts
+    requires inputs { length inputs.now ≡ length fitted.now.tables.now.buses }
+    requires outputs { length outputs.now ≡ length fitted.now.tables.now.outputs }
 {
     let mut leasts = Leasts { lines: [None; 12] };
-    for bus in 0..tables.bus_count() {
+    for bus in 0..fitted.tables.bus_count() {
         let lines = input_lines(bus, &inputs[bus]);
-        note(&mut leasts, &lines, *tables.bus_name(bus));
+        note(&mut leasts, &lines, *fitted.tables.bus_name(bus));
     }
-    for output in 0..tables.output_count() {
+    for output in 0..fitted.tables.output_count() {
         let lines = output_lines(output, &outputs[output]);
-        note(&mut leasts, &lines, *tables.output_name(output));
+        note(&mut leasts, &lines, *fitted.tables.output_name(output));
     }
-    for label in 0..tables.label_count() {
-        let lines = label_lines(label, &label_margins(tables, certificate, label));
-        note(&mut leasts, &lines, *tables.label_name(label));
+    for label in 0..fitted.tables.label_count() {
+        let lines = label_lines(label, &label_margins(fitted, label));
+        note(&mut leasts, &lines, *fitted.tables.label_name(label));
     }
     leasts
 }
@@ -137,21 +122,19 @@ fn push_least(text: &mut String, least: &Least) -> Result<(), AllocError> {
 /// Adds the summary, given the margins of the inputs and outputs.
 pub fn push_summary(
     text: &mut String,
-    tables: &Tables,
-    certificate: &Certificate,
+    fitted: &Fitted<'_>,
     inputs: &[InputMargins],
     outputs: &[OutputMargins],
 ) -> Result<(), AllocError>
-    requires sized { IsSized tables.now (certificate_rows certificate.now) }
-    requires inputs { length inputs.now ≡ length tables.now.buses }
-    requires outputs { length outputs.now ≡ length tables.now.outputs }
+    requires inputs { length inputs.now ≡ length fitted.now.tables.now.buses }
+    requires outputs { length outputs.now ≡ length fitted.now.tables.now.outputs }
 {
-    let tick = tables.tick_us();
+    let tick = fitted.tables.tick_us();
     write!(
         text,
         "<h2>How near it came</h2>\n<p class='s'>Of each rule the least margin: how far it is from failing, all else left as it is. At 0 it is kept, and nothing is left. One tick is {tick} microseconds.</p>\n<table><tr><th>Rule</th><th>What it asks</th><th>Margin</th><th>Where</th></tr>\n"
     )?;
-    let leasts = leasts_of(tables, certificate, inputs, outputs);
+    let leasts = leasts_of(fitted, inputs, outputs);
     for least in &leasts.lines {
         if let Some(least) = least {
             push_least(text, least)?;

@@ -5,13 +5,13 @@ use Rattle.dc_check.specs.Verdict.{job_verdict}
 use Rattle.dc_check.proofs.job.job_fault.Goals as goal
 
 pub returns-in-Input : goal.returns-in-Input
-returns-in-Input c = c.input_job.ensures ∙ ap (job_verdict c.args.tables.now (certificate_rows c.args.certificate.now)) (sym (c.in-Input.ensures).1)
+returns-in-Input c = c.input_job.ensures ∙ ap (job_verdict c.args.fitted.now.tables.now (certificate_rows c.args.fitted.now.certificate.now)) (sym (c.in-Input.ensures).1)
 
 pub returns-in-Output : goal.returns-in-Output
-returns-in-Output c = c.output_job.ensures ∙ ap (job_verdict c.args.tables.now (certificate_rows c.args.certificate.now)) (sym (c.in-Output.ensures).1)
+returns-in-Output c = c.output_job.ensures ∙ ap (job_verdict c.args.fitted.now.tables.now (certificate_rows c.args.fitted.now.certificate.now)) (sym (c.in-Output.ensures).1)
 
 pub returns-in-Label : goal.returns-in-Label
 returns-in-Label c =
     c.label_fault.ensures
-    ∙ sym (job-label c.args.tables.now (certificate_rows c.args.certificate.now) c.in-Label.label)
-    ∙ ap (job_verdict c.args.tables.now (certificate_rows c.args.certificate.now)) (sym (c.in-Label.ensures).1)
+    ∙ sym (job-label c.args.fitted.now.tables.now (certificate_rows c.args.fitted.now.certificate.now) c.in-Label.label)
+    ∙ ap (job_verdict c.args.fitted.now.tables.now (certificate_rows c.args.fitted.now.certificate.now)) (sym (c.in-Label.ensures).1)

@@ -11,17 +11,17 @@ use Rattle.dc_check.proofs.labels.are_within.Goals as goal
 pub returns : goal.returns
 returns c =
     let sources = c.as_slice-sources.ensures ∙ ap (λ r. r.sources) c.label-row.ensures in
-    sym (each-passed (λ s. nat_le ((label_row c.args.tables.now c.args.label).stale + source_delay c.args.tables.now (certificate_rows c.args.certificate.now) s) c.args.age) c.as_slice-sources.result.now c.loop-stream.stream-index c.loop-stream-test.false c.loop-stream.invariant)
-    ∙ ap (list_all (λ s. nat_le ((label_row c.args.tables.now c.args.label).stale + source_delay c.args.tables.now (certificate_rows c.args.certificate.now) s) c.args.age)) sources
+    sym (each-passed (λ s. nat_le ((label_row c.args.fitted.now.tables.now c.args.label).stale + source_delay c.args.fitted.now.tables.now (certificate_rows c.args.fitted.now.certificate.now) s) c.args.age) c.as_slice-sources.result.now c.loop-stream.stream-index c.loop-stream-test.false c.loop-stream.invariant)
+    ∙ ap (list_all (λ s. nat_le ((label_row c.args.fitted.now.tables.now c.args.label).stale + source_delay c.args.fitted.now.tables.now (certificate_rows c.args.fitted.now.certificate.now) s) c.args.age)) sources
 
 pub returns-then-from : goal.returns-then-from
 returns-then-from c =
     let sources = c.as_slice-sources.ensures ∙ ap (λ r. r.sources) c.label-row.ensures in
-    failed-at (λ s. nat_le ((label_row c.args.tables.now c.args.label).stale + source_delay c.args.tables.now (certificate_rows c.args.certificate.now) s) c.args.age) c.as_slice-sources.result.now c.loop-stream.stream-index c.loop-stream-test.true
+    failed-at (λ s. nat_le ((label_row c.args.fitted.now.tables.now c.args.label).stale + source_delay c.args.fitted.now.tables.now (certificate_rows c.args.fitted.now.certificate.now) s) c.args.age) c.as_slice-sources.result.now c.loop-stream.stream-index c.loop-stream-test.true
     (lt-leb _ _ (omega (arith, c.if-from.true, c.from.ensures, c.from-in-loop-stream.ensures, c.from-in-loop-stream-2.ensures, c.delay_of-delay.ensures, ap (λ r. r.stale) c.label-row.ensures)))
-    ∙ ap (list_all (λ s. nat_le ((label_row c.args.tables.now c.args.label).stale + source_delay c.args.tables.now (certificate_rows c.args.certificate.now) s) c.args.age)) sources
+    ∙ ap (list_all (λ s. nat_le ((label_row c.args.fitted.now.tables.now c.args.label).stale + source_delay c.args.fitted.now.tables.now (certificate_rows c.args.fitted.now.certificate.now) s) c.args.age)) sources
 
 pub loop-stream-preserved : goal.loop-stream-preserved
 loop-stream-preserved c =
-    passed-more (λ s. nat_le ((label_row c.args.tables.now c.args.label).stale + source_delay c.args.tables.now (certificate_rows c.args.certificate.now) s) c.args.age) c.as_slice-sources.result.now c.loop-stream.stream-index c.loop-stream-test.true c.loop-stream.invariant
+    passed-more (λ s. nat_le ((label_row c.args.fitted.now.tables.now c.args.label).stale + source_delay c.args.fitted.now.tables.now (certificate_rows c.args.fitted.now.certificate.now) s) c.args.age) c.as_slice-sources.result.now c.loop-stream.stream-index c.loop-stream-test.true c.loop-stream.invariant
     (le-leb _ _ (omega (arith, c.if-from.false, c.from.ensures, c.from-in-loop-stream.ensures, c.from-in-loop-stream-2.ensures, c.delay_of-delay.ensures, ap (λ r. r.stale) c.label-row.ensures)))

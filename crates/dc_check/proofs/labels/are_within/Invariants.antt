@@ -7,4 +7,4 @@ use Rattle.dc_tables.specs.TableRows.{label_row}
 use Rattle.dc_check.proofs.labels.are_within.Given as goal
 
 abbrev pub invariant-loop-stream : goal.invariant-loop-stream
-invariant-loop-stream l = list_all (λ s. nat_le ((label_row l.tables l.label).stale + source_delay l.tables (certificate_rows l.certificate) s) l.age) (take l.stream-index l.sources) ≡ true
+invariant-loop-stream l = list_all (λ s. nat_le ((label_row l.fitted.tables.now l.label).stale + source_delay l.fitted.tables.now (certificate_rows l.fitted.certificate.now) s) l.age) (take l.stream-index l.sources) ≡ true

@@ -11,18 +11,18 @@ use Rattle.dc_check.proofs.queues.output_fault.Goals as goal
 
 pub closing_fault-requires : goal.closing_fault-requires
 closing_fault-requires g c =
-    let there : c.args.output < length c.args.certificate.now.outputs.items = omega (arith, c.requires.there, c.requires.sized.outputs, outputs-count c.args.certificate.now) in
-    let window = ap (λ r. r.window) (output-read c.args.certificate.now c.args.output c.index.result.now there c.index.ensures) in
-    let r = ranges-none Outputs c.args.output (output_bound (certificate_rows c.args.certificate.now) c.args.output).window (output_bound (certificate_rows c.args.certificate.now) c.args.output).delay c.requires.ranges in
+    let there : c.args.output < length c.args.fitted.now.certificate.now.outputs.items = omega (arith, c.requires.there, c.args.fitted.now.sized.outputs, outputs-count c.args.fitted.now.certificate.now) in
+    let window = ap (λ r. r.window) (output-read c.args.fitted.now.certificate.now c.args.output c.index.result.now there c.index.ensures) in
+    let r = ranges-none Outputs c.args.output (output_bound (certificate_rows c.args.fitted.now.certificate.now) c.args.output).window (output_bound (certificate_rows c.args.fitted.now.certificate.now) c.args.output).delay c.requires.ranges in
     record { least = omega (arith, r.0, window); most = omega (arith, r.1, window) }
 
 pub returns : goal.returns
 returns g c =
-    let there : c.args.output < length c.args.certificate.now.outputs.items = omega (arith, c.requires.there, c.requires.sized.outputs, outputs-count c.args.certificate.now) in
-    let window = ap (λ r. r.window) (sym (output-read c.args.certificate.now c.args.output c.index.result.now there c.index.ensures)) in
+    let there : c.args.output < length c.args.fitted.now.certificate.now.outputs.items = omega (arith, c.requires.there, c.args.fitted.now.sized.outputs, outputs-count c.args.fitted.now.certificate.now) in
+    let window = ap (λ r. r.window) (sym (output-read c.args.fitted.now.certificate.now c.args.output c.index.result.now there c.index.ensures)) in
     let closes = rule-same _ _ _ _ _ c.closing_fault.ensures
-    (closing-same (g.A.ArrivalBound.cap c.args.arrivals.now) (g.S.ServiceBound.floor c.args.service.now) (output_cap c.args.tables.now c.args.output) (output_floor c.args.tables.now c.args.output) c.requires.arrivals c.requires.service c.index.result.now.window
-    ∙ ap (λ w. is_closing (output_cap c.args.tables.now c.args.output) (output_floor c.args.tables.now c.args.output) w) window) refl in
+    (closing-same (g.A.ArrivalBound.cap c.args.arrivals.now) (g.S.ServiceBound.floor c.args.service.now) (output_cap c.args.fitted.now.tables.now c.args.output) (output_floor c.args.fitted.now.tables.now c.args.output) c.requires.arrivals c.requires.service c.index.result.now.window
+    ∙ ap (λ w. is_closing (output_cap c.args.fitted.now.tables.now c.args.output) (output_floor c.args.fitted.now.tables.now c.args.output) w) window) refl in
     c.first_fault.ensures
     ∙ ap first_of
     (rules-same _ _ _ _ closes

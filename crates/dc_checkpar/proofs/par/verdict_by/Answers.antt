@@ -1,9 +1,7 @@
 use Rattle.std.proofs.Common.{None, Some, sym, ◌∙◌}
 use Rattle.dc_cert.specs.NamedRows.{named_rows}
-use Rattle.dc_check.specs.lemmas.Exact.{sized-by_names}
 use Rattle.dc_check.specs.lemmas.Jobs.{verdict-jobs, verdict-names}
 use Rattle.dc_check.specs.lemmas.Places.{verdict_placed}
-use Rattle.dc_checkpar.proofs.Cases.{case-same}
 use Rattle.dc_checkpar.proofs.par.verdict_by.Goals as goal
 
 pub returns-in-Some-clause-exact : goal.returns-in-Some-clause-exact
@@ -13,21 +11,14 @@ returns-in-Some-clause-exact g c =
     let is = verdict-names t claims c.in-Some.fault (sym c.misnamed.ensures.exact ∙ c.in-Some.is) in
     (is, verdict_placed t claims c.in-Some.fault is)
 
-pub new-case-requires : goal.new-case-requires
-new-case-requires g c = sized-by_names c.args.tables.now (named_rows c.args.certificate.now) (sym c.misnamed.ensures.exact ∙ c.in_default.is)
-
 pub returns-in-Ok-None-clause-exact : goal.returns-in-Ok-None-clause-exact
 returns-in-Ok-None-clause-exact g c =
-    let t = c.args.tables.now in
-    let certificate = c.args.certificate.now in
-    verdict-jobs t (named_rows certificate) None (sym c.misnamed.ensures.exact ∙ c.in_default.is)
-    (case-same t c.new-case.result.tables.now certificate c.new-case.result.certificate.now c.in-Ok-None.field-0 c.new-case.ensures.tables c.new-case.ensures.certificate c.in-Ok-None.ensures.ok ∙ c.in-Ok-None.field-0-is)
+    verdict-jobs c.args.tables.now (named_rows c.args.certificate.now) None (sym c.misnamed.ensures.exact ∙ c.in_default.is) (sym c.in-Ok-None.ensures.ok ∙ c.in-Ok-None.field-0-is)
 
 pub returns-in-Ok-Some-clause-exact : goal.returns-in-Ok-Some-clause-exact
 returns-in-Ok-Some-clause-exact g c =
     let t = c.args.tables.now in
-    let certificate = c.args.certificate.now in
+    let claims = named_rows c.args.certificate.now in
     let fault = c.in-Ok-Some.fault in
-    let is = verdict-jobs t (named_rows certificate) (Some fault) (sym c.misnamed.ensures.exact ∙ c.in_default.is)
-    (case-same t c.new-case.result.tables.now certificate c.new-case.result.certificate.now c.in-Ok-Some.field-0 c.new-case.ensures.tables c.new-case.ensures.certificate c.in-Ok-Some.ensures.ok ∙ c.in-Ok-Some.field-0-is) in
-    (is, verdict_placed t (named_rows certificate) fault is)
+    let is = verdict-jobs t claims (Some fault) (sym c.misnamed.ensures.exact ∙ c.in_default.is) (sym c.in-Ok-Some.ensures.ok ∙ c.in-Ok-Some.field-0-is) in
+    (is, verdict_placed t claims fault is)

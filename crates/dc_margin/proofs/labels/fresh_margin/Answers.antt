@@ -11,9 +11,9 @@ use Rattle.dc_margin.proofs.labels.fresh_margin.Goals as goal
 
 pub returns : goal.returns
 returns c =
-    let t = c.args.tables.now in
-    let rows = certificate_rows c.args.certificate.now in
-    let stale = (label_row c.args.tables.now c.args.label).stale in
+    let t = c.args.fitted.now.tables.now in
+    let rows = certificate_rows c.args.fitted.now.certificate.now in
+    let stale = (label_row c.args.fitted.now.tables.now c.args.label).stale in
     ap (λ m. Some m) (c.source_margin.ensures
     ∙ ap (λ z. margin_by z (Source c.rarest-source.result)) (to_z-of_z w64 c.difference.result (record { sfits = c.difference.type_inv }) ∙ c.difference.ensures
     ∙ ap (λ n. room n c.silence_of-silent.result) (c.from-stale.ensures ∙ ap (λ r. r.stale) c.label.ensures)

@@ -13,17 +13,17 @@ use Rattle.dc_margin.proofs.labels.label_margins.Goals as goal
 
 pub returns : goal.returns
 returns c =
-    let t = c.args.tables.now in
-    let rows = certificate_rows c.args.certificate.now in
+    let t = c.args.fitted.now.tables.now in
+    let rows = certificate_rows c.args.fitted.now.certificate.now in
     let x = c.args.label in
-    let row = label_row c.args.tables.now c.args.label in
-    let output_there : c.label.result.now.output < length c.args.certificate.now.outputs.items =
-    omega (arith, c.valid.ensures.labels_on_outputs c.args.label c.requires.there, ap (λ (r : OutputLabel). r.output) c.label.ensures, c.requires.sized.outputs, outputs-count c.args.certificate.now) in
-    let label_there : c.args.label < length c.args.certificate.now.labels.items = omega (arith, c.requires.there, c.requires.sized.labels, ages-count c.args.certificate.now) in
-    let delay : c.index.result.now.delay ≡ label_delay c.args.tables.now (certificate_rows c.args.certificate.now) c.args.label =
-    ap (λ r. r.delay) (sym (output-read c.args.certificate.now c.label.result.now.output c.index.result.now output_there c.index.ensures))
-    ∙ ap (λ (r : OutputLabel). (output_bound (certificate_rows c.args.certificate.now) r.output).delay) c.label.ensures in
-    let age : c.index-2.result.now.age ≡ slice_index (certificate_rows c.args.certificate.now).ages c.args.label = sym (age-read c.args.certificate.now c.args.label c.index-2.result.now label_there c.index-2.ensures) in
+    let row = label_row c.args.fitted.now.tables.now c.args.label in
+    let output_there : c.label.result.now.output < length c.args.fitted.now.certificate.now.outputs.items =
+    omega (arith, c.valid.ensures.labels_on_outputs c.args.label c.requires.there, ap (λ (r : OutputLabel). r.output) c.label.ensures, c.args.fitted.now.sized.outputs, outputs-count c.args.fitted.now.certificate.now) in
+    let label_there : c.args.label < length c.args.fitted.now.certificate.now.labels.items = omega (arith, c.requires.there, c.args.fitted.now.sized.labels, ages-count c.args.fitted.now.certificate.now) in
+    let delay : c.index.result.now.delay ≡ label_delay c.args.fitted.now.tables.now (certificate_rows c.args.fitted.now.certificate.now) c.args.label =
+    ap (λ r. r.delay) (sym (output-read c.args.fitted.now.certificate.now c.label.result.now.output c.index.result.now output_there c.index.ensures))
+    ∙ ap (λ (r : OutputLabel). (output_bound (certificate_rows c.args.fitted.now.certificate.now) r.output).delay) c.label.ensures in
+    let age : c.index-2.result.now.age ≡ slice_index (certificate_rows c.args.fitted.now.certificate.now).ages c.args.label = sym (age-read c.args.fitted.now.certificate.now c.args.label c.index-2.result.now label_there c.index-2.ensures) in
     label-same _ _ (c.soon_margin.ensures ∙ ap (λ d. told (is_delay d) (soon_margin_of (least_label_gap (schedule_of t row.output) x) row.minimum d)) delay)
     _ _ (c.late_margin.ensures ∙ ap (λ d. told (is_delay d) (late_margin_of (greatest_label_gap (schedule_of t row.output) x) row.maximum d)) delay)
     _ _ (c.age_margin.ensures ∙ ap (λ a. told (are_in_range t rows x) (age_margin_of a row.stale (source_delay t rows (slowest_source t rows x)) (slowest_source t rows x))) age)

@@ -8,18 +8,18 @@ use Rattle.dc_margin.proofs.labels.rarest.Goals as goal
 
 pub returns : goal.returns
 returns c = record {
-  source = fold-all (silence c.args.tables.now (certificate_rows c.args.certificate.now)) c.as_slice-sources.result.now (label_row c.args.tables.now c.args.label).sources c.loop-stream.stream-index c.loop-stream.best
+  source = fold-all (silence c.args.fitted.now.tables.now (certificate_rows c.args.fitted.now.certificate.now)) c.as_slice-sources.result.now (label_row c.args.fitted.now.tables.now c.args.label).sources c.loop-stream.stream-index c.loop-stream.best
       c.loop-stream-test.false (c.as_slice-sources.ensures ∙ ap (λ r. r.sources) c.label-row.ensures) c.loop-stream.invariant.best;
   there = c.loop-stream.invariant.there;
 }
 
 pub loop-stream-preserved : goal.loop-stream-preserved
 loop-stream-preserved c =
-    let f = silence c.args.tables.now (certificate_rows c.args.certificate.now) in
+    let f = silence c.args.fitted.now.tables.now (certificate_rows c.args.fitted.now.certificate.now) in
     let same = c.as_slice-sources.ensures ∙ ap (λ r. r.sources) c.label-row.ensures in
-    let at : get_or c.as_slice-sources.result.now c.loop-stream.stream-index 0 ≡ slice_index (label_row c.args.tables.now c.args.label).sources c.loop-stream.stream-index = ap (λ xs. get_or xs c.loop-stream.stream-index 0) same in
+    let at : get_or c.as_slice-sources.result.now c.loop-stream.stream-index 0 ≡ slice_index (label_row c.args.fitted.now.tables.now c.args.label).sources c.loop-stream.stream-index = ap (λ xs. get_or xs c.loop-stream.stream-index 0) same in
     let there = c.valid.ensures.sources_there c.args.label c.loop-stream.stream-index c.requires.there (omega (arith, c.loop-stream-test.true, ap length same)) in
     record {
       best = fold-step f c.as_slice-sources.result.now c.loop-stream.stream-index c.loop-stream.best c.rarer-best.result c.loop-stream-test.true c.loop-stream.invariant.best c.rarer-best.ensures;
-      there = omega (arith, c.rarer-best.ensures, picked f (length c.args.tables.now.streams) c.loop-stream.best (get_or c.as_slice-sources.result.now c.loop-stream.stream-index 0) c.loop-stream.invariant.there (omega (arith, at, there)));
+      there = omega (arith, c.rarer-best.ensures, picked f (length c.args.fitted.now.tables.now.streams) c.loop-stream.best (get_or c.as_slice-sources.result.now c.loop-stream.stream-index 0) c.loop-stream.invariant.there (omega (arith, at, there)));
     }

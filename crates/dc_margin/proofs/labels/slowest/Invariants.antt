@@ -8,6 +8,6 @@ use Rattle.dc_margin.proofs.labels.slowest.Given as goal
 
 abbrev pub invariant-loop-stream : goal.invariant-loop-stream
 invariant-loop-stream l = record {
-  best : l.best ≡ fold (greater_of (source_delay l.tables (certificate_rows l.certificate))) (slice_index l.sources 0) (take l.stream-index l.sources);
-  there : l.best < length l.tables.streams;
+  best : l.best ≡ fold (greater_of (source_delay l.fitted.tables.now (certificate_rows l.fitted.certificate.now))) (slice_index l.sources 0) (take l.stream-index l.sources);
+  there : l.best < length l.fitted.tables.now.streams;
 }
