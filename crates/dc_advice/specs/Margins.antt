@@ -2,8 +2,7 @@
 use Rattle.std.specs.Prelude.{◌≡◌, ◌⊎◌, ℕ, Option, Some, None, List, [], ◌∷◌, ◌++◌, map, Result, Ok, Err}
 use Rattle.dc_answer.specs.Answer.{Answer, Reported, WholeOrNone, unreadable}
 use Rattle.dc_answer.specs.Exits.{is_answered}
-use Rattle.dc_answer.specs.Judging.{Judged}
-use Rattle.dc_answer.specs.declared.answer.Failure.{Failure}
+use Rattle.dc_answer.specs.Judging.{Keeps}
 use Rattle.dc_answer.specs.declared.exit.Exit.{Exit}
 use Rattle.dc_answer.specs.declared.exit.Outcome.{Outcome}
 use Rattle.dc_answer.specs.declared.exit.Outcome.TheVariants.{Done, Refused as WasRefused}
@@ -108,11 +107,11 @@ AnswersAlone answer (Err (NoMemory e)) = ⊥
 abbrev pub AnswersTablesAlone : List ℕ → Answer → Type 0
 AnswersTablesAlone tables answer = (read : Result TableRows BuildError) × TellsTables (tables_of tables) read × AnswersAlone answer read
 
--- ---- what is judged, before it is written
+-- ---- what is kept, before it is written
 
 -- one answer, and no other
-abbrev pub Answers : Answer → List ℕ → Result Outcome Failure → Type 0
-Answers wanted = Judged (λ answer. answer ≡ wanted)
+abbrev pub Answers : {E : Type 0} → Answer → List ℕ → Result Outcome E → Type 0
+Answers wanted = Keeps (λ answer. answer ≡ wanted)
 
 -- ---- what is reported
 

@@ -1,21 +1,21 @@
 //! `margins` without a certificate: the least one is taken.
 
-ghost use Rattle.std.specs.Prelude.{◌≡◌, ◌≢◌, ℕ, List, ◌++◌, ◌+◌, ◌<◌, ◌≤◌, IfErr, IfOk, Some};
+ghost use Rattle.std.specs.Prelude.{◌≡◌, ◌≢◌, ℕ, List, ◌++◌, ◌+◌, ◌<◌, ◌≤◌, IfOk, Some};
+ghost use Rattle.dc_answer.specs.Answer.{Any, LeavesSink, Reported};
+ghost use Rattle.dc_answer.specs.Judging.{Keeps};
 ghost use Rattle.dc_cert.specs.Bounds.{certificate_rows};
 ghost use Rattle.dc_check.specs.Verdict.{IsSized, job_count};
+ghost use Rattle.dc_device.specs.States.{AsksUpTo, CanFail, IsCountable};
 ghost use Rattle.dc_find.specs.Least.{NoneAccepted};
 ghost use Rattle.dc_find.specs.Ways.{IsFirstInTheWay};
-ghost use Rattle.dc_answer.specs.Answer.{Any, LeavesSink, Raises, Reported};
-ghost use Rattle.dc_answer.specs.Judging.{Judged};
 ghost use Rattle.dc_parts.specs.declared.limits.TheConstants.{TEXT_LIMIT};
-ghost use Rattle.dc_advice.specs.Margins.{AnswersReached, AnswersRows, AnswersTablesAlone, ReportsLeast, fed, lines_of_first};
-ghost use Rattle.dc_device.specs.States.{AsksUpTo, CanFail, IsCountable};
+ghost use Rattle.dc_advice.specs.Margins.{AnswersReached, AnswersRows, ReportsLeast, fed, lines_of_first};
 
 use crate::margins::{append_lines, judge};
-use dc_answer::{Exit, Failure, Outcome, Unloaded, load, report, say};
-use dc_app::{keep_obstacle, keep_unreadable};
+use dc_answer::{End, Exit, Outcome, Page, ReadTables, Tell, Then, With, run};
+use dc_app::tell_obstacle;
 use dc_cert::Certificate;
-use dc_device::{LineWriter, Sink, Source};
+use dc_device::{Sink, Source};
 use dc_find::{FindFault, find, reach};
 use dc_margin::job_lines;
 use dc_tables::Tables;
@@ -26,15 +26,15 @@ fn append_first(
     tables: &Tables,
     certificate: &Certificate,
     jobs: usize,
-    text: &mut Vec<u8>,
+    page: &mut Page,
 ) -> Result<(), AllocError>
     requires sized { IsSized tables.now (certificate_rows certificate.now) }
     requires few { jobs ≤ job_count tables.now }
-    ensures { IfOk result (λ _. text.new.items ≡ text.old.items ++ fed (lines_of_first jobs tables.now (certificate_rows certificate.now))) }
+    ensures { IfOk result (λ _. page.new ≡ page.old ++ fed (lines_of_first jobs tables.now (certificate_rows certificate.now))) }
 {
     for job in 0..jobs {
         let own = job_lines(tables, certificate, job);
-        append_lines(tables, own.as_slice(), text)?;
+        append_lines(tables, own.as_slice(), page)?;
     }
     Ok(())
 }
@@ -44,53 +44,48 @@ fn judge_obstacle(
     alloc: Global,
     tables: &Tables,
     fault: FindFault,
-    text: &mut Vec<u8>,
-) -> Result<Outcome, Failure>
+    page: &mut Page,
+) -> Result<Outcome, AllocError>
     requires none { fault ≢ FindFault.Memory → NoneAccepted tables.now }
     requires first { fault ≢ FindFault.Memory → IsFirstInTheWay tables.now fault }
-    ensures answer { Judged (AnswersReached tables.now) text.new.items result }
-    ensures memory { IfErr result (λ e. e ≡ Failure.Memory) }
+    ensures { Keeps (AnswersReached tables.now) page.new result }
 {
-    let outcome = keep_obstacle(tables, fault, text)?;
+    let outcome = tell_obstacle(tables, fault, page)?;
     let Ok(reached) = reach(alloc, tables, fault) else {
-        return Err(Failure::Memory);
+        return Err(AllocError);
     };
-    match append_first(tables, &reached.certificate, reached.jobs, text) {
+    match append_first(tables, &reached.certificate, reached.jobs, page) {
         Ok(()) => Ok(outcome),
-        Err(_) => Err(Failure::Memory),
+        Err(e) => Err(e),
     }
 }
 
 /// Finds the least certificate for tables, and keeps its verdict and the lines of its margins; where none is accepted,
 /// what stands in the way, and the lines of what the finder reached.
-fn judge_least(alloc: Global, tables: &Tables, text: &mut Vec<u8>) -> Result<Outcome, Failure>
-    ensures answer { Judged (AnswersRows tables.now) text.new.items result }
-    ensures memory { IfErr result (λ e. e ≡ Failure.Memory) }
+fn judge_least(alloc: Global, tables: &Tables, page: &mut Page) -> Result<Outcome, AllocError>
+    ensures { Keeps (AnswersRows tables.now) page.new result }
 {
     match find(alloc, tables) {
-        Ok(certificate) => judge(alloc, tables, &certificate, text),
-        Err(fault) => judge_obstacle(alloc, tables, fault, text),
+        Ok(certificate) => judge(alloc, tables, &certificate, page),
+        Err(fault) => judge_obstacle(alloc, tables, fault, page),
     }
 }
 
-/// Judges the least certificate for the tables that a source gives.
-fn judge_alone<T: Source>(
-    alloc: Global,
-    tables: &mut T,
-    text: &mut Vec<u8>,
-) -> Result<Outcome, Failure>
-    requires { IsCountable (T.state tables.old) }
-    ensures answer { (rows : List ℕ) → (T.state tables.old).remaining ≡ Some rows → Judged (AnswersTablesAlone rows) text.new.items result }
-    ensures source { Raises (T.state tables.old).failed (T.state tables.new).failed result }
-    ensures asks { AsksUpTo TEXT_LIMIT (T.state tables.old) (T.state tables.new) }
-    ensures sink { IfErr result (λ e. e ≢ Failure.Sink) }
-{
-    match load(alloc, tables) {
-        Ok(tables) => judge_least(alloc, &tables, text),
-        Err(Unloaded::Refused(fault)) => keep_unreadable(fault, text),
-        Err(Unloaded::Failed(failure)) => Err(failure),
+/// The verdict on the least certificate for tables and the lines of its margins; where none is accepted, what stands
+/// first in the way of every certificate, and the lines of what the finder reached.
+#[derive(Clone, Copy, Debug)]
+pub struct MarginsLeast;
+
+impl Tell<Tables> for MarginsLeast {
+    ghost answers = { λ _. AnswersRows };
+
+    fn tell(&self, alloc: Global, tables: Tables, page: &mut Page) -> Result<Outcome, AllocError> {
+        judge_least(alloc, &tables, page)
     }
 }
+
+/// The engine of `margins` without a certificate.
+pub const MARGINS_LEAST: ReadTables<Then<MarginsLeast>> = ReadTables(Then(MarginsLeast));
 
 /// Writes what `run_margins` writes of the least certificate for tables, which are read whole from their source, onto a
 /// sink; where none is accepted, a line that says what stands first in the way of every certificate, and then the lines
@@ -113,9 +108,9 @@ pub fn run_margins_least<T: Source, K: Sink>(alloc: Global, tables: &mut T, sink
     ensures left { LeavesSink (K.state sink.old).failed (K.state sink.new).failed (K.state sink.new).last_failed (K.state sink.new).hidden }
     ensures quiet { result ≢ Exit.Failed → (T.state tables.new).failed + (K.state sink.new).failed ≡ (T.state tables.old).failed + (K.state sink.old).failed }
 {
-    let mut text = Vec::new(alloc);
-    let judged = judge_alone(alloc, tables, &mut text);
-    let mut writer = LineWriter::new();
-    let ended = say(judged, text.as_slice(), &mut writer, sink);
-    report(ended, &mut writer, sink)
+    let mut given = With {
+        first: tables,
+        rest: End,
+    };
+    run(&(), alloc, &MARGINS_LEAST, &mut given, sink)
 }

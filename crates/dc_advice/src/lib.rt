@@ -5,5 +5,5 @@ mod least;
 mod lines;
 mod margins;
 
-pub use least::run_margins_least;
-pub use margins::run_margins;
+pub use least::{MARGINS_LEAST, MarginsLeast, run_margins_least};
+pub use margins::{MARGINS, Margins, run_margins};

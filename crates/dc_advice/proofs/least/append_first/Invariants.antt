@@ -4,4 +4,4 @@ use Rattle.dc_advice.specs.Margins.{fed, lines_of_first}
 use Rattle.dc_advice.proofs.least.append_first.Given as goal
 
 abbrev pub invariant-loop-job : goal.invariant-loop-job
-invariant-loop-job l = l.text.items ≡ l.initial.text.items ++ fed (lines_of_first l.job l.tables (certificate_rows l.certificate))
+invariant-loop-job l = l.page ≡ l.initial.page ++ fed (lines_of_first l.job l.tables (certificate_rows l.certificate))

@@ -2,9 +2,9 @@ use Rattle.dc_cert.specs.NamedRows.{named_rows}
 use Rattle.dc_advice.proofs.Finding.{obstacle_judged}
 use Rattle.dc_advice.proofs.least.judge_obstacle.Goals as goal
 
-pub returns-in-Ok-append_first-clause-answer : goal.returns-in-Ok-append_first-clause-answer
-returns-in-Ok-append_first-clause-answer c =
+pub returns-in-Ok-append_first : goal.returns-in-Ok-append_first
+returns-in-Ok-append_first c =
     let kept = c.in_ok-outcome.ensures in
     let got = c.in-Ok.ensures in
-    obstacle_judged c.args.tables.now c.args.fault (named_rows c.in-Ok.reached.certificate) c.in-Ok.reached.jobs c.keep_obstacle.new.line.items c.append_first.new.text.items c.in_ok-outcome.outcome
+    obstacle_judged c.args.tables.now c.args.fault (named_rows c.in-Ok.reached.certificate) c.in-Ok.reached.jobs c.tell_obstacle.new.page c.append_first.new.page c.in_ok-outcome.outcome
     (c.requires.none kept.fault) (c.requires.first kept.fault) got.jobs got.reached kept.kept c.in-Ok-append_first.ensures kept.outcome

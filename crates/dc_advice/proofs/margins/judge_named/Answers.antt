@@ -8,13 +8,13 @@ use Rattle.dc_advice.specs.Lines.{margin_text}
 use Rattle.dc_advice.specs.Margins.{answer_margins, fed, verdict_line, verdict_outcome}
 use Rattle.dc_advice.proofs.margins.judge_named.Goals as goal
 
-pub returns-in-Ok-keep_lines-clause-answer : goal.returns-in-Ok-keep_lines-clause-answer
-returns-in-Ok-keep_lines-clause-answer c =
+pub returns-in-Ok : goal.returns-in-Ok
+returns-in-Ok c =
     let t = c.args.tables.now in
     let claims = named_rows c.args.certificate.now in
     let line = c.as_slice-2.result.now in
-    let same = c.as_slice-3.ensures.value ∙ c.in-Ok.ensures.lines in
-    lines_judged (answer_margins t claims) (verdict_line t (verdict_of t claims)) (map (margin_text t) (margin_lines_of t (certificate_rows c.args.certificate.now))) line c.keep_lines.new.text.items
+    let same = c.as_slice-3.ensures.value ∙ c.in_ok-lines.ensures.lines in
+    lines_judged (answer_margins t claims) (verdict_line t (verdict_of t claims)) (map (margin_text t) (margin_lines_of t (certificate_rows c.args.certificate.now))) line c.keep_lines.new.page
     c.print_verdict-outcome.result (c.as_slice-2.ensures.value ∙ c.print_verdict-outcome.ensures.line ∙ ap (verdict_line t) c.verdict_fault-fault.ensures.exact)
-    (c.in-Ok-keep_lines.ensures ∙ ap (λ lines. line ++ fed (map (margin_text t) lines)) same) (named-lines t claims c.requires.named)
+    (c.in-Ok.ensures ∙ ap (λ lines. line ++ fed (map (margin_text t) lines)) same) (named-lines t claims c.requires.named)
     (c.print_verdict-outcome.ensures.outcome ∙ ap verdict_outcome c.verdict_fault-fault.ensures.exact)
