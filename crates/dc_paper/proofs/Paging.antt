@@ -1,125 +1,75 @@
--- What `report` answers, exit by exit.
-use Rattle.std.proofs.Common.{◌≡◌, ◌≢◌, ℕ, ◌+◌, ◌++◌, List, refl, sym, ap, subst, arith, codes, Option, Some, IfErr, IfOk, IfSome, Result, Ok, Err, inl, inr}
-use Rattle.dc_cert.specs.Faults.{fault_text}
+-- What `report` answers, and what it reports from what the frame does.
+use Rattle.std.proofs.Common.{◌≡◌, ◌≢◌, ℕ, ◌+◌, List, [], ◌∷◌, refl, ap, subst, Option, IfOk, Result, Ok, Err, inl, inr}
 use Rattle.dc_cert.specs.NamedRows.{NamedRows, named_rows}
-use Rattle.dc_cert.specs.Reading.{certificate_of}
-use Rattle.dc_cert.specs.declared.certificate.Certificate.{Certificate}
-use Rattle.dc_cert.specs.declared.fault.Fault.{Fault}
+use Rattle.dc_cert.specs.Reading.{Reading, certificate_of}
 use Rattle.dc_check.specs.Verdict.{verdict_of}
 use Rattle.dc_find.specs.Least.{IsLeastAccepted, NoneAccepted}
 use Rattle.dc_find.specs.Ways.{IsFirstInTheWay}
 use Rattle.dc_find.specs.declared.fault.FindFault.{FindFault}
 use Rattle.dc_find.specs.declared.fault.FindFault.TheVariants.{Memory as NoMemory}
-use Rattle.dc_parts.specs.FaultText.{table_fault_text}
-use Rattle.dc_parts.specs.declared.fault.BuildError.TheVariants.{Refused as RefusedTables}
-use Rattle.dc_parts.specs.declared.fault.TableFault.{TableFault}
+use Rattle.dc_parts.specs.declared.fault.BuildError.TheVariants.{Refused as RefusedTables, Memory as NoTables}
 use Rattle.dc_tables.specs.TableRows.{TableRows}
-use Rattle.dc_toml.specs.Reading.{tables_of}
-use Rattle.dc_answer.specs.Answer.{Answer, Raises, one_line}
-use Rattle.dc_answer.specs.Inputs.{Loads, LoadsCertificate}
-use Rattle.dc_answer.specs.Judging.{Judged}
-use Rattle.dc_answer.specs.declared.answer.Failure.{Failure}
-use Rattle.dc_answer.specs.declared.answer.Failure.TheVariants.{Source, Sink, Memory}
+use Rattle.dc_answer.specs.Answer.{Answer, Reported, WholeOrNone, one_line}
+use Rattle.dc_answer.specs.Exits.{is_answered}
+use Rattle.dc_answer.specs.Inputs.{AnswersCertificate, AnswersTables, AnswersClaims as FrameClaims}
+use Rattle.dc_answer.specs.Judging.{Keeps}
+use Rattle.dc_answer.specs.declared.exit.Exit.{Exit}
 use Rattle.dc_answer.specs.declared.exit.Outcome.{Outcome}
-use Rattle.dc_answer.specs.declared.exit.Outcome.TheVariants.{Done, Refused as WasRefused, Unreadable}
-use Rattle.dc_answer.specs.declared.inputs.Unloaded.TheVariants.{Refused}
-use Rattle.dc_answer.specs.lemmas.Judgments.{judged_as, one_said}
+use Rattle.dc_answer.specs.declared.exit.Outcome.TheVariants.{Done, Refused as WasRefused}
+use Rattle.dc_answer.specs.lemmas.Judgments.{one_said}
+use Rattle.dc_answer.specs.lemmas.Plain.{of_one, of_two, reported_as, whole_as}
 use Rattle.dc_app.specs.Find.{obstacle_text}
-use Rattle.dc_paper.specs.Paper.{AnswersClaims, AnswersLeast, AnswersReport, AnswersRows, outcome_of}
+use Rattle.dc_paper.specs.Paper.{AnswersClaims, AnswersLeast, AnswersReport, AnswersRows, IsPage, ReportsLeast, ReportsPage, outcome_of}
 
--- a text of which nothing is said, with its outcome
-pub page_judged : (Is : Answer → Type 0) (text : List ℕ) (outcome : Outcome) (result : Result Outcome Failure) → IfOk result (λ o. o ≡ outcome) → IfErr result (λ e. e ≡ Memory)
-    → ((page : List ℕ) → Is (one_line page outcome)) → Judged Is text result
-page_judged Is text outcome (Ok o) is failed make = one_said Is text text o refl (subst (λ x. Is (one_line text x)) (sym is) (make text))
-page_judged Is text outcome (Err Source) is failed make = tt
-page_judged Is text outcome (Err Memory) is failed make = tt
-page_judged Is text outcome (Err Sink) is failed make = absurd (cc)
+-- ---- what is told
 
--- a line that is known, with its outcome
-pub line_judged : (Is : Answer → Type 0) (text line : List ℕ) (outcome : Outcome) (result : Result Outcome Failure) → IfOk result (λ x. text ≡ line) → IfOk result (λ o. o ≡ outcome) → IfErr result (λ e. e ≡ Memory)
-    → Is (one_line line outcome) → Judged Is text result
-line_judged Is text line outcome (Ok o) kept is failed said = one_said Is text line o kept (subst (λ x. Is (one_line line x)) (sym is) said)
-line_judged Is text line outcome (Err Source) kept is failed said = tt
-line_judged Is text line outcome (Err Memory) kept is failed said = tt
-line_judged Is text line outcome (Err Sink) kept is failed said = absurd (cc)
+-- a page of which nothing is said, with its outcome
+pub page_kept : {E : Type 0} (text : List ℕ) (outcome : Outcome) (result : Result Outcome E) → IfOk result (λ o. o ≡ outcome) → Keeps (IsPage outcome) text result
+page_kept text outcome (Ok o) is = one_said (IsPage outcome) text text o refl (text, ap (one_line text) is)
+page_kept text outcome (Err e) is = tt
 
--- ---- the text of a certificate
+pub found_kept : {E : Type 0} (t : TableRows) (claims : NamedRows) (text : List ℕ) (result : Result Outcome E) → IsLeastAccepted t claims → IfOk result (λ o. o ≡ Done) → Keeps (AnswersRows t) text result
+found_kept t claims text (Ok o) least is = one_said (AnswersRows t) text text o refl (inl (claims, least, (text, ap (one_line text) is)))
+found_kept t claims text (Err e) least is = tt
 
-pub given_judged : (t : TableRows) (r : Option (List ℕ)) (given text : List ℕ) (certificate : Certificate) (result : Result Outcome Failure) → r ≡ Some given
-    → IfSome r (λ x. LoadsCertificate (certificate_of x) (Ok certificate)) → IfOk result (λ o. o ≡ outcome_of (verdict_of t (named_rows certificate))) → IfErr result (λ e. e ≡ Memory)
-    → Judged (λ answer. AnswersClaims t answer (certificate_of given)) text result
-given_judged t r given text certificate result e loads is failed =
-    let outcome : Outcome = outcome_of (verdict_of t (named_rows certificate)) in
-    let read : certificate_of given ≡ Ok (named_rows certificate) = rw e at loads in
-    page_judged (λ answer. AnswersClaims t answer (certificate_of given)) text outcome result is failed
-    (λ page. subst (λ reading. AnswersClaims t (one_line page outcome) reading) (sym read) (page, refl))
-
-pub refused_judged : (t : TableRows) (r : Option (List ℕ)) (given text : List ℕ) (fault printed : Fault) (result : Result Outcome Failure) → r ≡ Some given
-    → IfSome r (λ x. LoadsCertificate (certificate_of x) (Err (Refused fault))) → printed ≡ fault
-    → IfOk result (λ x. text ≡ codes "unreadable " ++ fault_text printed) → IfOk result (λ o. o ≡ Unreadable) → IfErr result (λ e. e ≡ Memory)
-    → Judged (λ answer. AnswersClaims t answer (certificate_of given)) text result
-refused_judged t r given text fault printed result e loads same kept is failed =
-    let line : List ℕ = codes "unreadable " ++ fault_text printed in
-    let read : certificate_of given ≡ Err fault = rw e at loads in
-    line_judged (λ answer. AnswersClaims t answer (certificate_of given)) text line Unreadable result kept is failed
-    (subst (λ reading. AnswersClaims t (one_line line Unreadable) reading) (sym read) (ap (λ f. one_line (codes "unreadable " ++ fault_text f) Unreadable) same))
-
--- ---- the text of tables
-
--- they were read, and the certificate judged
-pub both_judged : (t : TableRows) (r s : Option (List ℕ)) (rows given text : List ℕ) (result : Result Outcome Failure) → r ≡ Some rows → s ≡ Some given
-    → IfSome r (λ x. Loads (tables_of x) (Ok t)) → ((x : List ℕ) → s ≡ Some x → Judged (λ answer. AnswersClaims t answer (certificate_of x)) text result) → Judged (AnswersReport rows given) text result
-both_judged t r s rows given text result e f loads judged =
-    let reported = rw e at loads in
-    judged_as (λ answer. AnswersClaims t answer (certificate_of given)) (AnswersReport rows given) text result (λ answer is. (Ok t, reported, is)) (judged given f)
-
--- they were refused
-pub unread_judged : (r : Option (List ℕ)) (rows given text : List ℕ) (fault printed : TableFault) (result : Result Outcome Failure) → r ≡ Some rows
-    → IfSome r (λ x. Loads (tables_of x) (Err (Refused fault))) → printed ≡ fault
-    → IfOk result (λ x. text ≡ codes "unreadable " ++ table_fault_text printed) → IfOk result (λ o. o ≡ Unreadable) → IfErr result (λ e. e ≡ Memory) → Judged (AnswersReport rows given) text result
-unread_judged r rows given text fault printed result e loads same kept is failed =
-    let reported = rw e at loads in
-    line_judged (AnswersReport rows given) text (codes "unreadable " ++ table_fault_text printed) Unreadable result kept is failed
-    (Err (RefusedTables fault), reported, ap (λ f. one_line (codes "unreadable " ++ table_fault_text f) Unreadable) same)
-
--- ---- without a certificate
-
-pub found_judged : (t : TableRows) (claims : NamedRows) (text : List ℕ) (result : Result Outcome Failure) → IsLeastAccepted t claims
-    → IfOk result (λ o. o ≡ Done) → IfErr result (λ e. e ≡ Memory) → Judged (AnswersRows t) text result
-found_judged t claims text result least is failed = page_judged (AnswersRows t) text Done result is failed (λ page. inl (claims, least, (page, refl)))
-
-pub obstacle_judged : (t : TableRows) (fault : FindFault) (text : List ℕ) (result : Result Outcome Failure) → (fault ≢ NoMemory → NoneAccepted t) → (fault ≢ NoMemory → IsFirstInTheWay t fault)
-    → IfOk result (λ x. text ≡ obstacle_text t fault) → IfOk result (λ o. o ≡ WasRefused) → IfErr result (λ e. e ≡ Memory) → IfOk result (λ x. fault ≢ NoMemory) → Judged (AnswersRows t) text result
-obstacle_judged t fault text (Ok o) none first kept is failed some =
+pub obstacle_kept : {E : Type 0} (t : TableRows) (fault : FindFault) (text : List ℕ) (result : Result Outcome E) → (fault ≢ NoMemory → NoneAccepted t) → (fault ≢ NoMemory → IsFirstInTheWay t fault)
+    → IfOk result (λ x. text ≡ obstacle_text t fault) → IfOk result (λ o. o ≡ WasRefused) → IfOk result (λ x. fault ≢ NoMemory) → Keeps (AnswersRows t) text result
+obstacle_kept t fault text (Ok o) none first kept is some =
     one_said (AnswersRows t) text (obstacle_text t fault) o kept (inr (record { fault = fault; none = none some; first = first some; said = ap (one_line (obstacle_text t fault)) is }))
-obstacle_judged t fault text (Err Source) none first kept is failed some = tt
-obstacle_judged t fault text (Err Memory) none first kept is failed some = tt
-obstacle_judged t fault text (Err Sink) none first kept is failed some = absurd (cc)
+obstacle_kept t fault text (Err e) none first kept is some = tt
 
-pub alone_judged : (t : TableRows) (r : Option (List ℕ)) (rows text : List ℕ) (result : Result Outcome Failure) → r ≡ Some rows
-    → IfSome r (λ x. Loads (tables_of x) (Ok t)) → Judged (AnswersRows t) text result → Judged (AnswersLeast rows) text result
-alone_judged t r rows text result e loads judged = let reported = rw e at loads in judged_as (AnswersRows t) (AnswersLeast rows) text result (λ answer is. (Ok t, reported, is)) judged
+-- ---- what is reported
 
-pub alone_unread : (r : Option (List ℕ)) (rows text : List ℕ) (fault printed : TableFault) (result : Result Outcome Failure) → r ≡ Some rows
-    → IfSome r (λ x. Loads (tables_of x) (Err (Refused fault))) → printed ≡ fault
-    → IfOk result (λ x. text ≡ codes "unreadable " ++ table_fault_text printed) → IfOk result (λ o. o ≡ Unreadable) → IfErr result (λ e. e ≡ Memory) → Judged (AnswersLeast rows) text result
-alone_unread r rows text fault printed result e loads same kept is failed =
-    let reported = rw e at loads in
-    line_judged (AnswersLeast rows) text (codes "unreadable " ++ table_fault_text printed) Unreadable result kept is failed
-    (Err (RefusedTables fault), reported, ap (λ f. one_line (codes "unreadable " ++ table_fault_text f) Unreadable) same)
+abbrev pub ReportFrame : List ℕ → List ℕ → Answer → Type 0
+ReportFrame rows given = AnswersTables (λ t. AnswersCertificate (λ c texts answer. IsPage (outcome_of (verdict_of t (named_rows c))) answer)) (rows ∷ given ∷ [])
 
--- ---- what failed
+abbrev pub LeastFrame : List ℕ → Answer → Type 0
+LeastFrame rows = AnswersTables (λ t texts answer. AnswersRows t answer) (rows ∷ [])
 
--- the source failed no more, and what was judged tells of none that did
-pub judged_raises : (a a' : ℕ) (result : Result Outcome Failure) → a' ≡ a + 0 → IfErr result (λ e. e ≡ Memory) → Raises a a' result
-judged_raises a a' (Ok s) e failed = omega arith
-judged_raises a a' (Err Source) e failed = absurd (cc)
-judged_raises a a' (Err Sink) e failed = absurd (cc)
-judged_raises a a' (Err Memory) e failed = omega arith
+claims_as : (t : TableRows) (reading : Reading NamedRows) (answer : Answer) → FrameClaims (λ c texts a. IsPage (outcome_of (verdict_of t (named_rows c))) a) [] answer reading
+    → AnswersClaims t answer reading
+claims_as t (Ok claims) answer (c, same, is) = subst (λ n. IsPage (outcome_of (verdict_of t n)) answer) same is
+claims_as t (Err fault) answer is = is
 
-memory_not_sink : Memory ≢ Sink
-memory_not_sink e = cc
+page_as : (rows given : List ℕ) (answer : Answer) → ReportFrame rows given answer → AnswersReport rows given answer
+page_as rows given answer (Ok t, tells, is) = (Ok t, tells, claims_as t (certificate_of given) answer is)
+page_as rows given answer (Err (RefusedTables fault), tells, is) = (Err (RefusedTables fault), tells, is)
+page_as rows given answer (Err (NoTables e), tells, is) = absurd is
 
-pub judged_not_sink : (result : Result Outcome Failure) → IfErr result (λ e. e ≡ Memory) → IfErr result (λ e. e ≢ Sink)
-judged_not_sink (Ok s) failed = tt
-judged_not_sink (Err failure) failed = subst (λ e. e ≢ Sink) (sym failed) memory_not_sink
+least_as : (rows : List ℕ) (answer : Answer) → LeastFrame rows answer → AnswersLeast rows answer
+least_as rows answer (Ok t, tells, is) = (Ok t, tells, is)
+least_as rows answer (Err (RefusedTables fault), tells, is) = (Err (RefusedTables fault), tells, is)
+least_as rows answer (Err (NoTables e), tells, is) = absurd is
+
+pub page_reports : (rows given : List ℕ) (old new : Option (List ℕ)) (a a' b b' k k' : ℕ) (exit : Exit)
+    → Reported (WholeOrNone (ReportFrame rows given) (is_answered exit)) old new (a + (b + 0)) (a' + (b' + 0)) k k' exit → ReportsPage rows given old new (a + b) (a' + b') k k' exit
+page_reports rows given old new a a' b b' k k' exit r =
+    reported_as (WholeOrNone (ReportFrame rows given) (is_answered exit)) (WholeOrNone (AnswersReport rows given) (is_answered exit)) old new (a + b) (a' + b') k k' exit
+    (whole_as (ReportFrame rows given) (AnswersReport rows given) (is_answered exit) (page_as rows given))
+    (of_two (WholeOrNone (ReportFrame rows given) (is_answered exit)) old new k k' exit a a' b b' r)
+
+pub least_reports : (rows : List ℕ) (old new : Option (List ℕ)) (a a' k k' : ℕ) (exit : Exit)
+    → Reported (WholeOrNone (LeastFrame rows) (is_answered exit)) old new (a + 0) (a' + 0) k k' exit → ReportsLeast rows old new a a' k k' exit
+least_reports rows old new a a' k k' exit r =
+    reported_as (WholeOrNone (LeastFrame rows) (is_answered exit)) (WholeOrNone (AnswersLeast rows) (is_answered exit)) old new a a' k k' exit
+    (whole_as (LeastFrame rows) (AnswersLeast rows) (is_answered exit) (least_as rows)) (of_one (WholeOrNone (LeastFrame rows) (is_answered exit)) old new k k' exit a a' r)

@@ -1,48 +1,44 @@
 //! `report` without a certificate: the least one is taken.
-ghost use Rattle.std.specs.Prelude.{◌≡◌, ◌≢◌, ℕ, List, ◌+◌, ◌<◌, IfErr, IfOk, Some};
-ghost use Rattle.dc_answer.specs.Answer.{Any, LeavesSink, Raises, Reported};
-ghost use Rattle.dc_answer.specs.Judging.{Judged};
-ghost use Rattle.dc_paper.specs.Paper.{AnswersLeast, AnswersRows, ReportsLeast};
-ghost use Rattle.dc_parts.specs.declared.limits.TheConstants.{TEXT_LIMIT};
+ghost use Rattle.std.specs.Prelude.{◌≡◌, ◌≢◌, ℕ, List, ◌+◌, ◌<◌, Some};
+ghost use Rattle.dc_answer.specs.Answer.{Any, LeavesSink, Reported};
+ghost use Rattle.dc_answer.specs.Judging.{Keeps};
 ghost use Rattle.dc_device.specs.States.{AsksUpTo, CanFail, IsCountable};
+ghost use Rattle.dc_parts.specs.declared.limits.TheConstants.{TEXT_LIMIT};
+ghost use Rattle.dc_paper.specs.Paper.{AnswersRows, ReportsLeast};
 
 use crate::pages::keep_page;
-use dc_answer::{Exit, Failure, Outcome, Unloaded, load, report, say};
-use dc_app::{keep_obstacle, keep_unreadable};
-use dc_device::{LineWriter, Sink, Source};
+use dc_answer::{End, Exit, Outcome, Page, ReadTables, Tell, Then, With, run};
+use dc_app::tell_obstacle;
+use dc_device::{Sink, Source};
 use dc_find::find;
 use dc_tables::Tables;
-use std::alloc::Global;
+use std::alloc::{AllocError, Global};
 
-/// Finds the least certificate for tables, and makes the page on it.
-fn judge_least(alloc: Global, tables: &Tables, text: &mut Vec<u8>) -> Result<Outcome, Failure>
-    ensures answer { Judged (AnswersRows tables.now) text.new.items result }
-    ensures memory { IfErr result (λ e. e ≡ Failure.Memory) }
+/// Finds the least certificate for tables, and keeps the page on it.
+fn report_least(alloc: Global, tables: &Tables, page: &mut Page) -> Result<Outcome, AllocError>
+    ensures { Keeps (AnswersRows tables.now) page.new result }
 {
     match find(alloc, tables) {
-        Ok(certificate) => keep_page(alloc, tables, &certificate, None, text),
-        Err(fault) => keep_obstacle(tables, fault, text),
+        Ok(certificate) => keep_page(alloc, tables, &certificate, None, page),
+        Err(fault) => tell_obstacle(tables, fault, page),
     }
 }
 
-/// Makes the page of the tables that a source gives.
-fn judge_alone<T: Source>(
-    alloc: Global,
-    tables: &mut T,
-    text: &mut Vec<u8>,
-) -> Result<Outcome, Failure>
-    requires { IsCountable (T.state tables.old) }
-    ensures answer { (rows : List ℕ) → (T.state tables.old).remaining ≡ Some rows → Judged (AnswersLeast rows) text.new.items result }
-    ensures source { Raises (T.state tables.old).failed (T.state tables.new).failed result }
-    ensures asks { AsksUpTo TEXT_LIMIT (T.state tables.old) (T.state tables.new) }
-    ensures sink { IfErr result (λ e. e ≢ Failure.Sink) }
-{
-    match load(alloc, tables) {
-        Ok(tables) => judge_least(alloc, &tables, text),
-        Err(Unloaded::Refused(fault)) => keep_unreadable(fault, text),
-        Err(Unloaded::Failed(failure)) => Err(failure),
+/// Makes the page on the least certificate for tables; where none is accepted, one line that says what stands first in
+/// the way of every certificate. No clause says what stands in the page: it is tested.
+#[derive(Clone, Copy, Debug)]
+pub struct ReportLeast;
+
+impl Tell<Tables> for ReportLeast {
+    ghost answers = { λ _. AnswersRows };
+
+    fn tell(&self, alloc: Global, tables: Tables, page: &mut Page) -> Result<Outcome, AllocError> {
+        report_least(alloc, &tables, page)
     }
 }
+
+/// The engine of `report` without a certificate.
+pub const REPORT_LEAST: ReadTables<Then<ReportLeast>> = ReadTables(Then(ReportLeast));
 
 /// Writes the page on the least certificate for tables, which are read whole from their source, onto a sink; where none
 /// is accepted, one line that says what stands first in the way of every certificate. No clause says what stands in the
@@ -64,9 +60,9 @@ pub fn run_report_least<T: Source, K: Sink>(alloc: Global, tables: &mut T, sink:
     ensures left { LeavesSink (K.state sink.old).failed (K.state sink.new).failed (K.state sink.new).last_failed (K.state sink.new).hidden }
     ensures quiet { result ≢ Exit.Failed → (T.state tables.new).failed + (K.state sink.new).failed ≡ (T.state tables.old).failed + (K.state sink.old).failed }
 {
-    let mut text = Vec::new(alloc);
-    let judged = judge_alone(alloc, tables, &mut text);
-    let mut writer = LineWriter::new();
-    let ended = say(judged, text.as_slice(), &mut writer, sink);
-    report(ended, &mut writer, sink)
+    let mut given = With {
+        first: tables,
+        rest: End,
+    };
+    run(&(), alloc, &REPORT_LEAST, &mut given, sink)
 }

@@ -5,5 +5,5 @@ mod given;
 mod least;
 mod pages;
 
-pub use given::run_report;
-pub use least::run_report_least;
+pub use given::{REPORT, Report, run_report};
+pub use least::{REPORT_LEAST, ReportLeast, run_report_least};

@@ -1,16 +1,14 @@
 //! Pages that are kept until they are written.
-ghost use Rattle.std.specs.Prelude.{◌≡◌, IfErr, IfOk};
+ghost use Rattle.std.specs.Prelude.{◌≡◌, IfOk};
 ghost use Rattle.dc_cert.specs.NamedRows.{named_rows};
 ghost use Rattle.dc_check.specs.Verdict.{verdict_of};
 ghost use Rattle.dc_paper.specs.Paper.{outcome_of};
 
-use dc_answer::{Failure, Outcome};
-use dc_app::keep;
+use dc_answer::{Outcome, Page};
 use dc_cert::Certificate;
 use dc_check::CheckFault;
-use dc_report::page;
 use dc_tables::Tables;
-use std::alloc::Global;
+use std::alloc::{AllocError, Global};
 
 /// The outcome of a verdict: accepted, or a fault.
 fn outcome(fault: Option<CheckFault>) -> Outcome
@@ -23,19 +21,20 @@ fn outcome(fault: Option<CheckFault>) -> Outcome
 }
 
 /// Keeps the page on a certificate, given the fault of its verdict, with the outcome of that.
+///
+/// # Errors
+/// `AllocError` where memory was refused.
 pub fn keep_page(
     alloc: Global,
     tables: &Tables,
     certificate: &Certificate,
     fault: Option<CheckFault>,
-    text: &mut Vec<u8>,
-) -> Result<Outcome, Failure>
+    page: &mut Page,
+) -> Result<Outcome, AllocError>
     requires { fault ≡ verdict_of tables.now (named_rows certificate.now) }
     ensures outcome { IfOk result (λ o. o ≡ outcome_of fault) }
-    ensures memory { IfErr result (λ e. e ≡ Failure.Memory) }
 {
-    match page(alloc, tables, certificate, fault) {
-        Ok(page) => keep(page.as_bytes(), outcome(fault), text),
-        Err(_) => Err(Failure::Memory),
-    }
+    let text = dc_report::page(alloc, tables, certificate, fault)?;
+    page.keep(text.as_bytes())?;
+    Ok(outcome(fault))
 }
