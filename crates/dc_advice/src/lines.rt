@@ -139,7 +139,7 @@ fn append_by(text: &mut Text, tables: &Tables, margin: Option<Margin>)
     }
 }
 
-// The line of a margin: list, name, code, number, what it counts and what decides it, parted by spaces.
+/// The line of a margin: list, name, code, number, what it counts and what decides it, parted by spaces.
 #[tactic(auto, unfolding(crate::specs::Lines::margin_text))]
 pub(crate) fn print_margin(text: &mut Text, tables: &Tables, line: &MarginLine)
     requires { IsLinePlaced tables.now line.now }
