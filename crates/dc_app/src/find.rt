@@ -1,79 +1,22 @@
 //! `find`: the least certificate, or what stands in the way of one, in one line.
-ghost use Rattle.std.specs.Prelude.{◌≡◌, ◌≢◌, ℕ, List, ◌++◌, ◌+◌, ◌-◌, ◌<◌, ◌≤◌, codes, length, take, IfErr, IfOk, Some};
-ghost use Rattle.std.specs.Vec.{vec_len};
+ghost use Rattle.std.specs.Prelude.{◌≡◌, ◌≢◌, ℕ, List, ◌+◌, ◌-◌, ◌<◌, ◌≤◌, length, take, IfOk, Some};
 ghost use Rattle.dc_answer.specs.Answer.{Any, LeavesSink, Reported};
 ghost use Rattle.dc_answer.specs.Judging.{Keeps};
 ghost use Rattle.dc_cert.specs.NamedRows.{named_rows};
 ghost use Rattle.dc_device.specs.States.{AsksUpTo, CanFail, IsCountable};
 ghost use Rattle.dc_find.specs.Ways.{IsFirstInTheWay};
-ghost use Rattle.dc_parts.specs.FaultText.{table_fault_text};
 ghost use Rattle.dc_parts.specs.declared.limits.TheConstants.{TEXT_LIMIT};
 ghost use Rattle.dc_app.specs.Find.{AnswersRows, ReportsFind, Tells, obstacle_text};
 
 use crate::obstacles::print_obstacle;
-use dc_answer::{End, Exit, Failure, Outcome, Page, ReadTables, Tell, Then, With, run};
+use dc_answer::{End, Exit, Outcome, Page, ReadTables, Tell, Then, With, run};
 use dc_cert::{Certificate, cert_text};
 use dc_check::laws::accepted_certificates_keep_their_claims;
 use dc_device::{Sink, Source};
 use dc_find::FindFault;
-use dc_parts::TableFault;
-use dc_print::{Text, print_table_fault};
+use dc_print::Text;
 use dc_tables::Tables;
 use std::alloc::{AllocError, Global};
-
-/// Keeps a text for an outcome.
-///
-/// # Errors
-/// `Memory` where memory was refused.
-pub fn keep(bytes: &[u8], outcome: Outcome, line: &mut Vec<u8>) -> Result<Outcome, Failure>
-    ensures kept { IfOk result (λ _. line.new.items ≡ bytes.now) }
-    ensures len { IfOk result (λ _. vec_len line.new ≡ length bytes.now) }
-    ensures outcome { IfOk result (λ o. o ≡ outcome) }
-    ensures memory { IfErr result (λ e. e ≡ Failure.Memory) }
-{
-    line.clear();
-    match line.extend_from_slice(bytes) {
-        Ok(()) => Ok(outcome),
-        Err(_) => Err(Failure::Memory),
-    }
-}
-
-/// Keeps the line of what stands in the way, for `Refused`.
-///
-/// # Errors
-/// `Memory` where memory was refused, now or before.
-pub fn keep_obstacle(
-    tables: &Tables,
-    fault: FindFault,
-    line: &mut Vec<u8>,
-) -> Result<Outcome, Failure>
-    requires { fault ≢ FindFault.Memory → IsFirstInTheWay tables.now fault }
-    ensures kept { IfOk result (λ _. line.new.items ≡ obstacle_text tables.now fault) }
-    ensures outcome { IfOk result (λ o. o ≡ Outcome.Refused) }
-    ensures memory { IfErr result (λ e. e ≡ Failure.Memory) }
-    ensures fault { IfOk result (λ _. fault ≢ FindFault.Memory) }
-{
-    if fault.obstacle().is_none() {
-        return Err(Failure::Memory);
-    }
-    let mut text = Text::new();
-    print_obstacle(&mut text, tables, fault);
-    keep(text.as_slice(), Outcome::Refused, line)
-}
-
-/// Keeps the line of the first fault of the tables' text, for `Unreadable`.
-///
-/// # Errors
-/// `Memory` where memory was refused.
-pub fn keep_unreadable(fault: TableFault, line: &mut Vec<u8>) -> Result<Outcome, Failure>
-    ensures kept { IfOk result (λ _. line.new.items ≡ codes "unreadable " ++ table_fault_text fault) }
-    ensures outcome { IfOk result (λ o. o ≡ Outcome.Unreadable) }
-    ensures memory { IfErr result (λ e. e ≡ Failure.Memory) }
-{
-    let mut text = Text::new();
-    print_table_fault(&mut text, fault);
-    keep(text.as_slice(), Outcome::Unreadable, line)
-}
 
 /// Keeps the line of a text that ends in a line feed.
 fn keep_line(text: &[u8], page: &mut Page) -> Result<Outcome, AllocError>

@@ -17,7 +17,7 @@ mod threads;
 pub use audit::{AUDIT, Audit, append_claims, run_audit};
 pub use check::{CHECK, Check, judge, run_check};
 pub use decode::run_decode;
-pub use find::{FIND, Find, keep, keep_obstacle, keep_unreadable, run_find, tell_obstacle};
+pub use find::{FIND, Find, run_find, tell_obstacle};
 pub use par::{Workers, run_check_par, workers_engine};
 pub use replay::run_replay;
 pub use stages::{Known, OnlyAccepted, ReadRun};
