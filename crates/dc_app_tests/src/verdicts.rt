@@ -2,7 +2,9 @@
 
 use dc_build::read_tables;
 use dc_cert::{Certificate, read_cert};
-use dc_check::{CertificateList, CheckFault, Condition, check, job_fault, misnamed, verdict};
+use dc_check::{
+    CertificateList, CheckFault, Condition, Fitted, check, job_fault, misnamed, verdict,
+};
 use dc_tables::Tables;
 use dc_trials::{push_small_certificate, push_small_tables};
 use std::alloc::Global;
@@ -41,7 +43,11 @@ fn fault_of_job(tables: &Tables, certificate: &Certificate, job: usize) -> Optio
     if job >= tables.bus_count() + tables.output_count() + tables.label_count() {
         return None;
     }
-    job_fault(tables, certificate, job)
+    let fitted = Fitted {
+        tables,
+        certificate,
+    };
+    job_fault(&fitted, job)
 }
 
 #[test]

@@ -12,7 +12,7 @@ ghost use Rattle.dc_find.specs.declared.fault.FindFault.TheVariants.{Memory};
 use crate::fault::FindFault;
 use crate::rows::{input_rows, label_rows, output_rows};
 use dc_cert::Certificate;
-use dc_check::job_fault;
+use dc_check::{Fitted, job_fault};
 use dc_tables::Tables;
 use std::alloc::Global;
 
@@ -26,7 +26,11 @@ fn broken_rule(tables: &Tables, certificate: &Certificate) -> Option<FindFault>
     tables.valid();
     let queues = tables.bus_count() + tables.output_count();
     for label in 0..tables.label_count() {
-        if let Some(fault) = job_fault(tables, certificate, queues + label) {
+        let fitted = Fitted {
+            tables,
+            certificate,
+        };
+        if let Some(fault) = job_fault(&fitted, queues + label) {
             return Some(FindFault::LabelRule(label, fault.condition));
         }
     }
