@@ -4,7 +4,7 @@ ghost use Rattle.dc_bound.specs.Window.{ticks_of};
 ghost use Rattle.dc_bound.specs.Early.{jitter_cap, HoldsCap};
 ghost use Rattle.dc_bound.specs.lemmas.Caps.{holds_cap-count, holds_cap-prefix, jitter_cap-mono};
 ghost use Rattle.dc_bound.specs.lemmas.Multiples.{multiple_zero, multiple_mono, multiple_bounded};
-ghost use Rattle.dc_bound.specs.declared.limits.TheConstants.{MOST_SOURCES};
+ghost use Rattle.dc_bound.specs.declared.limits.TheConstants.{MOST_ALIKE};
 
 use crate::arrival::ArrivalBound;
 use crate::jitter::Jittered;
@@ -12,19 +12,19 @@ use crate::jitter::Jittered;
 /// So many sources of one minimum and one jitter: any d consecutive ticks hold at most so many times the cap of one.
 #[derive(Clone, Copy, Debug)]
 pub struct Alike {
-    /// How many sources, 1 to [`MOST_SOURCES`](crate::MOST_SOURCES).
+    /// How many sources, 1 to [`MOST_ALIKE`](crate::MOST_ALIKE).
     pub sources: u32,
     /// The bound of each.
     pub each: Jittered,
     ghost some: { 1 ≤ sources },
-    ghost few: { sources ≤ MOST_SOURCES },
+    ghost few: { sources ≤ MOST_ALIKE },
 }
 
 impl Alike {
-    /// The bound of so many sources, 1 to [`MOST_SOURCES`](crate::MOST_SOURCES), that each keep `each`.
+    /// The bound of so many sources, 1 to [`MOST_ALIKE`](crate::MOST_ALIKE), that each keep `each`.
     pub fn new(sources: u32, each: Jittered) -> Alike
         requires some { 1 ≤ sources }
-        requires few { sources ≤ MOST_SOURCES }
+        requires few { sources ≤ MOST_ALIKE }
         ensures sources { result.sources ≡ sources }
         ensures each { result.each ≡ each }
         ensures cap { (d : ℕ) → ⟦<Alike as ArrivalBound>⟧.cap result d ≡ sources * jitter_cap each.minimum each.jitter d }

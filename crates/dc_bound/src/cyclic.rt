@@ -6,7 +6,7 @@ ghost use Rattle.dc_bound.specs.Frame.{due, IsDue, Offsets};
 ghost use Rattle.dc_bound.specs.Frame.{cyclic_cap};
 ghost use Rattle.dc_bound.specs.lemmas.Spans.{cyclic_zero, cap_grows, cyclic_bounded, cyclic_holds, due_prefix};
 ghost use Rattle.dc_bound.specs.Frame.{IsLeastSpan};
-ghost use Rattle.dc_bound.specs.declared.limits.TheConstants.{LONGEST_FRAME, LONGEST_SPAN, MOST_OFFSETS};
+ghost use Rattle.dc_bound.specs.declared.limits.TheConstants.{LONGEST_FRAME, LONGEST_SPAN, MOST_ENTRIES};
 
 use crate::arrival::ArrivalBound;
 use crate::limits::LONGEST_SPAN;
@@ -18,17 +18,17 @@ pub struct Cyclic<'a> {
     offsets: &'a [u32],
     ghost framed: { Offsets frame offsets.now },
     ghost short: { frame ≤ LONGEST_FRAME },
-    ghost few: { length offsets.now ≤ MOST_OFFSETS },
+    ghost few: { length offsets.now ≤ MOST_ENTRIES },
 }
 
 impl<'a> Cyclic<'a> {
     /// The bound of entries that are due in each frame of `frame` ticks, at most
-    /// [`LONGEST_FRAME`](crate::LONGEST_FRAME), at `offsets` from its start: 1 to [`MOST_OFFSETS`](crate::MOST_OFFSETS)
+    /// [`LONGEST_FRAME`](crate::LONGEST_FRAME), at `offsets` from its start: 1 to [`MOST_ENTRIES`](crate::MOST_ENTRIES)
     /// of them, ascending and below the frame.
     pub fn new(frame: u32, offsets: &'a [u32]) -> Cyclic<'a>
         requires framed { Offsets frame offsets.now }
         requires short { frame ≤ LONGEST_FRAME }
-        requires few { length offsets.now ≤ MOST_OFFSETS }
+        requires few { length offsets.now ≤ MOST_ENTRIES }
         ensures cap { (d : ℕ) → ⟦<Cyclic<'a> as ArrivalBound>⟧.cap result d ≡ cyclic_cap frame offsets.now d }
         ensures allows { (xs : List (ℕ × ℕ)) → ⟦<Cyclic<'a> as ArrivalBound>⟧.allows result xs ↔ IsDue frame offsets.now xs }
     {
@@ -85,7 +85,7 @@ fn due_of(frame: u32, offsets: &[u32], n: usize) -> u64
 fn most_in_rest(frame: u32, offsets: &[u32], ticks: u32) -> u64
     requires framed { Offsets frame offsets.now }
     requires short { ticks ≤ frame }
-    requires few { length offsets.now ≤ MOST_OFFSETS }
+    requires few { length offsets.now ≤ MOST_ENTRIES }
     ensures { result ≡ cyclic_cap frame offsets.now ticks }
 {
     let mut best: usize = 0;
@@ -100,7 +100,7 @@ fn most_in_rest(frame: u32, offsets: &[u32], ticks: u32) -> u64
 /// The least span of k + 1 neighbouring entries: whole frames, and the rest of the last.
 fn least_span(frame: u32, offsets: &[u32], k: usize) -> u64
     requires framed { Offsets frame offsets.now }
-    requires few { length offsets.now ≤ MOST_OFFSETS }
+    requires few { length offsets.now ≤ MOST_ENTRIES }
     requires near { k ≤ LONGEST_SPAN }
     ensures { IsLeastSpan frame offsets.now k (length offsets.now) result }
 {
@@ -113,7 +113,7 @@ fn least_span(frame: u32, offsets: &[u32], k: usize) -> u64
 /// The least span of k + 1 neighbouring entries, at most a frame's.
 fn least_span_in_rest(frame: u32, offsets: &[u32], k: usize) -> u64
     requires framed { Offsets frame offsets.now }
-    requires few { length offsets.now ≤ MOST_OFFSETS }
+    requires few { length offsets.now ≤ MOST_ENTRIES }
     requires rest { k < length offsets.now }
     ensures span { IsLeastSpan frame offsets.now k (length offsets.now) result }
     ensures small { result ≤ 2 * frame }

@@ -5,7 +5,7 @@ ghost use Rattle.dc_bound.specs.Early.{jitter_cap, HoldsCap};
 ghost use Rattle.dc_bound.specs.lemmas.Caps.{jitter_cap-mono, jitter_cap-bounded, holds_cap-count, holds_cap-prefix};
 ghost use Rattle.dc_bound.specs.Capping.{capped, WireHolds};
 ghost use Rattle.dc_bound.specs.lemmas.CappingLaws.{capped-zero, capped-mono, capped-bounded, capped-holds, capped-prefix};
-ghost use Rattle.dc_bound.specs.declared.limits.TheConstants.{GREATEST_JITTER};
+ghost use Rattle.dc_bound.specs.declared.limits.TheConstants.{WIDEST_JITTER};
 
 use crate::arrival::{ArrivalBound, Wire, jump_at, later};
 
@@ -15,18 +15,18 @@ use crate::arrival::{ArrivalBound, Wire, jump_at, later};
 pub struct Jittered {
     /// The least number of ticks from a word to the next without jitter, at least 1.
     pub minimum: u32,
-    /// The jitter in ticks, at most [`GREATEST_JITTER`](crate::GREATEST_JITTER).
+    /// The jitter in ticks, at most [`WIDEST_JITTER`](crate::WIDEST_JITTER).
     pub jitter: u32,
     ghost positive: { 1 ≤ minimum },
-    ghost small: { jitter ≤ GREATEST_JITTER },
+    ghost small: { jitter ≤ WIDEST_JITTER },
 }
 
 impl Jittered {
     /// The bound of a source of `minimum`, 1 or more, with a jitter of at most
-    /// [`GREATEST_JITTER`](crate::GREATEST_JITTER) ticks.
+    /// [`WIDEST_JITTER`](crate::WIDEST_JITTER) ticks.
     pub fn new(minimum: u32, jitter: u32) -> Jittered
         requires positive { 1 ≤ minimum }
-        requires small { jitter ≤ GREATEST_JITTER }
+        requires small { jitter ≤ WIDEST_JITTER }
         ensures minimum { result.minimum ≡ minimum }
         ensures jitter { result.jitter ≡ jitter }
         ensures cap { (d : ℕ) → ⟦<Jittered as ArrivalBound>⟧.cap result d ≡ jitter_cap minimum jitter d }

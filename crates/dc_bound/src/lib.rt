@@ -14,7 +14,7 @@ pub use arrival::{ArrivalBound, Both, Sporadic, SumOf, Wire};
 pub use cyclic::Cyclic;
 pub use jitter::{Capped, Jittered};
 pub use limits::{
-    GREATEST_CAP, GREATEST_JITTER, LONGEST_FRAME, LONGEST_SPAN, LONGEST_TICK, MOST_OFFSETS,
-    MOST_PLACES, MOST_SOURCES,
+    GREATEST_CAP, GREATEST_QUEUE, LONGEST_FRAME, LONGEST_SPAN, LONGEST_TICK, MOST_ALIKE,
+    MOST_ENTRIES, MOST_PLACES, WIDEST_JITTER,
 };
 pub use service::{Paced, ServiceBound, Visits};

@@ -9,9 +9,6 @@ pub const NAME_LIMIT: usize = 16;
 /// The shortest tick, in microseconds.
 pub const SHORTEST_TICK: u32 = 100;
 
-/// The longest tick, in microseconds.
-pub const LONGEST_TICK: u32 = 10_000;
-
 /// The longest interval of a parameter, in microseconds.
 pub const LONGEST_INTERVAL_US: u32 = 60_000_000;
 
@@ -24,17 +21,11 @@ pub const GREATEST_JITTER_US: u32 = 60_000_000;
 /// The greatest jitter of a stream in ticks: as many as the shortest ticks in it.
 pub const GREATEST_JITTER: u32 = 600_000;
 
-/// The greatest capacity of a bus's queue, in words.
-pub const GREATEST_QUEUE: u32 = 4096;
-
 /// The most steps of a router or of an output, within its time or in one tick.
 pub const MOST_STEPS: u32 = 1000;
 
 /// The longest time within which a router or an output makes its steps, in ticks.
 pub const LONGEST_WITHIN: u32 = 1000;
-
-/// The longest frame of an output, in ticks.
-pub const LONGEST_FRAME: u32 = 100_000;
 
 /// The last offset in a frame, in ticks: one tick before the end of the longest frame.
 pub const LAST_OFFSET: u32 = 99_999;
@@ -74,6 +65,3 @@ pub const MOST_STREAMS: usize = 1024;
 
 /// The most labels of all outputs.
 pub const MOST_LABELS: usize = 1024;
-
-/// The most entries in the frame of an output.
-pub const MOST_ENTRIES: usize = 1024;

@@ -35,7 +35,7 @@ pub struct BusPart {
     pub name: Name,
     /// Its speed.
     pub speed: Speed,
-    /// The capacity of its receive queue in words, 1 to [`GREATEST_QUEUE`](crate::GREATEST_QUEUE).
+    /// The capacity of its receive queue in words, 1 to [`GREATEST_QUEUE`](dc_bound::GREATEST_QUEUE).
     pub queue: u32,
     /// Whether it refuses early words.
     pub police: bool,
@@ -85,7 +85,7 @@ pub struct OutputPart {
     pub steps: u32,
     /// In so many ticks, 1 to [`LONGEST_WITHIN`](crate::LONGEST_WITHIN), it makes `steps` sends or more.
     pub within: u32,
-    /// After so many ticks, 1 to [`LONGEST_FRAME`](crate::LONGEST_FRAME), its entries are due again.
+    /// After so many ticks, 1 to [`LONGEST_FRAME`](dc_bound::LONGEST_FRAME), its entries are due again.
     pub frame: u32,
 }
 
@@ -181,7 +181,7 @@ impl Parts {
     ghost use Rattle.dc_parts.specs.Document.{IsInOrder, with_parameter, with_bus, with_stream, with_router, with_output, with_label, empty_document};
 
     /// Tables of this version with nothing in them but the length of a tick in microseconds, which is not bounded yet:
-    /// the rule T06 asks for [`SHORTEST_TICK`](crate::SHORTEST_TICK) to [`LONGEST_TICK`](crate::LONGEST_TICK).
+    /// the rule T06 asks for [`SHORTEST_TICK`](crate::SHORTEST_TICK) to [`LONGEST_TICK`](dc_bound::LONGEST_TICK).
     pub fn new(alloc: Global, version: Version, tick_us: u32) -> Parts
         ensures { result ≡ empty_document version tick_us }
     {

@@ -1,17 +1,14 @@
 //! The receive queue of a bus.
 ghost use Rattle.std.specs.Prelude.{◌≡◌, ℕ, ◌+◌, ◌<◌, ◌≤◌, [], ◌∷◌, ◌++◌, length, drop, slice_get, IfOk, IsOk, OnOk, OnErr, IsTrue, ◌↔◌};
 ghost use Rattle.dc_queue.specs.QueueData.{QueueData};
-ghost use Rattle.dc_queue.specs.declared.queue.TheConstants.{GREATEST_QUEUE};
+ghost use Rattle.dc_bound.specs.declared.limits.TheConstants.{GREATEST_QUEUE};
 
 use circular_buffer::HeapCircularBuffer;
 use dc_word::Word;
 use std::alloc::{AllocError, Global};
 use std::marker::Model;
 
-/// The greatest limit of a queue, in words: this project's own number, as in the tables.
-pub const GREATEST_QUEUE: u32 = 4096;
-
-/// The receive queue of a bus: at most `limit` words, first in, first out. A limit is at most [`GREATEST_QUEUE`].
+/// The receive queue of a bus: at most `limit` words, first in, first out. A limit is at most [`GREATEST_QUEUE`](dc_bound::GREATEST_QUEUE).
 #[derive(Drop)]
 pub struct WordQueue {
     words: HeapCircularBuffer<Word>,
@@ -20,7 +17,7 @@ pub struct WordQueue {
 impl Model for WordQueue {
     ghost use Rattle.std.specs.Prelude.{ℕ, ◌≤◌, length};
     ghost use Rattle.dc_queue.specs.QueueData.{QueueData};
-    ghost use Rattle.dc_queue.specs.declared.queue.TheConstants.{GREATEST_QUEUE};
+    ghost use Rattle.dc_bound.specs.declared.limits.TheConstants.{GREATEST_QUEUE};
 
     ghost Value = { QueueData };
 

@@ -29,7 +29,8 @@ use Rattle.dc_parts.specs.Ticks.{output_gap}
 use Rattle.dc_parts.specs.Keys.{same_parameter, parameter_key, stream_key, label_key}
 use Rattle.dc_parts.specs.Names.{number_of}
 use Rattle.dc_tables.specs.Sdis.{sdis_meet}
-use Rattle.dc_parts.specs.declared.limits.TheConstants.{GREATEST_AGE, GREATEST_JITTER_US, GREATEST_QUEUE, LAST_OFFSET, LONGEST_FRAME, LONGEST_INTERVAL_US, LONGEST_STALE, LONGEST_TICK, LONGEST_WITHIN, MOST_BUSES, MOST_ENTRIES, MOST_LABELS, MOST_MEMBERS, MOST_OFFSETS, MOST_OUTPUTS, MOST_PARAMETERS, MOST_ROUTERS, MOST_SOURCES, MOST_STEPS, MOST_STREAMS, MOST_VISITS, SHORTEST_TICK}
+use Rattle.dc_bound.specs.declared.limits.TheConstants.{GREATEST_QUEUE, LONGEST_FRAME, LONGEST_TICK, MOST_ENTRIES}
+use Rattle.dc_parts.specs.declared.limits.TheConstants.{GREATEST_AGE, GREATEST_JITTER_US, LAST_OFFSET, LONGEST_INTERVAL_US, LONGEST_STALE, LONGEST_WITHIN, MOST_BUSES, MOST_LABELS, MOST_MEMBERS, MOST_OFFSETS, MOST_OUTPUTS, MOST_PARAMETERS, MOST_ROUTERS, MOST_SOURCES, MOST_STEPS, MOST_STREAMS, MOST_VISITS, SHORTEST_TICK}
 
 -- ---- what is reported
 

@@ -28,9 +28,9 @@ use crate::shape::{
     bus_shape, check_top, count_members, label_shape, output_shape, parameter_shape, router_shape,
     stream_owners, stream_shape,
 };
+use dc_bound::MOST_ENTRIES;
 use dc_parts::{
-    BuildError, LabelPart, MOST_ENTRIES, MOST_LABELS, MOST_STREAMS, Parts, Section, StreamPart,
-    TableRule,
+    BuildError, LabelPart, MOST_LABELS, MOST_STREAMS, Parts, Section, StreamPart, TableRule,
 };
 use dc_tables::{NameIndex, Names};
 use std::alloc::{AllocError, Global};

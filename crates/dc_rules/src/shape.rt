@@ -8,13 +8,13 @@ ghost use Rattle.dc_rules.specs.Rules.{bus_shapes, stream_shapes, router_shapes,
 ghost use Rattle.dc_parts.specs.Document.{stream_owners};
 
 use crate::breach::{Breach, breach_at, earlier_of, refuse};
+use dc_bound::{GREATEST_QUEUE, LONGEST_FRAME, LONGEST_TICK};
 use dc_dict::Parameter;
 use dc_parts::{
-    BuildError, BusPart, GREATEST_AGE, GREATEST_JITTER_US, GREATEST_QUEUE, LAST_OFFSET,
-    LONGEST_FRAME, LONGEST_INTERVAL_US, LONGEST_STALE, LONGEST_TICK, LONGEST_WITHIN, LabelPart,
-    MOST_BUSES, MOST_MEMBERS, MOST_OFFSETS, MOST_OUTPUTS, MOST_PARAMETERS, MOST_ROUTERS,
-    MOST_SOURCES, MOST_STEPS, MOST_VISITS, OutputPart, Parts, RouterPart, SHORTEST_TICK, Section,
-    StreamPart, TableRule,
+    BuildError, BusPart, GREATEST_AGE, GREATEST_JITTER_US, LAST_OFFSET, LONGEST_INTERVAL_US,
+    LONGEST_STALE, LONGEST_WITHIN, LabelPart, MOST_BUSES, MOST_MEMBERS, MOST_OFFSETS, MOST_OUTPUTS,
+    MOST_PARAMETERS, MOST_ROUTERS, MOST_SOURCES, MOST_STEPS, MOST_VISITS, OutputPart, Parts,
+    RouterPart, SHORTEST_TICK, Section, StreamPart, TableRule,
 };
 use std::alloc::{AllocError, Global};
 

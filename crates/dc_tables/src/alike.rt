@@ -3,7 +3,7 @@ ghost use Rattle.std.specs.Prelude.{All, ◌≡◌, ◌+◌, ◌-◌, ◌*◌, �
 ghost use Rattle.std.specs.List.{sum_by};
 ghost use Rattle.dc_tables.specs.TableRows.{stream_cap};
 ghost use Rattle.dc_tables.specs.Bounds.{AreBounds, AreBoundsOf, jittered_cap, alike_cap};
-ghost use Rattle.dc_bound.specs.declared.limits.TheConstants.{GREATEST_JITTER};
+ghost use Rattle.dc_bound.specs.declared.limits.TheConstants.{WIDEST_JITTER};
 ghost use Rattle.dc_parts.specs.declared.limits.TheConstants.{MOST_STREAMS};
 
 use crate::bounds::piece;
@@ -31,7 +31,7 @@ impl BusBounds {
     /// The bounds of these streams.
     fn of(alloc: Global, streams: &[Stream]) -> Result<BusBounds, AllocError>
         requires few { length streams.now ≤ MOST_STREAMS }
-        requires bounded { All (λ s. (1 ≤ s.minimum) × (s.jitter ≤ GREATEST_JITTER)) streams.now }
+        requires bounded { All (λ s. (1 ≤ s.minimum) × (s.jitter ≤ WIDEST_JITTER)) streams.now }
         ensures { IfOk result (λ b. AreBoundsOf b streams.now) }
     {
         let mut bounds = stream_bounds(alloc, streams)?;
@@ -55,7 +55,7 @@ pub(crate) fn bus_bounds(
     streams: &[Stream],
 ) -> Result<Vec<BusBounds>, AllocError>
     requires few { length streams.now ≤ MOST_STREAMS }
-    requires bounded { All (λ s. (1 ≤ s.minimum) × (s.jitter ≤ GREATEST_JITTER)) streams.now }
+    requires bounded { All (λ s. (1 ≤ s.minimum) × (s.jitter ≤ WIDEST_JITTER)) streams.now }
     requires there { All (λ b. b.first + b.streams ≤ length streams.now) buses.now }
     ensures { IfOk result (λ v. AreBounds v.items buses.now streams.now) }
 {
@@ -69,7 +69,7 @@ pub(crate) fn bus_bounds(
 
 /// The bound of each stream.
 fn stream_bounds(alloc: Global, streams: &[Stream]) -> Result<Vec<Jittered>, AllocError>
-    requires { All (λ s. (1 ≤ s.minimum) × (s.jitter ≤ GREATEST_JITTER)) streams.now }
+    requires { All (λ s. (1 ≤ s.minimum) × (s.jitter ≤ WIDEST_JITTER)) streams.now }
     ensures number { IfOk result (λ v. length v.items ≡ length streams.now) }
     ensures sum { IfOk result (λ v. (d : ℕ) → sum_by (jittered_cap d) v.items ≡ sum_by (stream_cap d) streams.now) }
 {

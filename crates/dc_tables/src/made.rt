@@ -1,7 +1,7 @@
 //! The rows of tables, and what is kept beside them.
 ghost use Rattle.std.specs.Prelude.{All, ◌≡◌, ◌+◌, ◌≤◌, length, IfOk};
 ghost use Rattle.dc_tables.specs.Bounds.{AreBounds, frame_offsets};
-ghost use Rattle.dc_bound.specs.declared.limits.TheConstants.{GREATEST_JITTER};
+ghost use Rattle.dc_bound.specs.declared.limits.TheConstants.{WIDEST_JITTER};
 ghost use Rattle.dc_parts.specs.declared.limits.TheConstants.{MOST_STREAMS};
 
 use crate::alike::{BusBounds, bus_bounds};
@@ -34,7 +34,7 @@ pub(crate) struct Kept {
 /// What is kept beside these rows.
 pub(crate) fn make_kept(alloc: Global, rows: &Rows) -> Result<Kept, AllocError>
     requires few { length rows.now.streams.items ≤ MOST_STREAMS }
-    requires bounded { All (λ s. (1 ≤ s.minimum) × (s.jitter ≤ GREATEST_JITTER)) rows.now.streams.items }
+    requires bounded { All (λ s. (1 ≤ s.minimum) × (s.jitter ≤ WIDEST_JITTER)) rows.now.streams.items }
     requires there { All (λ b. b.first + b.streams ≤ length rows.now.streams.items) rows.now.buses.items }
     ensures bounds { IfOk result (λ k. AreBounds k.bounds.items rows.now.buses.items rows.now.streams.items) }
     ensures offsets { IfOk result (λ k. k.offsets.items ≡ frame_offsets rows.now.outputs.items) }

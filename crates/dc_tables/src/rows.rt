@@ -9,7 +9,7 @@ use std::marker::Model;
 /// limits are this project's own, as in `dc_parts`.
 #[derive(Clone, Copy, Debug, PartialEq)]
 pub struct Bus {
-    /// The capacity of its receive queue in words, 1 to [`GREATEST_QUEUE`](dc_parts::GREATEST_QUEUE).
+    /// The capacity of its receive queue in words, 1 to [`GREATEST_QUEUE`](dc_bound::GREATEST_QUEUE).
     pub queue: u32,
     /// Whether it refuses early words.
     pub police: bool,
@@ -65,9 +65,9 @@ pub struct Output {
     pub within: u32,
     /// How many ticks two of its sends lie apart at least, 1 or more.
     pub gap: u32,
-    /// After so many ticks, 1 to [`LONGEST_FRAME`](dc_parts::LONGEST_FRAME), its entries are due again.
+    /// After so many ticks, 1 to [`LONGEST_FRAME`](dc_bound::LONGEST_FRAME), its entries are due again.
     pub frame: u32,
-    /// The entries of its frame in ascending order of offset, 1 to [`MOST_ENTRIES`](dc_parts::MOST_ENTRIES) of them.
+    /// The entries of its frame in ascending order of offset, 1 to [`MOST_ENTRIES`](dc_bound::MOST_ENTRIES) of them.
     pub entries: Entries,
 }
 

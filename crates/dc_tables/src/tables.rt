@@ -166,7 +166,7 @@ impl Tables {
     }
 
     /// The length of a tick in microseconds, [`SHORTEST_TICK`](dc_parts::SHORTEST_TICK) to
-    /// [`LONGEST_TICK`](dc_parts::LONGEST_TICK).
+    /// [`LONGEST_TICK`](dc_bound::LONGEST_TICK).
     pub fn tick_us(&self) -> u32
         ensures { result ≡ self.now.tick_us }
     {
@@ -252,7 +252,7 @@ impl Tables {
         &self.labels[label]
     }
 
-    /// The capacity of a bus's queue in words, 1 to [`GREATEST_QUEUE`](dc_parts::GREATEST_QUEUE).
+    /// The capacity of a bus's queue in words, 1 to [`GREATEST_QUEUE`](dc_bound::GREATEST_QUEUE).
     pub fn queue(&self, bus: usize) -> u32
         requires { bus < length self.now.buses }
         ensures { result ≡ (bus_row self.now bus).queue }

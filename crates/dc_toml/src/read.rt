@@ -9,10 +9,11 @@ use crate::keys::{known, number, present, version};
 use crate::lists::optional_tables;
 use crate::place::TablePlace;
 use crate::sections::read_tables_of;
+use dc_bound::LONGEST_TICK;
 use dc_dict::Parameter;
 use dc_parts::{
-    BuildError, BusPart, LONGEST_TICK, MOST_BUSES, MOST_OUTPUTS, MOST_PARAMETERS, MOST_ROUTERS,
-    OutputPart, Parts, RouterPart, SHORTEST_TICK, Section, TEXT_LIMIT, TableFault, TableRule,
+    BuildError, BusPart, MOST_BUSES, MOST_OUTPUTS, MOST_PARAMETERS, MOST_ROUTERS, OutputPart,
+    Parts, RouterPart, SHORTEST_TICK, Section, TEXT_LIMIT, TableFault, TableRule,
 };
 use std::alloc::{AllocError, Global};
 use toml::{Table, Value};

@@ -13,11 +13,12 @@ use crate::keys::{
 };
 use crate::lists::{names, offsets, tables};
 use crate::place::TablePlace;
+use dc_bound::{GREATEST_QUEUE, LONGEST_FRAME};
 use dc_dict::Parameter;
 use dc_parts::{
-    BuildError, BusPart, GREATEST_AGE, GREATEST_QUEUE, LONGEST_FRAME, LONGEST_INTERVAL_US,
-    LONGEST_STALE, LONGEST_WITHIN, LabelPart, MOST_MEMBERS, MOST_OFFSETS, MOST_SOURCES, MOST_STEPS,
-    MOST_VISITS, OutputPart, Parts, RouterPart, Section, StreamPart,
+    BuildError, BusPart, GREATEST_AGE, LONGEST_INTERVAL_US, LONGEST_STALE, LONGEST_WITHIN,
+    LabelPart, MOST_MEMBERS, MOST_OFFSETS, MOST_SOURCES, MOST_STEPS, MOST_VISITS, OutputPart,
+    Parts, RouterPart, Section, StreamPart,
 };
 use std::alloc::{AllocError, Global};
 use toml::Value;

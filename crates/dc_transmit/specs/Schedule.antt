@@ -4,7 +4,7 @@ use Rattle.dc_bound.specs.Frame.{due_of_entry, due_so_far, IsFrame}
 use Rattle.dc_tables.specs.TableRows.{TableRows, output_row}
 use Rattle.dc_tables.specs.declared.rows.Entry.{Entry}
 use Rattle.dc_transmit.specs.Gaps.{gaps, least_gap, greatest_gap}
-use Rattle.dc_bound.specs.declared.limits.TheConstants.{LONGEST_FRAME, MOST_OFFSETS}
+use Rattle.dc_bound.specs.declared.limits.TheConstants.{LONGEST_FRAME, MOST_ENTRIES}
 
 -- what a clause sees of a schedule
 pub record ScheduleData : Type 0 where
@@ -54,5 +54,5 @@ greatest_label_gap s x = greatest_gap off (is_of_label x) s.frame s.entries
 -- offsets ascend below the frame; there is an entry, and entries and frame are within their limits
 pub record IsSchedule (frame : ℕ) (entries : List Entry) : Type 0 where
   pub framed : IsFrame off no_entry frame entries
-  pub few : length entries ≤ MOST_OFFSETS
+  pub few : length entries ≤ MOST_ENTRIES
   pub short : frame ≤ LONGEST_FRAME
