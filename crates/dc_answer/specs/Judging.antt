@@ -22,14 +22,6 @@ abbrev pub Keeps : {E : Type 0} → (Answer → Type 0) → List ℕ → Result 
 Keeps Is text (Ok outcome) = Says Is text outcome
 Keeps Is text (Err e) = Unit {0}
 
--- The text and the outcome are those of an answer that is such, its lines parted by line feeds; or memory was refused, or
--- a source failed.
-abbrev pub Judged : (Answer → Type 0) → List ℕ → Result Outcome Failure → Type 0
-Judged Is text (Ok outcome) = (answer : Answer) × Is answer × (text ++ 10 ∷ [] ≡ spelled answer.lines) × (outcome ≡ answer.outcome)
-Judged Is text (Err Source) = Unit {0}
-Judged Is text (Err NoMemory) = Unit {0}
-Judged Is text (Err Sink) = ⊥
-
 -- how the failures of its sources rise: a result that tells of one has counted it
 abbrev pub Raised : ℕ → ℕ → Result Outcome Unjudged → Type 0
 Raised sources sources' (Ok outcome) = sources' ≡ sources

@@ -3,7 +3,7 @@ ghost use Rattle.std.specs.Prelude.{◌≡◌, ◌≢◌, ℕ, List, Option, [],
 ghost use Rattle.dc_device.specs.Bytes.{Writes};
 ghost use Rattle.dc_device.specs.Device.{Settles, failures_of};
 ghost use Rattle.dc_device.specs.States.{CanFail, IsCountable};
-ghost use Rattle.dc_answer.specs.Answer.{Asks, Causes, Ends, LeavesSink, ReportsBy, SeesAll, SettlesBy, dry_in, fault, fault_text, judged_answer, sink_failures_of};
+ghost use Rattle.dc_answer.specs.Answer.{Asks, Causes, Ends, LeavesSink, ReportsBy, SeesAll, SettlesBy, dry_in, fault, fault_text, sink_failures_of};
 ghost use Rattle.dc_answer.specs.Exits.{exit_of};
 
 use crate::exit::{Exit, Outcome};
@@ -109,36 +109,6 @@ pub fn ask<S: Source, K: Sink>(
             Ok(more) => Ok(more),
             Err(_) => Err(Failure::Source),
         },
-    }
-}
-
-/// Writes the line of what was judged, where there is one.
-///
-/// # Errors
-/// As was judged; `Sink` where the sink failed: that call is its last.
-pub fn say<K: Sink>(
-    judged: Result<Outcome, Failure>,
-    line: &[u8],
-    writer: &mut LineWriter,
-    sink: &mut K,
-) -> Result<Outcome, Failure>
-    requires new { writer.old ≡ [] }
-    requires countable { CanFail (K.state sink.old) }
-    requires sink { IfErr judged (λ e. e ≢ Failure.Sink) }
-    ensures bytes { Ends (K.state sink.old).contents [] (K.state sink.new).contents (judged_answer line.now judged) result }
-    ensures empty { writer.new ≡ [] }
-    ensures count { (K.state sink.new).failed ≡ (K.state sink.old).failed + sink_failures_of result }
-    ensures same { IfOk result (λ outcome. judged ≡ Ok outcome) }
-    ensures failure { IfErr result (λ e. e ≢ Failure.Sink → judged ≡ Err e) }
-    ensures settled { SettlesBy result (K.state sink.new).last_failed (K.state sink.new).hidden }
-    ensures answered { (K.state sink.new).answered ≡ (K.state sink.old).answered }
-{
-    match judged {
-        Ok(outcome) => match end_with(writer, sink, line) {
-            Ok(()) => Ok(outcome),
-            Err(_) => Err(Failure::Sink),
-        },
-        Err(failure) => Err(failure),
     }
 }
 

@@ -11,7 +11,7 @@ mod page;
 mod runner;
 mod stages;
 
-pub use answer::{Failure, ask, end_at, end_with, print_fault, report, say};
+pub use answer::{Failure, ask, end_at, end_with, print_fault, report};
 pub use exit::{Exit, Outcome};
 pub use given::{End, Given, With};
 pub use inputs::{Unloaded, load, load_certificate};

@@ -13,4 +13,3 @@ pub mod Says
 pub mod Sharing
 pub mod Shown
 pub mod StepLemmas
-pub mod Threading

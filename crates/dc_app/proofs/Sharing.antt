@@ -1,5 +1,5 @@
 -- What several workers say of tables that they share.
-use Rattle.std.proofs.Common.{◌≡◌, ◌↔◌, ℕ, List, refl, subst, Option, Some, None, Ok, Result}
+use Rattle.std.proofs.Common.{◌≡◌, ◌↔◌, ℕ, List, refl, subst, Option, Some, None}
 use Rattle.dc_cert.specs.NamedRows.{NamedRows}
 use Rattle.dc_check.specs.Accepts.{Accepts}
 use Rattle.dc_check.specs.Certified.{KeepsItsClaims}
@@ -8,10 +8,9 @@ use Rattle.dc_check.specs.Verdict.{verdict_of}
 use Rattle.dc_check.specs.declared.fault.CheckFault.{CheckFault}
 use Rattle.dc_print.specs.Verdicts.{accepted_text, refused_text}
 use Rattle.dc_tables.specs.TableRows.{TableRows}
-use Rattle.dc_answer.specs.Judging.{Keeps, Says}
+use Rattle.dc_answer.specs.Judging.{Says}
 use Rattle.dc_answer.specs.declared.exit.Outcome.{Outcome}
 use Rattle.dc_answer.specs.declared.exit.Outcome.TheVariants.{Done as WasDone, Refused as WasRefused}
-use Rattle.dc_answer.specs.declared.judge.Unjudged.{Unjudged}
 use Rattle.dc_answer.specs.lemmas.Judgments.{one_said}
 use Rattle.dc_app.specs.Check.{AnswersVerdict}
 
@@ -37,7 +36,3 @@ module _ (t shared : TableRows) (claims : NamedRows) (line : List ℕ) where
   shared_refused printed fault given same print_same at some is =
       refused t claims line fault (subst (λ u. verdict_of u claims ≡ Some fault) same some.0)
       (subst (λ u. line ≡ refused_text u fault) print_same (subst (λ f. line ≡ refused_text printed f) at is))
-
-pub shared_judged : (t shared : TableRows) (claims : NamedRows) (page : List ℕ) (result : Result Outcome Unjudged) → shared ≡ t → Keeps (AnswersVerdict shared claims) page result
-    → Keeps (AnswersVerdict t claims) page result
-shared_judged t shared claims page result same h = subst (λ u. Keeps (AnswersVerdict u claims) page result) same h

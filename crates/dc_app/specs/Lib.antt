@@ -5,5 +5,4 @@ pub mod Find
 pub mod Refusals
 pub mod Replay
 pub mod Steps
-pub mod Texts
 pub mod Stages

@@ -10,9 +10,9 @@ mod par;
 mod recording;
 mod replay;
 mod replies;
+mod sharing;
 mod stages;
 mod steps;
-mod threads;
 
 pub use audit::{AUDIT, Audit, append_claims, run_audit};
 pub use check::{CHECK, Check, judge, run_check};
@@ -20,5 +20,5 @@ pub use decode::run_decode;
 pub use find::{FIND, Find, run_find, tell_obstacle};
 pub use par::{Workers, run_check_par, workers_engine};
 pub use replay::run_replay;
+pub use sharing::{JudgeShared, Shared};
 pub use stages::{Known, OnlyAccepted, ReadRun};
-pub use threads::{Judge, NoThread, run_in_threads};

@@ -1,7 +1,6 @@
 //! `check --workers`: the verdict on a certificate by several workers, in one line.
 ghost use Rattle.std.specs.Prelude.{◌≡◌, ◌≢◌, ◌⊎◌, ℕ, List, [], ◌+◌, ◌<◌, ◌≤◌, IfErr, IfOk, IfSome, MatchResult, None, Some};
 ghost use Rattle.std.specs.Arc.{arc_value};
-ghost use Rattle.std.specs.Thread.{IsSync};
 ghost use Rattle.dc_answer.specs.Answer.{Any, LeavesSink, Reported};
 ghost use Rattle.dc_answer.specs.Inputs.{OnlyBehind};
 ghost use Rattle.dc_answer.specs.Judging.{Keeps};
@@ -16,9 +15,8 @@ ghost use Rattle.dc_parts.specs.declared.limits.TheConstants.{TEXT_LIMIT};
 ghost use Rattle.dc_toml.specs.Reading.{tables_of};
 ghost use Rattle.dc_app.specs.Check.{AnswersVerdict, ReportsCheck};
 
-use dc_answer::{
-    End, Exit, Judge, Outcome, Page, ReadCertificate, ReadTables, Unjudged, With, run,
-};
+use crate::sharing::{JudgeShared, Shared};
+use dc_answer::{End, Exit, Outcome, ReadCertificate, ReadTables, Unjudged, With, run};
 use dc_cert::Certificate;
 use dc_check::laws::no_fault_is_acceptance;
 use dc_checkpar::{Open, ParFault, check_par};
@@ -81,44 +79,6 @@ fn judge_by<R: Threads + Wait + Sync>(
     }
 }
 
-/// The same, kept on a page.
-fn keep_by<R: Threads + Wait + Sync>(
-    rt: &R,
-    alloc: Global,
-    workers: u8,
-    tables: &Arc<Tables>,
-    certificate: Certificate,
-    page: &mut Page,
-) -> Result<Outcome, Unjudged>
-    requires { (1 ≤ workers) × (workers ≤ MOST_WORKERS) }
-    ensures answer { Keeps (AnswersVerdict (arc_value tables.now) (named_rows certificate)) page.new result }
-    ensures cause { IfErr result (λ e. e ≢ Unjudged.Device) }
-{
-    let mut line = Text::new();
-    let judged = judge_by(rt, alloc, workers, tables, certificate, &mut line);
-    page.tell(line);
-    judged
-}
-
-/// The same, for tables that are to be shared.
-fn share_and_judge<R: Threads + Wait + Sync>(
-    rt: &R,
-    alloc: Global,
-    workers: u8,
-    tables: Tables,
-    certificate: Certificate,
-    page: &mut Page,
-) -> Result<Outcome, Unjudged>
-    requires { (1 ≤ workers) × (workers ≤ MOST_WORKERS) }
-    ensures answer { Keeps (AnswersVerdict tables (named_rows certificate)) page.new result }
-    ensures cause { IfErr result (λ e. e ≢ Unjudged.Device) }
-{
-    match Arc::new(alloc, tables) {
-        Ok(tables) => keep_by(rt, alloc, workers, &tables, certificate, page),
-        Err(_) => Err(Unjudged::Memory),
-    }
-}
-
 /// The workers that judge, 1 to the most workers.
 #[derive(Clone, Copy, Debug, PartialEq, Eq)]
 pub struct Workers {
@@ -126,35 +86,28 @@ pub struct Workers {
     pub count: u8,
 }
 
-impl<R: Threads + Wait + Sync> Judge<R, (Tables, Certificate), End> for Workers {
-    ghost may_judge = { λ w. (1 ≤ w.count) × (w.count ≤ MOST_WORKERS) × IsSync R.row };
+impl JudgeShared for Workers {
+    ghost may_judge = { λ w. (1 ≤ w.count) × (w.count ≤ MOST_WORKERS) };
 
-    ghost starts_threads = { λ w. Unit {0} };
+    ghost answers = { λ w t claims. AnswersVerdict t claims };
 
-    ghost limits = { λ w. [] };
-
-    ghost goes_on = { λ w known texts. Unit {0} };
-
-    ghost answers = { λ w known texts answer. AnswersVerdict known.0 (named_rows known.1) answer };
-
-    fn judge(
+    fn judge_shared<R: Threads + Wait + Sync>(
         &self,
         rt: &R,
         alloc: Global,
-        known: (Tables, Certificate),
-        _given: &mut End,
-        page: &mut Page,
+        tables: &Arc<Tables>,
+        certificate: Certificate,
+        text: &mut Text,
     ) -> Result<Outcome, Unjudged> {
-        let (tables, certificate) = known;
-        share_and_judge(rt, alloc, self.count, tables, certificate, page)
+        judge_by(rt, alloc, self.count, tables, certificate, text)
     }
 }
 
 /// The engine of `check --workers`.
-pub fn workers_engine(count: u8) -> ReadTables<ReadCertificate<Workers>>
-    ensures { result.0.0.count ≡ count }
+pub fn workers_engine(count: u8) -> ReadTables<ReadCertificate<Shared<Workers>>>
+    ensures { result.0.0.0.count ≡ count }
 {
-    ReadTables(ReadCertificate(Workers { count }))
+    ReadTables(ReadCertificate(Shared(Workers { count })))
 }
 
 /// Judges a certificate for tables by so many workers, 1 to [`MOST_WORKERS`](dc_checkpar::MOST_WORKERS), as

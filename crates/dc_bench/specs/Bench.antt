@@ -24,7 +24,7 @@ use Rattle.dc_answer.specs.declared.exit.Exit.{Exit}
 use Rattle.dc_answer.specs.declared.exit.Outcome.TheVariants.{Done, Refused}
 use Rattle.dc_app.specs.Audit.{claims_text}
 use Rattle.dc_app.specs.Check.{answer_verdict}
-use Rattle.dc_app.specs.Texts.{AnswersTexts}
+use Rattle.dc_bench.specs.Texts.{AnswersTexts}
 use Rattle.dc_bench.specs.declared.driven.Seen.{Seen}
 
 -- ---- a hub that ran

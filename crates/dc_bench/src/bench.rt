@@ -3,7 +3,7 @@ ghost use Rattle.std.specs.Prelude.{◌≡◌, ◌≢◌, ◌⊎◌, ℕ, List, 
 ghost use Rattle.std.specs.Arc.{arc_value};
 ghost use Rattle.dc_answer.specs.Answer.{Any, LeavesSink, Reported};
 ghost use Rattle.dc_answer.specs.Inputs.{OnlyBehind};
-ghost use Rattle.dc_answer.specs.Judging.{Judged};
+ghost use Rattle.dc_answer.specs.Judging.{Keeps};
 ghost use Rattle.dc_answer.specs.Threads.{ReportsThreads};
 ghost use Rattle.dc_bench.specs.Bench.{AnswersCertificate, ReportsBench};
 ghost use Rattle.dc_cert.specs.NamedRows.{named_rows};
@@ -13,8 +13,8 @@ ghost use Rattle.dc_parts.specs.declared.limits.TheConstants.{TEXT_LIMIT};
 ghost use Rattle.dc_device.specs.States.{AsksUpTo, CanFail, IsCountable};
 
 use crate::driven::run_certified;
-use dc_answer::{Exit, Failure, Outcome};
-use dc_app::{Judge, NoThread, run_in_threads};
+use dc_answer::{End, Exit, Outcome, ReadCertificate, ReadTables, Unjudged, With, run};
+use dc_app::{JudgeShared, Shared};
 use dc_cert::Certificate;
 use dc_check::check;
 use dc_device::{Sink, Source};
@@ -25,7 +25,7 @@ use std::marker::Sync;
 use std::sync::{Arc, Wait};
 use std::thread::Threads;
 
-/// Judges a certificate, and where it is accepted runs a hub.
+/// Judges a certificate, and where it is accepted runs a hub for so many ticks.
 fn bench_certificate<R: Threads + Wait + Sync>(
     rt: &R,
     alloc: Global,
@@ -33,44 +33,52 @@ fn bench_certificate<R: Threads + Wait + Sync>(
     tables: &Arc<Tables>,
     certificate: Certificate,
     text: &mut Text,
-) -> Result<Result<Outcome, Failure>, NoThread>
+) -> Result<Outcome, Unjudged>
     requires { (1 ≤ ticks) × (ticks ≤ LONGEST_SCRIPT) }
-    ensures answer { IfOk result (Judged (AnswersCertificate ticks (arc_value tables.now) (named_rows certificate)) text.new.items) }
-    ensures memory { IfOk result (λ judged. IfErr judged (λ e. e ≡ Failure.Memory)) }
+    ensures answer { Keeps (AnswersCertificate ticks (arc_value tables.now) (named_rows certificate)) text.new.items result }
+    ensures cause { IfErr result (λ e. e ≢ Unjudged.Device) }
 {
     let Ok(shared) = Arc::try_clone(tables) else {
-        return Ok(Err(Failure::Memory));
+        return Err(Unjudged::Memory);
     };
     match check(shared, certificate) {
         Ok(certified) => run_certified(rt, alloc, u64::from(ticks), tables, certified, text),
         Err(fault) => {
             print_refused(text, tables, fault);
-            Ok(Ok(Outcome::Refused))
+            Ok(Outcome::Refused)
         }
     }
 }
 
-/// A bench, and for how many ticks, 1 to `LONGEST_SCRIPT`, its hub is to run.
+/// For how many ticks a hub is to run, 1 to [`LONGEST_SCRIPT`](dc_script::LONGEST_SCRIPT).
 #[derive(Clone, Copy, Debug, PartialEq, Eq)]
-struct Bench {
-    ticks: u16,
+pub struct Bench {
+    /// How many.
+    pub ticks: u16,
 }
 
-impl Judge for Bench {
+impl JudgeShared for Bench {
     ghost may_judge = { λ b. (1 ≤ b.ticks) × (b.ticks ≤ LONGEST_SCRIPT) };
 
     ghost answers = { λ b. AnswersCertificate b.ticks };
 
-    fn judge<R: Threads + Wait + Sync>(
+    fn judge_shared<R: Threads + Wait + Sync>(
         &self,
         rt: &R,
         alloc: Global,
         tables: &Arc<Tables>,
         certificate: Certificate,
         text: &mut Text,
-    ) -> Result<Result<Outcome, Failure>, NoThread> {
+    ) -> Result<Outcome, Unjudged> {
         bench_certificate(rt, alloc, self.ticks, tables, certificate, text)
     }
+}
+
+/// The engine of `bench`.
+pub fn bench_engine(ticks: u16) -> ReadTables<ReadCertificate<Shared<Bench>>>
+    ensures { result.0.0.0.ticks ≡ ticks }
+{
+    ReadTables(ReadCertificate(Shared(Bench { ticks })))
 }
 
 /// Judges a certificate for tables, both read whole from their sources, the tables first, and where it is accepted
@@ -117,6 +125,13 @@ pub fn run_bench<T: Source, C: Source, K: Sink, R: Threads + Wait + Sync>(
     ensures quiet { result ≢ Exit.Failed → (T.state tables.new).failed + (C.state certificate.new).failed + (K.state sink.new).failed
         ≡ (T.state tables.old).failed + (C.state certificate.old).failed + (K.state sink.old).failed }
 {
-    let bench = Bench { ticks };
-    run_in_threads(rt, alloc, &bench, tables, certificate, sink)
+    let mut given = With {
+        first: tables,
+        rest: With {
+            first: certificate,
+            rest: End,
+        },
+    };
+    let engine = bench_engine(ticks);
+    run(rt, alloc, &engine, &mut given, sink)
 }

@@ -1,7 +1,7 @@
 //! A hub over certified tables that runs and closes, and what is seen of its book.
 ghost use Rattle.std.specs.Prelude.{◌≡◌, ◌≢◌, ◌⊎◌, ℕ, List, [], ◌∷◌, ◌++◌, ◌+◌, ◌<◌, ◌≤◌, IfErr, IfOk, IfSome, IsSome, Ok, Err, codes, decimal, length};
 ghost use Rattle.arrayvec.specs.ArrayVec.{array_vec_len};
-ghost use Rattle.dc_answer.specs.Judging.{Judged};
+ghost use Rattle.dc_answer.specs.Judging.{Keeps, Says};
 ghost use Rattle.dc_answer.specs.declared.exit.Outcome.TheVariants.{Refused as WasRefused};
 ghost use Rattle.dc_bench.specs.Bench.{AnswersRun, HasRefused, IsSeen, WentAstray, answer_seen, count_text, seen_lines};
 ghost use Rattle.dc_check.specs.Lent.{tables_of};
@@ -19,8 +19,8 @@ ghost use Rattle.dc_print.specs.declared.text.TheConstants.{TEXT_CAPACITY};
 ghost use Rattle.dc_script.specs.Script.{bench_script};
 ghost use Rattle.dc_script.specs.declared.limits.TheConstants.{LONGEST_SCRIPT};
 
-use dc_answer::{Failure, Outcome};
-use dc_app::{NoThread, append_claims};
+use dc_answer::{Outcome, Unjudged};
+use dc_app::append_claims;
 use dc_check::Certified;
 use dc_checkpar::Open;
 use dc_drive::{DriveFault, drive};
@@ -122,25 +122,25 @@ fn judge_book(
     ticks: u64,
     closed: &Closed,
     text: &mut Text,
-) -> Result<Outcome, Failure>
+) -> Result<Outcome, Unjudged>
     requires fits { length closed.now.entries ≤ LONGEST_TRACE }
     requires driven { IsDriven (tables_of closed.now.certified) (bench_script (tables_of closed.now.certified) ticks) (events_in closed.now.entries) }
-    ensures answer { Judged (AnswersRun closed.now.certified ticks) text.new.items result }
-    ensures memory { IfErr result (λ e. e ≡ Failure.Memory) }
+    ensures answer { Keeps (AnswersRun closed.now.certified ticks) text.new.items result }
+    ensures memory { IfErr result (λ e. e ≡ Unjudged.Memory) }
 {
     match seen_of(alloc, ticks, closed) {
         Ok(seen) => {
             print_seen(text, seen);
             Ok(outcome_of(seen))
         }
-        Err(_) => Err(Failure::Memory),
+        Err(_) => Err(Unjudged::Memory),
     }
 }
 
 /// Prints that the hub refused: a call, or to close.
 fn refuse_hub<L: Charter>(ticks: u64, text: &mut Text) -> Outcome
     requires { IfSome L.certified (λ c. HasRefused c ticks) }
-    ensures answer { IfSome L.certified (λ c. Judged (AnswersRun c ticks) text.new.items (Ok result)) }
+    ensures answer { IfSome L.certified (λ c. Says (AnswersRun c ticks) text.new.items result) }
 {
     let _ticks = ticks;
     text.clear();
@@ -155,11 +155,11 @@ fn close_hub<L: Charter>(
     hub: Hub<L>,
     seats: Seats<L>,
     text: &mut Text,
-) -> Result<Outcome, Failure>
+) -> Result<Outcome, Unjudged>
     requires limit { L.limit ≡ LONGEST_TRACE }
     requires roles { IfSome L.certified (λ c. HaveRoles (tables_of c) (bench_script (tables_of c) ticks) (all_seats seats.wires.items seats.routers.items seats.outputs.items seats.clock)) }
-    ensures answer { IfSome L.certified (λ c. Judged (AnswersRun c ticks) text.new.items result) }
-    ensures memory { IfErr result (λ e. e ≡ Failure.Memory) }
+    ensures answer { IfSome L.certified (λ c. Keeps (AnswersRun c ticks) text.new.items result) }
+    ensures memory { IfErr result (λ e. e ≡ Unjudged.Memory) }
 {
     match hub.close(seats) {
         Ok(closed) => judge_book(alloc, ticks, &closed, text),
@@ -168,15 +168,15 @@ fn close_hub<L: Charter>(
 }
 
 /// What a call of the hub that was refused, or a seat that went astray, ends with.
-fn end_of_call<L: Charter>(fault: HubFault, ticks: u64, text: &mut Text) -> Result<Outcome, Failure>
+fn end_of_call<L: Charter>(fault: HubFault, ticks: u64, text: &mut Text) -> Result<Outcome, Unjudged>
     requires limit { L.limit ≡ LONGEST_TRACE }
     requires halts { Refused fault ≢ Refused Astray → HaltsAs L.certified L.limit ⊥ (Refused fault) }
     requires astray { Refused fault ≡ Refused Astray → IfSome L.certified (λ c. WentAstray (tables_of c) (bench_script (tables_of c) ticks)) }
-    ensures answer { IfSome L.certified (λ c. Judged (AnswersRun c ticks) text.new.items result) }
-    ensures memory { IfErr result (λ e. (e ≡ Failure.Memory) × (fault ≡ HubMemory)) }
+    ensures answer { IfSome L.certified (λ c. Keeps (AnswersRun c ticks) text.new.items result) }
+    ensures memory { IfErr result (λ e. (e ≡ Unjudged.Memory) × (fault ≡ HubMemory)) }
 {
     match fault {
-        HubFault::Memory => Err(Failure::Memory),
+        HubFault::Memory => Err(Unjudged::Memory),
         HubFault::Step(_) => Ok(refuse_hub::<L>(ticks, text)),
         HubFault::TraceFull => Ok(refuse_hub::<L>(ticks, text)),
         HubFault::Astray => Ok(refuse_hub::<L>(ticks, text)),
@@ -188,19 +188,18 @@ fn end_of<L: Charter>(
     fault: DriveFault,
     ticks: u64,
     text: &mut Text,
-) -> Result<Result<Outcome, Failure>, NoThread>
+) -> Result<Outcome, Unjudged>
     requires limit { L.limit ≡ LONGEST_TRACE }
     requires halts { fault ≢ Refused Astray → HaltsAs L.certified L.limit ⊥ fault }
     requires astray { fault ≡ Refused Astray → IfSome L.certified (λ c. WentAstray (tables_of c) (bench_script (tables_of c) ticks)) }
-    ensures answer { IfOk result (λ judged. IfSome L.certified (λ c. Judged (AnswersRun c ticks) text.new.items judged)) }
-    ensures memory { IfOk result (λ judged. IfErr judged (λ e. (e ≡ Failure.Memory) × ((fault ≡ DriveMemory) ⊎ (fault ≡ Refused HubMemory)))) }
-    ensures threads { IfErr result (λ _. fault ≡ Spawn) }
+    ensures answer { IfSome L.certified (λ c. Keeps (AnswersRun c ticks) text.new.items result) }
+    ensures cause { IfErr result (λ e. ((e ≡ Unjudged.Memory) × ((fault ≡ DriveMemory) ⊎ (fault ≡ Refused HubMemory))) ⊎ ((e ≡ Unjudged.Threads) × (fault ≡ Spawn))) }
 {
     match fault {
-        DriveFault::Memory => Ok(Err(Failure::Memory)),
-        DriveFault::Spawn => Err(NoThread),
+        DriveFault::Memory => Err(Unjudged::Memory),
+        DriveFault::Spawn => Err(Unjudged::Threads),
         DriveFault::GateStuck => unreachable!(),
-        DriveFault::Hub(refused) => Ok(end_of_call::<L>(refused, ticks, text)),
+        DriveFault::Hub(refused) => end_of_call::<L>(refused, ticks, text),
     }
 }
 
@@ -213,18 +212,18 @@ fn drive_hub<L: Charter + Send + Sync, R: Threads + Wait + Sync>(
     hub: Hub<L>,
     mut seats: Seats<L>,
     text: &mut Text,
-) -> Result<Result<Outcome, Failure>, NoThread>
+) -> Result<Outcome, Unjudged>
     requires tables { AreTablesOf L.certified tables.now }
     requires limit { L.limit ≡ LONGEST_TRACE }
     requires script { script.now ≡ bench_script tables.now script.now.ticks }
     requires of_hub { AreOfHub hub seats.wires.items }
     requires clock { IsSome seats.clock }
     requires unused { receipts_in (all_seats seats.wires.items seats.routers.items seats.outputs.items seats.clock) ≡ 0 }
-    ensures answer { IfOk result (λ judged. IfSome L.certified (λ c. Judged (AnswersRun c script.now.ticks) text.new.items judged)) }
-    ensures memory { IfOk result (λ judged. IfErr judged (λ e. e ≡ Failure.Memory)) }
+    ensures answer { IfSome L.certified (λ c. Keeps (AnswersRun c script.now.ticks) text.new.items result) }
+    ensures cause { IfErr result (λ e. e ≢ Unjudged.Device) }
 {
     match drive(rt, alloc, tables, &hub, &mut seats, script, &Open) {
-        Ok(()) => Ok(close_hub(alloc, script.ticks(), hub, seats, text)),
+        Ok(()) => close_hub(alloc, script.ticks(), hub, seats, text),
         Err(fault) => end_of::<L>(fault, script.ticks(), text),
     }
 }
@@ -238,17 +237,17 @@ fn run_hub<L: Charter + Send + Sync, R: Threads + Wait + Sync>(
     script: &Script,
     certified: Certified,
     text: &mut Text,
-) -> Result<Result<Outcome, Failure>, NoThread>
+) -> Result<Outcome, Unjudged>
     requires blank { (blank.name ≡ L.name) × (blank.parts ≡ L.parts) }
     requires charter { IsCharterOf L.certified L.limit L.whole L.parts certified LONGEST_TRACE }
     requires tables { tables_of certified ≡ tables.now }
     requires script { script.now ≡ bench_script tables.now script.now.ticks }
-    ensures answer { IfOk result (Judged (AnswersRun certified script.now.ticks) text.new.items) }
-    ensures memory { IfOk result (λ judged. IfErr judged (λ e. e ≡ Failure.Memory)) }
+    ensures answer { Keeps (AnswersRun certified script.now.ticks) text.new.items result }
+    ensures cause { IfErr result (λ e. e ≢ Unjudged.Device) }
 {
     match Hub::<L>::open(alloc, blank, certified, LONGEST_TRACE) {
         Ok((hub, seats)) => drive_hub(rt, alloc, tables, script, hub, seats, text),
-        Err(OpenFault::Memory) => Ok(Err(Failure::Memory)),
+        Err(OpenFault::Memory) => Err(Unjudged::Memory),
     }
 }
 
@@ -261,11 +260,11 @@ pub fn run_certified<R: Threads + Wait + Sync>(
     tables: &Tables,
     certified: Certified,
     text: &mut Text,
-) -> Result<Result<Outcome, Failure>, NoThread>
+) -> Result<Outcome, Unjudged>
     requires ticks { (1 ≤ ticks) × (ticks ≤ LONGEST_SCRIPT) }
     requires tables { tables_of certified ≡ tables.now }
-    ensures answer { IfOk result (Judged (AnswersRun certified ticks) text.new.items) }
-    ensures memory { IfOk result (λ judged. IfErr judged (λ e. e ≡ Failure.Memory)) }
+    ensures answer { Keeps (AnswersRun certified ticks) text.new.items result }
+    ensures cause { IfErr result (λ e. e ≢ Unjudged.Device) }
 {
     certified.tables().valid();
     match Script::bench(alloc, tables, ticks) {
@@ -278,6 +277,6 @@ pub fn run_certified<R: Threads + Wait + Sync>(
             certified,
             text,
         ),
-        Err(_) => Ok(Err(Failure::Memory)),
+        Err(_) => Err(Unjudged::Memory),
     }
 }

@@ -4,4 +4,4 @@
 mod bench;
 mod driven;
 
-pub use bench::run_bench;
+pub use bench::{Bench, bench_engine, run_bench};

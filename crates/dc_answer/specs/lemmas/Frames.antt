@@ -7,7 +7,7 @@ use Rattle.dc_device.specs.States.{SinkState, SourceState}
 use Rattle.dc_answer.specs.Answer.{Answer, Any, Raises, Reported, WholeOrNone}
 use Rattle.dc_answer.specs.Exits.{exit_of, is_answered}
 use Rattle.dc_answer.specs.Given.{failures}
-use Rattle.dc_answer.specs.Judging.{Finishes, Judged, Keeps, Raised, ReportsJudged, ReportsSome, to_write}
+use Rattle.dc_answer.specs.Judging.{Finishes, Keeps, Raised, ReportsJudged, ReportsSome, to_write}
 use Rattle.dc_answer.specs.Threads.{ReportsThreads}
 use Rattle.dc_answer.specs.declared.answer.Failure.{Failure}
 use Rattle.dc_answer.specs.declared.answer.Failure.TheVariants.{Source, Sink, Memory as NoMemory}
@@ -22,14 +22,14 @@ use Rattle.dc_answer.specs.lemmas.Judgments.{reported_any, texts_reported}
 
 module _ (Is : Answer → Type 0) (text : List ℕ) (a a' : ℕ) where
   handed : (judged : Result Outcome Unjudged) (w : Option (Result Outcome Failure)) → w ≡ to_write judged
-      → IfSome w (λ written. Keeps Is text judged → Raised a a' judged → Judged Is text written × Raises a a' written)
+      → IfSome w (λ written. Keeps Is text judged → Raised a a' judged → Keeps Is text written × Raises a a' written)
   handed (Ok outcome) w e = rw e (λ h r. (h, r))
   handed (Err Device) w e = rw e (λ h r. (tt, r))
   handed (Err Memory) w e = rw e (λ h r. (tt, r))
   handed (Err Threads) w e = rw e tt
 
   pub hand_on : (judged : Result Outcome Unjudged) (w : Option (Result Outcome Failure)) (written : Result Outcome Failure) → w ≡ to_write judged → w ≡ Some written
-      → Keeps Is text judged → Raised a a' judged → Judged Is text written × Raises a a' written
+      → Keeps Is text judged → Raised a a' judged → Keeps Is text written × Raises a a' written
   hand_on judged w written e is h r = let f = handed judged w e in (rw is at f) h r
 
 -- what is written tells of no failure of the sink
@@ -54,7 +54,7 @@ none_started P a a' (Err Threads) w e is h r = (h refl, r)
 -- ---- it is reported
 
 module _ (Is : Answer → Type 0) (text : List ℕ) (sources sources' : List SourceState) (sink sink' : SinkState) where
-  pub finished : (judged : Result Outcome Failure) (exit : Exit) → Finishes judged text sink sink' exit → Judged Is text judged → Raises (failures sources) (failures sources') judged
+  pub finished : (judged : Result Outcome Failure) (exit : Exit) → Finishes judged text sink sink' exit → Keeps Is text judged → Raises (failures sources) (failures sources') judged
       → Reported (WholeOrNone Is (is_answered exit)) sink.contents sink'.contents (failures sources) (failures sources') sink.failed sink'.failed exit
   finished judged exit f h r =
       texts_reported Is text sink.contents f.mid.contents sink'.contents judged f.ended (failures sources) (failures sources') sink.failed f.mid.failed sink'.failed exit
@@ -62,7 +62,7 @@ module _ (Is : Answer → Type 0) (text : List ℕ) (sources sources' : List Sou
 
 -- whatever the sources give
 pub finished_any : (text : List ℕ) (sources sources' : List SourceState) (sink sink' : SinkState) (judged : Result Outcome Failure) (exit : Exit) → Finishes judged text sink sink' exit
-    → Judged Any text judged → Raises (failures sources) (failures sources') judged
+    → Keeps Any text judged → Raises (failures sources) (failures sources') judged
     → Reported Any sink.contents sink'.contents (failures sources) (failures sources') sink.failed sink'.failed exit
 finished_any text sources sources' sink sink' judged exit f h r =
     reported_any _ _ _ _ _ _ _ _ (finished Any text sources sources' sink sink' judged exit f h r)

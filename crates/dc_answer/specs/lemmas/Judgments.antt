@@ -2,7 +2,7 @@
 use Rattle.std.proofs.Common.{◌≡◌, ◌≢◌, ℕ, ◌+◌, ◌≤◌, ◌++◌, List, [], ◌∷◌, refl, sym, ◌∙◌, ap, subst, Option, IfErr, IfOk, Result, Ok, Err, inl, inr}
 use Rattle.dc_answer.specs.Answer.{Answer, Any, Ends, Raises, Reported, ReportsBy, WholeOrNone, judged_answer, nothing, one_line, sink_failures_of}
 use Rattle.dc_answer.specs.Exits.{exit_of, is_answered, is_whole}
-use Rattle.dc_answer.specs.Judging.{Judged, Keeps}
+use Rattle.dc_answer.specs.Judging.{Keeps, Says}
 use Rattle.dc_answer.specs.declared.answer.Failure.{Failure}
 use Rattle.dc_answer.specs.declared.answer.Failure.TheVariants.{Source, Sink, Memory}
 use Rattle.dc_answer.specs.declared.exit.Exit.{Exit}
@@ -10,15 +10,8 @@ use Rattle.dc_answer.specs.declared.exit.Outcome.{Outcome}
 use Rattle.dc_answer.specs.lemmas.Reporting.{answered_whole, raised, reported_of}
 
 -- an answer of one line
-pub one_said : (Is : Answer → Type 0) (text line : List ℕ) (outcome : Outcome) → text ≡ line → Is (one_line line outcome) → Judged Is text (Ok outcome)
+pub one_said : (Is : Answer → Type 0) (text line : List ℕ) (outcome : Outcome) → text ≡ line → Is (one_line line outcome) → Says Is text outcome
 one_said Is text line outcome same is = (one_line line outcome, is, ap (λ l. l ++ 10 ∷ []) same, refl)
-
--- what is judged of one answer is so of another
-pub judged_as : (Is Such : Answer → Type 0) (text : List ℕ) (result : Result Outcome Failure) → ((answer : Answer) → Is answer → Such answer) → Judged Is text result → Judged Such text result
-judged_as Is Such text (Ok outcome) f (answer, is, same, ends) = (answer, f answer is, same, ends)
-judged_as Is Such text (Err Source) f h = tt
-judged_as Is Such text (Err Memory) f h = tt
-judged_as Is Such text (Err Sink) f h = h
 
 -- what a page keeps of one answer it keeps of another
 pub kept_as : {E : Type 0} (Is Such : Answer → Type 0) (text : List ℕ) (result : Result Outcome E) → ((answer : Answer) → Is answer → Such answer) → Keeps Is text result → Keeps Such text result
@@ -30,25 +23,14 @@ pub some_kept : {E : Type 0} (text : List ℕ) (result : Result Outcome E) → K
 some_kept text (Ok outcome) = (one_line text outcome, tt, refl, refl)
 some_kept text (Err e) = tt
 
--- nothing was judged
-pub failed_judged : (Is : Answer → Type 0) (text : List ℕ) (failure : Failure) → failure ≢ Sink → Judged Is text (Err failure)
-failed_judged Is text Source other = tt
-failed_judged Is text Memory other = tt
-failed_judged Is text Sink other = absurd (other refl)
-
--- whatever was judged is some answer
-pub some_judged : (text : List ℕ) (judged : Result Outcome Failure) → IfErr judged (λ e. e ≢ Sink) → Judged Any text judged
-some_judged text (Ok outcome) other = (one_line text outcome, tt, refl, refl)
-some_judged text (Err failure) other = failed_judged Any text failure other
-
 -- the answer, where there is one
-abbrev chosen : (Is : Answer → Type 0) (text : List ℕ) (judged : Result Outcome Failure) → Judged Is text judged → Answer
+abbrev chosen : (Is : Answer → Type 0) (text : List ℕ) (judged : Result Outcome Failure) → Keeps Is text judged → Answer
 chosen Is text (Ok outcome) (answer, is, same, ends) = answer
 chosen Is text (Err failure) h = nothing
 
 module _ (Is : Answer → Type 0) (text : List ℕ) (old mid new : Option (List ℕ)) where
   -- it was written
-  written : (judged ended : Result Outcome Failure) (h : Judged Is text judged) → Ends old [] mid (judged_answer text judged) ended → IfOk ended (λ outcome. judged ≡ Ok outcome)
+  written : (judged ended : Result Outcome Failure) (h : Keeps Is text judged) → Ends old [] mid (judged_answer text judged) ended → IfOk ended (λ outcome. judged ≡ Ok outcome)
       → IfErr ended (λ e. e ≢ Sink → judged ≡ Err e) → Ends old [] mid (chosen Is text judged h) ended
   written (Ok outcome) (Ok ended) (answer, is, same, ends) (appends, was) kept other =
       rw (sym same) (appends, was ∙ ends)
@@ -58,18 +40,18 @@ module _ (Is : Answer → Type 0) (text : List ℕ) (old mid new : Option (List 
   written (Err failure) (Ok ended) h ends kept other = absurd (cc)
   written (Err failure) (Err f) h ends kept other = ends
 
-  none_left : (judged : Result Outcome Failure) (h : Judged Is text judged) (ended : Result Outcome Failure) → IfErr ended (λ e. e ≢ Sink → judged ≡ Err e) → ended ≡ Err Memory → (chosen Is text judged h).lines ≡ []
+  none_left : (judged : Result Outcome Failure) (h : Keeps Is text judged) (ended : Result Outcome Failure) → IfErr ended (λ e. e ≢ Sink → judged ≡ Err e) → ended ≡ Err Memory → (chosen Is text judged h).lines ≡ []
   none_left (Err failure) h ended other is = refl
   none_left (Ok outcome) h ended other is = let no : Ok outcome ≡ Err Memory = (rw is at other) (λ e. cc) in absurd (cc)
 
-  answered : (judged ended : Result Outcome Failure) (h : Judged Is text judged) → IfOk ended (λ outcome. judged ≡ Ok outcome) → WholeOrNone Is (is_whole ended) (chosen Is text judged h)
+  answered : (judged ended : Result Outcome Failure) (h : Keeps Is text judged) → IfOk ended (λ outcome. judged ≡ Ok outcome) → WholeOrNone Is (is_whole ended) (chosen Is text judged h)
   answered (Ok outcome) (Ok ended) (answer, is, same, ends) kept = is
   answered (Ok outcome) (Err f) (answer, is, same, ends) kept = inl is
   answered (Err failure) (Ok ended) h kept = absurd (cc)
   answered (Err failure) (Err f) h kept = inr refl
 
-  -- what was judged was written by `say`, and what failed was reported by `report`
-  pub texts_reported : (judged ended : Result Outcome Failure) (a a' sink sink' sink'' : ℕ) (exit : Exit) → Judged Is text judged → Raises a a' judged
+  -- what was judged was written, and what failed was reported
+  pub texts_reported : (judged ended : Result Outcome Failure) (a a' sink sink' sink'' : ℕ) (exit : Exit) → Keeps Is text judged → Raises a a' judged
       → Ends old [] mid (judged_answer text judged) ended → IfOk ended (λ outcome. judged ≡ Ok outcome) → IfErr ended (λ e. e ≢ Sink → judged ≡ Err e)
       → sink' ≡ sink + sink_failures_of ended → sink' ≤ sink'' → exit ≡ exit_of ended → ReportsBy ended mid new sink' sink'' exit
       → Reported (WholeOrNone Is (is_answered exit)) old new a a' sink sink'' exit
