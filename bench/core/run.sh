@@ -9,7 +9,7 @@ root=$(cd "$here/../.." && pwd)
 work=$(mktemp -d)
 trap 'rm -rf "$work"' EXIT
 rustc -O --edition 2021 -o "$work/peer" "$here/peer.rs"
-"$here/../build.sh" "$work" core_bench 'dc_build dc_core dc_device dc_event dc_parts dc_tables dc_word' "$here/main.rt.txt" "$here/laps.rt.txt"
+"$here/../build.sh" "$work" core_bench 'dc_build dc_core dc_device dc_event dc_document dc_tables dc_word' "$here/main.rt.txt" "$here/laps.rt.txt"
 "$here/../check/tables.sh" > "$work/large.toml"
 cp "$root/examples/small.toml" "$work/small.toml"
 for size in small large; do

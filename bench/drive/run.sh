@@ -9,7 +9,7 @@ here=$(cd "$(dirname "$0")" && pwd)
 work=$(mktemp -d)
 trap 'rm -rf "$work"' EXIT
 rustc -O --edition 2021 -o "$work/peer" "$here/peer.rs"
-"$here/../build.sh" "$work" drive_bench 'atomic_table dc_board dc_build dc_check dc_checkpar dc_device dc_drive dc_event dc_find dc_hub dc_parts dc_script dc_tables dc_word' "$here/main.rt.txt" "$here/../core/laps.rt.txt" "$here"/proofs/*/*.antt.txt
+"$here/../build.sh" "$work" drive_bench 'atomic_table dc_board dc_build dc_check dc_checkpar dc_device dc_drive dc_event dc_find dc_hub dc_document dc_script dc_tables dc_word' "$here/main.rt.txt" "$here/../core/laps.rt.txt" "$here"/proofs/*/*.antt.txt
 "$here/../check/tables.sh" > "$work/large.toml"
 "$work/crates/drive_bench/out/drive_bench" < "$work/large.toml" | sort -n > "$work/proved"
 "$work/peer" | sort -n > "$work/plain"

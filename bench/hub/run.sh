@@ -10,7 +10,7 @@ here=$(cd "$(dirname "$0")" && pwd)
 work=$(mktemp -d)
 trap 'rm -rf "$work"' EXIT
 rustc -O --edition 2021 -o "$work/peer" "$here/peer.rs"
-"$here/../build.sh" "$work" hub_bench 'atomic_table dc_board dc_build dc_check dc_device dc_event dc_find dc_hub dc_parts dc_tables dc_word' "$here/main.rt.txt" "$here/../core/laps.rt.txt" "$here"/proofs/*/*.antt.txt
+"$here/../build.sh" "$work" hub_bench 'atomic_table dc_board dc_build dc_check dc_device dc_event dc_find dc_hub dc_document dc_tables dc_word' "$here/main.rt.txt" "$here/../core/laps.rt.txt" "$here"/proofs/*/*.antt.txt
 count() { # how many instructions, in the place of each time
     cat > "$work/in"
     valgrind --tool=callgrind --callgrind-out-file=/dev/null "$@" < "$work/in" 2> "$work/counted" > "$work/said"

@@ -8,7 +8,7 @@ here=$(cd "$(dirname "$0")" && pwd)
 work=$(mktemp -d)
 trap 'rm -rf "$work"' EXIT
 rustc -O --edition 2021 -o "$work/peer" "$here/peer.rs"
-"$here/../build.sh" "$work" oracle_bench 'dc_build dc_device dc_event dc_oracle dc_parts dc_tables dc_word' "$here/main.rt.txt" "$here/../core/laps.rt.txt"
+"$here/../build.sh" "$work" oracle_bench 'dc_build dc_device dc_event dc_oracle dc_document dc_tables dc_word' "$here/main.rt.txt" "$here/../core/laps.rt.txt"
 "$here/../check/tables.sh" > "$work/large.toml"
 "$work/crates/oracle_bench/out/oracle_bench" < "$work/large.toml" > "$work/proved"
 "$work/peer" > "$work/plain"

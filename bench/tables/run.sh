@@ -8,7 +8,7 @@ work=$(mktemp -d)
 trap 'rm -rf "$work"' EXIT
 text=${1:-$work/tables.toml}
 [ $# -gt 0 ] || "$here/../check/tables.sh" > "$text"
-"$here/../build.sh" "$work" tables_bench 'dc_build dc_device dc_parts dc_tables dc_toml toml' "$here/main.rt.txt"
+"$here/../build.sh" "$work" tables_bench 'dc_build dc_device dc_document dc_tables dc_toml toml' "$here/main.rt.txt"
 "$work/crates/tables_bench/out/tables_bench" < "$text" | grep ' a round'
 python3 - "$text" <<'P'
 import sys, time, tomllib

@@ -4,13 +4,13 @@
 ghost use Rattle.std.specs.Prelude.{◌≤◌, IfSome};
 ghost use Rattle.dc_command.specs.Asked.{IsInRange};
 
-use dc_advice::{run_margins, run_margins_least};
 use dc_answer::Exit;
-use dc_app::{run_audit, run_check, run_check_par, run_decode, run_find, run_replay};
-use dc_bench::run_bench;
 use dc_command::{Order, command};
 use dc_device::{ReadSource, WriteSink};
-use dc_paper::{run_report, run_report_least};
+use dc_run::{run_audit, run_check, run_check_par, run_decode, run_find, run_replay};
+use dc_run_bench::run_bench;
+use dc_run_margins::{run_margins, run_margins_least};
+use dc_run_report::{run_report, run_report_least};
 use std::alloc::AllocError;
 use std::process::ExitCode;
 use std::rt::{Env, Files};

@@ -6,16 +6,16 @@ use Rattle.dc_cert.specs.NamedRows.{NamedRows, named_rows}
 use Rattle.dc_cert.specs.Reading.{Reading as CertificateReading, certificate_of}
 use Rattle.dc_cert.specs.declared.certificate.Certificate.{Certificate}
 use Rattle.dc_cert.specs.declared.fault.Fault.{Fault}
-use Rattle.dc_parts.specs.FaultText.{table_fault_text}
-use Rattle.dc_parts.specs.declared.fault.BuildError.{BuildError}
-use Rattle.dc_parts.specs.declared.fault.BuildError.TheVariants.{Refused as RefusedTables, Memory as NoTables}
-use Rattle.dc_parts.specs.declared.fault.TableFault.{TableFault}
+use Rattle.dc_document.specs.FaultText.{table_fault_text}
+use Rattle.dc_document.specs.declared.fault.BuildError.{BuildError}
+use Rattle.dc_document.specs.declared.fault.BuildError.TheVariants.{Refused as RefusedTables, Memory as NoTables}
+use Rattle.dc_document.specs.declared.fault.TableFault.{TableFault}
 use Rattle.dc_tables.specs.TableRows.{TableRows}
 use Rattle.dc_toml.specs.Faults.{Reading}
 use Rattle.dc_toml.specs.Reading.{tables_of}
 use Rattle.dc_build.specs.Reported.{AreTablesOf, TellsTables}
 use Rattle.dc_toml.specs.Written.{Written}
-use Rattle.dc_parts.specs.declared.limits.TheConstants.{TEXT_LIMIT}
+use Rattle.dc_document.specs.declared.limits.TheConstants.{TEXT_LIMIT}
 use Rattle.dc_answer.specs.Answer.{Answer, unreadable}
 use Rattle.dc_answer.specs.declared.answer.Failure.TheVariants.{Source, Sink, Memory}
 use Rattle.dc_answer.specs.declared.inputs.Unloaded.{Unloaded}

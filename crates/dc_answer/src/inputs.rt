@@ -2,7 +2,7 @@
 ghost use Rattle.std.specs.Prelude.{◌≡◌, ◌≢◌, ◌+◌, ◌<◌, IfErr, IfSome};
 ghost use Rattle.dc_cert.specs.Reading.{certificate_of};
 ghost use Rattle.dc_toml.specs.Reading.{tables_of};
-ghost use Rattle.dc_parts.specs.declared.limits.TheConstants.{TEXT_LIMIT};
+ghost use Rattle.dc_document.specs.declared.limits.TheConstants.{TEXT_LIMIT};
 ghost use Rattle.dc_answer.specs.Inputs.{Loads, LoadsCertificate, ReadsText, failed_in};
 ghost use Rattle.dc_device.specs.States.{AsksUpTo, IsCountable};
 
@@ -10,7 +10,7 @@ use crate::answer::Failure;
 use dc_build::read_tables;
 use dc_cert::{CertFault, CertRule, Certificate, Fault, TextPlace, read_cert};
 use dc_device::{Source, Unread, read_at_most};
-use dc_parts::{BuildError, Section, TEXT_LIMIT, TableFault, TableRule};
+use dc_document::{BuildError, Section, TEXT_LIMIT, TableFault, TableRule};
 use dc_tables::Tables;
 use std::alloc::Global;
 

@@ -1,6 +1,6 @@
 //! What engines read first: tables, and then a certificate.
 ghost use Rattle.std.specs.Prelude.{◌≡◌, ℕ, List, ◌∷◌};
-ghost use Rattle.dc_parts.specs.declared.limits.TheConstants.{TEXT_LIMIT};
+ghost use Rattle.dc_document.specs.declared.limits.TheConstants.{TEXT_LIMIT};
 ghost use Rattle.dc_answer.specs.Inputs.{AnswersCertificate, AnswersTables, CertificateGoesOn, TablesGoOn};
 
 use crate::exit::Outcome;

@@ -6,11 +6,11 @@ use Rattle.std.proofs.lemmas.Bool.{cases_lt}
 use Rattle.std.specs.Int.{div_ceil}
 use Rattle.std.proofs.lemmas.Grind.{div_ceil_times}
 use Rattle.dc_dict.specs.Ticks.{in_minimum, in_maximum, jitter_ticks, out_minimum, out_maximum}
-use Rattle.dc_parts.specs.Ticks.{output_gap, input_spacing}
+use Rattle.dc_document.specs.Ticks.{output_gap, input_spacing}
 use Rattle.dc_rules.specs.Rules.{too_quick, no_interval}
 use Rattle.dc_dict.specs.declared.parameter.Parameter.{Parameter as ParameterPart}
-use Rattle.dc_parts.specs.declared.parts.Speed.{Speed}
-use Rattle.dc_parts.specs.declared.parts.Speed.TheVariants.{High, Low}
+use Rattle.dc_document.specs.declared.parts.Speed.{Speed}
+use Rattle.dc_document.specs.declared.parts.Speed.TheVariants.{High, Low}
 use Rattle.dc_rules.specs.lemmas.Picks.{not_below}
 
 div_mono : (k x y : ℕ) → 0 < k → x ≤ y → x / k ≤ y / k

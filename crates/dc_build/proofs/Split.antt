@@ -5,18 +5,18 @@ use Rattle.std.proofs.lemmas.Bool.Decides.{nat_tests}
 use Rattle.std.specs.List.Sorted.{IsPermutation}
 use Rattle.std.proofs.lemmas.List.{length-map, drop-drop}
 use Rattle.std.proofs.lemmas.List.Folds.{length-prefix_len}
-use Rattle.dc_parts.specs.Document.{Document, IsInOrder}
+use Rattle.dc_document.specs.Document.{Document, IsInOrder}
 use Rattle.dc_rules.specs.Rules.{entries_from}
 use Rattle.dc_build.specs.RowsOf.{entry_of, own_entries, IsOutputRow, AreOutputs}
 use Rattle.dc_build.specs.Placed.{AreFrom}
-use Rattle.dc_parts.specs.declared.parts.OutputPart.{OutputPart}
+use Rattle.dc_document.specs.declared.parts.OutputPart.{OutputPart}
 use Rattle.dc_tables.specs.declared.rows.Output.{Output}
 use Rattle.dc_rules.specs.lemmas.Owners.{Ascends, bool_cases}
 use Rattle.dc_build.proofs.ValidEntries.{is_same, own_true, own_false}
 use Rattle.dc_build.proofs.RowsMade.{outputs_more}
 use Rattle.dc_tables.specs.declared.rows.Entry.{Entry}
 use Rattle.dc_rules.specs.declared.keys.PlacedEntry.{PlacedEntry}
-use Rattle.dc_parts.specs.declared.parts.LabelPart.{LabelPart}
+use Rattle.dc_document.specs.declared.parts.LabelPart.{LabelPart}
 
 not_same : (a b : ℕ) → b < a → (a == b) ≡ false
 not_same a b h = grind (arith, nat_tests)

@@ -4,7 +4,7 @@ use Rattle.std.specs.Prelude.{option_map, IfOk, Result, Ok, Err}
 use Rattle.std.specs.List.{All, slice_get}
 use Rattle.std.proofs.lemmas.List.{length-map}
 use Rattle.dc_word.specs.declared.format.Format.TheVariants.{Bnr}
-use Rattle.dc_parts.specs.Document.{Document, IsInOrder}
+use Rattle.dc_document.specs.Document.{Document, IsInOrder}
 use Rattle.dc_rules.specs.Rules.{bus_names, stream_names, router_names, output_names, label_names}
 use Rattle.dc_build.specs.RowsOf.{AreRows, names_of}
 use Rattle.dc_tables.specs.TableRows.{TableRows, AreValid}

@@ -6,14 +6,14 @@ use Rattle.std.proofs.lemmas.List.{length-map, get_or-map}
 use Rattle.std.proofs.lemmas.Bool.{cases_lt}
 use Rattle.std.proofs.lemmas.Bool.Decides.{nat_tests}
 use Rattle.std.proofs.lemmas.Slice.Eq.{bytes_eq-Decides}
-use Rattle.dc_parts.specs.Document.{Document}
+use Rattle.dc_document.specs.Document.{Document}
 use Rattle.dc_rules.specs.Obeys.{ReferencesObey, SchedulesObey}
 use Rattle.dc_rules.specs.Rules.{doubled, doubled_name, has_unknown, stream_names, overlap, same_label, label_id}
 use Rattle.dc_tables.specs.Sdis.{sdis_meet}
-use Rattle.dc_parts.specs.Names.{number_of}
+use Rattle.dc_document.specs.Names.{number_of}
 use Rattle.dc_rules.specs.declared.keys.LabelKey.{LabelKey}
-use Rattle.dc_parts.specs.declared.parts.StreamPart.{StreamPart}
-use Rattle.dc_parts.specs.declared.parts.LabelPart.{LabelPart}
+use Rattle.dc_document.specs.declared.parts.StreamPart.{StreamPart}
+use Rattle.dc_document.specs.declared.parts.LabelPart.{LabelPart}
 use Rattle.dc_rules.specs.lemmas.Apart.{apart}
 use Rattle.dc_rules.specs.lemmas.Picks.{each_fails, any_fails, number_there}
 use Rattle.dc_word.specs.declared.format.Format.TheVariants.{Bnr}

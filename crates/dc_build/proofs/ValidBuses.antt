@@ -4,16 +4,16 @@ use Rattle.std.specs.List.{count_by}
 use Rattle.std.specs.Prelude.{is_none}
 use Rattle.std.proofs.lemmas.List.{get_or-map, length-map}
 use Rattle.dc_word.specs.declared.format.Format.TheVariants.{Bnr}
-use Rattle.dc_parts.specs.Document.{Document, stream_owners, IsInOrder}
+use Rattle.dc_document.specs.Document.{Document, stream_owners, IsInOrder}
 use Rattle.dc_rules.specs.Rules.{parameter_of, too_quick, outside, counts, parameter_out}
-use Rattle.dc_parts.specs.Keys.{stream_key}
+use Rattle.dc_document.specs.Keys.{stream_key}
 use Rattle.dc_build.specs.RowsOf.{bus_row_of, bus_rows_from, stream_row_of, AreRows}
 use Rattle.dc_tables.specs.TableRows.{TableRows, bus_row, stream_row}
 use Rattle.dc_tables.specs.declared.rows.Bus.{Bus}
 use Rattle.dc_tables.specs.declared.rows.Stream.{Stream}
-use Rattle.dc_parts.specs.declared.parts.BusPart.{BusPart}
-use Rattle.dc_parts.specs.declared.parts.StreamPart.{StreamPart}
-use Rattle.dc_parts.specs.declared.parts.RouterPart.{RouterPart}
+use Rattle.dc_document.specs.declared.parts.BusPart.{BusPart}
+use Rattle.dc_document.specs.declared.parts.StreamPart.{StreamPart}
+use Rattle.dc_document.specs.declared.parts.RouterPart.{RouterPart}
 use Rattle.dc_dict.specs.declared.parameter.Parameter.{Parameter as ParameterPart}
 use Rattle.dc_rules.specs.lemmas.Picks.{rows_each, each_fails, not_outside, or_none, not_below}
 use Rattle.dc_rules.specs.lemmas.Owners.{owners_fit, placed, IsPlaced}

@@ -8,7 +8,7 @@ use Rattle.dc_rules.specs.Rules.{label_entries, entries_from}
 use Rattle.dc_build.specs.RowsOf.{entry_of, own_entries}
 use Rattle.dc_tables.specs.declared.rows.Entry.{Entry}
 use Rattle.dc_rules.specs.declared.keys.PlacedEntry.{PlacedEntry}
-use Rattle.dc_parts.specs.declared.parts.LabelPart.{LabelPart}
+use Rattle.dc_document.specs.declared.parts.LabelPart.{LabelPart}
 use Rattle.dc_rules.specs.lemmas.Owners.{one, counted, one_true, one_false, bool_cases}
 
 pub is_same : (a b : ℕ) → (a == b) ≡ true → a ≡ b

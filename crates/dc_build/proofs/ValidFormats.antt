@@ -7,13 +7,13 @@ use Rattle.std.proofs.lemmas.List.{length-map, get_or-map}
 use Rattle.std.proofs.lemmas.Option.{slice_get-get_or}
 use Rattle.dc_word.specs.declared.format.Format.{Format}
 use Rattle.dc_word.specs.declared.format.Format.TheVariants.{Bnr, Bcd, Disc}
-use Rattle.dc_parts.specs.Document.{Document}
+use Rattle.dc_document.specs.Document.{Document}
 use Rattle.dc_rules.specs.Obeys.{ReferencesObey, SchedulesObey}
 use Rattle.dc_rules.specs.Rules.{parameter_of, has_unknown, stream_names, format_number, same_format, source_parameter, differs}
-use Rattle.dc_parts.specs.Keys.{stream_key, label_key}
-use Rattle.dc_parts.specs.Names.{number_of}
+use Rattle.dc_document.specs.Keys.{stream_key, label_key}
+use Rattle.dc_document.specs.Names.{number_of}
 use Rattle.dc_dict.specs.declared.parameter.Parameter.{Parameter as ParameterPart}
-use Rattle.dc_parts.specs.declared.parts.StreamPart.{StreamPart}
+use Rattle.dc_document.specs.declared.parts.StreamPart.{StreamPart}
 use Rattle.dc_rules.specs.lemmas.Picks.{each_fails, any_fails, not_false}
 use Rattle.dc_build.specs.RowsOf.{number_in, AreRows}
 use Rattle.dc_tables.specs.TableRows.{TableRows, stream_row, label_row}

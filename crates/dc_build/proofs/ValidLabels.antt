@@ -3,14 +3,14 @@ use Rattle.std.proofs.Common.{◌≡◌, ℕ, ◌+◌, ◌<◌, ◌≤◌, ◌||
 use Rattle.std.specs.List.{count_by}
 use Rattle.std.proofs.lemmas.List.{length-map, get_or-map}
 use Rattle.dc_word.specs.declared.format.Format.TheVariants.{Bnr}
-use Rattle.dc_parts.specs.Document.{Document, label_owners, IsInOrder}
+use Rattle.dc_document.specs.Document.{Document, label_owners, IsInOrder}
 use Rattle.dc_rules.specs.Rules.{outside, counts, offsets_out, label_out, parameter_of, no_interval, has_unknown, stream_names}
-use Rattle.dc_parts.specs.Keys.{label_key}
+use Rattle.dc_document.specs.Keys.{label_key}
 use Rattle.dc_build.specs.RowsOf.{number_in, label_row_of, AreRows}
 use Rattle.dc_tables.specs.TableRows.{TableRows, label_row}
 use Rattle.dc_tables.specs.declared.rows.OutputLabel.{OutputLabel}
-use Rattle.dc_parts.specs.declared.parts.LabelPart.{LabelPart}
-use Rattle.dc_parts.specs.declared.parts.StreamPart.{StreamPart}
+use Rattle.dc_document.specs.declared.parts.LabelPart.{LabelPart}
+use Rattle.dc_document.specs.declared.parts.StreamPart.{StreamPart}
 use Rattle.dc_rules.specs.lemmas.Picks.{rows_each, each_fails, not_outside, or_none}
 use Rattle.dc_rules.specs.lemmas.Apart.{counts_at, counts_length}
 use Rattle.dc_rules.specs.lemmas.Owners.{counted}

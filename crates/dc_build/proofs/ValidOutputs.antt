@@ -5,17 +5,17 @@ use Rattle.std.specs.Prelude.{option_map, option_and_then}
 use Rattle.std.proofs.lemmas.List.{length-map, get_or-map}
 use Rattle.std.proofs.lemmas.List.Sorted.{All-permutation, Contains-permutation, sum_by-IsPermutation, length_permutation}
 use Rattle.std.proofs.lemmas.Bool.{cases_lt}
-use Rattle.dc_parts.specs.Document.{Document, label_owners, IsInOrder}
-use Rattle.dc_parts.specs.Ticks.{output_gap}
+use Rattle.dc_document.specs.Document.{Document, label_owners, IsInOrder}
+use Rattle.dc_document.specs.Ticks.{output_gap}
 use Rattle.dc_rules.specs.Rules.{outside, output_out, counts, doubled, doubled_from, same_offset, offset_of, entries_from, entry_owners, frame_of}
 use Rattle.dc_build.specs.RowsOf.{entry_of, own_entries, IsOutputRow, AreRows}
 use Rattle.dc_tables.specs.TableRows.{TableRows, output_row, label_row, entry_row}
-use Rattle.dc_parts.specs.declared.parts.Speed.TheVariants.{High}
+use Rattle.dc_document.specs.declared.parts.Speed.TheVariants.{High}
 use Rattle.dc_tables.specs.declared.rows.Entry.{Entry}
 use Rattle.dc_rules.specs.declared.keys.PlacedEntry.{PlacedEntry}
 use Rattle.dc_rules.specs.declared.keys.PlacedOffset.{PlacedOffset}
-use Rattle.dc_parts.specs.declared.parts.OutputPart.{OutputPart}
-use Rattle.dc_parts.specs.declared.parts.LabelPart.{LabelPart}
+use Rattle.dc_document.specs.declared.parts.OutputPart.{OutputPart}
+use Rattle.dc_document.specs.declared.parts.LabelPart.{LabelPart}
 use Rattle.dc_rules.specs.lemmas.Picks.{each_fails, any_fails, not_outside, or_none, not_below, not_le, first_passes, and_some}
 use Rattle.dc_rules.specs.lemmas.Owners.{bool_cases, counted_there}
 use Rattle.dc_rules.specs.lemmas.Apart.{apart, one_at_most, two_at_least, counts_length, counts_at}

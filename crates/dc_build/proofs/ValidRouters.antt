@@ -9,14 +9,14 @@ use Rattle.std.proofs.lemmas.List.{length-map, get_or-map}
 use Rattle.std.proofs.lemmas.Bool.{cases_lt}
 use Rattle.std.proofs.lemmas.Bool.Decides.{nat_tests}
 use Rattle.std.proofs.lemmas.Slice.Eq.{bytes_eq-Decides}
-use Rattle.dc_parts.specs.Document.{Document}
+use Rattle.dc_document.specs.Document.{Document}
 use Rattle.dc_rules.specs.Rules.{outside, router_out, visits_bus, has_unknown, bus_names}
-use Rattle.dc_parts.specs.Names.{number_of}
+use Rattle.dc_document.specs.Names.{number_of}
 use Rattle.dc_build.specs.RowsOf.{number_in, router_row_of, AreRows}
 use Rattle.dc_tables.specs.TableRows.{TableRows, bus_row, router_row, visited}
 use Rattle.dc_tables.specs.declared.rows.Router.{Router}
-use Rattle.dc_parts.specs.declared.parts.BusPart.{BusPart}
-use Rattle.dc_parts.specs.declared.parts.RouterPart.{RouterPart}
+use Rattle.dc_document.specs.declared.parts.BusPart.{BusPart}
+use Rattle.dc_document.specs.declared.parts.RouterPart.{RouterPart}
 use Rattle.dc_rules.specs.lemmas.Picks.{map_each, rows_each, each_fails, any_fails, not_outside, or_none, not_below, not_false, first_passes, number_there}
 use Rattle.dc_rules.specs.lemmas.Owners.{counted_there, only_one}
 use Rattle.dc_build.proofs.ValidBuses.{bus_count, each_bus}

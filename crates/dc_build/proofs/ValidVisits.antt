@@ -6,11 +6,11 @@ use Rattle.std.specs.Str.{bytes_eq}
 use Rattle.std.proofs.Math.Nat.{mod-eq_of_lt}
 use Rattle.std.proofs.lemmas.List.{length-map, get_or-map}
 use Rattle.std.proofs.lemmas.Slice.Eq.{bytes_eq-Decides}
-use Rattle.dc_parts.specs.Document.{Document}
+use Rattle.dc_document.specs.Document.{Document}
 use Rattle.dc_rules.specs.Obeys.{NamesObey, ShapeObeys, ReferencesObey}
 use Rattle.dc_rules.specs.Rules.{visits_bus, has_unknown, bus_names}
-use Rattle.dc_parts.specs.declared.parts.BusPart.{BusPart}
-use Rattle.dc_parts.specs.declared.parts.RouterPart.{RouterPart}
+use Rattle.dc_document.specs.declared.parts.BusPart.{BusPart}
+use Rattle.dc_document.specs.declared.parts.RouterPart.{RouterPart}
 use Rattle.dc_rules.specs.lemmas.Owners.{bool_cases, counted_there}
 use Rattle.dc_rules.specs.lemmas.Picks.{each_fails, first_passes}
 use Rattle.dc_build.specs.RowsOf.{number_in, router_row_of, AreRows}

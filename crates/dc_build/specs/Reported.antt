@@ -1,9 +1,9 @@
 -- When an answer is the tables of a text.
 use Rattle.std.specs.Prelude.{◌≡◌, ◌⊎◌, Result, Ok, Err}
-use Rattle.dc_parts.specs.declared.fault.BuildError.{BuildError}
-use Rattle.dc_parts.specs.declared.fault.BuildError.TheVariants.{Refused, Memory}
-use Rattle.dc_parts.specs.declared.fault.TableFault.{TableFault}
-use Rattle.dc_parts.specs.Document.{Document}
+use Rattle.dc_document.specs.declared.fault.BuildError.{BuildError}
+use Rattle.dc_document.specs.declared.fault.BuildError.TheVariants.{Refused, Memory}
+use Rattle.dc_document.specs.declared.fault.TableFault.{TableFault}
+use Rattle.dc_document.specs.Document.{Document}
 use Rattle.dc_rules.specs.Rules.{verdict_of}
 use Rattle.dc_build.specs.RowsOf.{AreRows}
 use Rattle.dc_tables.specs.TableRows.{TableRows}

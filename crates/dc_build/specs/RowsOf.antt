@@ -11,17 +11,17 @@ use Rattle.dc_tables.specs.declared.rows.Entry.{Entry}
 use Rattle.dc_tables.specs.declared.rows.OutputLabel.{OutputLabel}
 use Rattle.dc_rules.specs.declared.keys.PlacedEntry.{PlacedEntry}
 use Rattle.dc_dict.specs.declared.parameter.Parameter.{Parameter as ParameterPart}
-use Rattle.dc_parts.specs.declared.parts.BusPart.{BusPart}
-use Rattle.dc_parts.specs.declared.parts.StreamPart.{StreamPart}
-use Rattle.dc_parts.specs.declared.parts.RouterPart.{RouterPart}
-use Rattle.dc_parts.specs.declared.parts.OutputPart.{OutputPart}
-use Rattle.dc_parts.specs.declared.parts.LabelPart.{LabelPart}
-use Rattle.dc_parts.specs.Document.{Document, stream_owners}
+use Rattle.dc_document.specs.declared.parts.BusPart.{BusPart}
+use Rattle.dc_document.specs.declared.parts.StreamPart.{StreamPart}
+use Rattle.dc_document.specs.declared.parts.RouterPart.{RouterPart}
+use Rattle.dc_document.specs.declared.parts.OutputPart.{OutputPart}
+use Rattle.dc_document.specs.declared.parts.LabelPart.{LabelPart}
+use Rattle.dc_document.specs.Document.{Document, stream_owners}
 use Rattle.dc_dict.specs.Ticks.{in_minimum, in_maximum, out_minimum, out_maximum, jitter_ticks}
-use Rattle.dc_parts.specs.Ticks.{output_gap, input_spacing}
+use Rattle.dc_document.specs.Ticks.{output_gap, input_spacing}
 use Rattle.dc_rules.specs.Rules.{parameter_of, visits_bus, entries_from, bus_names, stream_names, router_names, output_names, label_names}
-use Rattle.dc_parts.specs.Keys.{stream_key, label_key}
-use Rattle.dc_parts.specs.Names.{number_of}
+use Rattle.dc_document.specs.Keys.{stream_key, label_key}
+use Rattle.dc_document.specs.Names.{number_of}
 use Rattle.dc_tables.specs.TableNames.{TableNames}
 use Rattle.dc_tables.specs.TableRows.{TableRows, output_row}
 

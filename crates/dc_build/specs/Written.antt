@@ -1,5 +1,5 @@
 -- Tables beside the document that they were built from.
-use Rattle.dc_parts.specs.Document.{Document}
+use Rattle.dc_document.specs.Document.{Document}
 use Rattle.dc_rules.specs.Obeys.{Obeys}
 use Rattle.dc_build.specs.RowsOf.{AreRows}
 use Rattle.dc_tables.specs.TableRows.{TableRows}

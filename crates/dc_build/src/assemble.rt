@@ -5,7 +5,7 @@ ghost use Rattle.dc_build.specs.Placed.{AreFrom};
 ghost use Rattle.std.specs.List.{prefix_len};
 
 use dc_dict::{in_maximum, in_minimum, jitter_ticks, out_maximum, out_minimum};
-use dc_parts::{
+use dc_document::{
     BusPart, LabelPart, Name, OutputPart, RouterPart, StreamPart, input_spacing, output_gap,
 };
 use dc_rules::{Parameters, PlacedEntry, count_members, visiting_routers};

@@ -3,11 +3,11 @@ ghost use Rattle.std.specs.Prelude.{All, ◌≡◌, ◌≤◌, ◌<◌, map, len
 ghost use Rattle.dc_build.specs.RowsOf.{bus_rows_from, stream_row_of, router_row_of, label_row_of, AreOutputs, AreRows, names_of};
 ghost use Rattle.dc_tables.specs.Bounds.{table_rows};
 ghost use Rattle.dc_rules.specs.Rules.{entries_from, bus_names, stream_names};
-ghost use Rattle.dc_parts.specs.Document.{stream_owners};
+ghost use Rattle.dc_document.specs.Document.{stream_owners};
 ghost use Rattle.dc_rules.specs.Passed.{ArePassed};
 
 use crate::assemble::{bus_rows, label_rows, output_rows, router_rows, stream_rows};
-use dc_parts::Parts;
+use dc_document::Parts;
 use dc_rules::{Parameters, Passed, PlacedEntry, stream_owners};
 use dc_tables::{Bus, NameIndex, Output, OutputLabel, Router, Rows, Stream};
 use std::alloc::{AllocError, Global};

@@ -3,7 +3,7 @@ ghost use Rattle.dc_build.specs.Reported.{TellsTables};
 ghost use Rattle.dc_toml.specs.Reading.{tables_of};
 
 use crate::tables::Build;
-use dc_parts::{BuildError, TEXT_LIMIT};
+use dc_document::{BuildError, TEXT_LIMIT};
 use dc_tables::Tables;
 use dc_toml::read_parts;
 use std::alloc::Global;

@@ -6,7 +6,7 @@ ghost use Rattle.dc_rules.specs.Obeys.{Obeys};
 ghost use Rattle.dc_rules.specs.Passed.{ArePassed};
 
 use crate::made::make_rows;
-use dc_parts::{BuildError, Parts};
+use dc_document::{BuildError, Parts};
 use dc_rules::Passed;
 use dc_tables::Tables;
 use std::alloc::{AllocError, Global};

@@ -3,7 +3,7 @@ ghost use Rattle.std.specs.Prelude.{◌≡◌, IfOk};
 ghost use Rattle.dc_rules.specs.Rules.{Tells, verdict_of};
 
 use crate::tables::{Build, tables_of};
-use dc_parts::{BuildError, Parts};
+use dc_document::{BuildError, Parts};
 use dc_tables::Tables;
 use std::alloc::Global;
 use std::marker::Model;

@@ -11,7 +11,7 @@ use Rattle.serde_json.specs.Written.{comma_if, compact_text, items_text, members
 use Rattle.dc_cert.specs.NamedRows.{NamedInput, NamedOutput, NamedLabel, NamedRows}
 use Rattle.dc_cert.specs.Limits.{IsWithinLimits, InputFits, OutputFits, LabelFits, ClaimsFit}
 use Rattle.dc_cert.specs.Printing.{input_data, output_data, label_data, claims_data, claims_text}
-use Rattle.dc_parts.specs.Names.{IsSpelled}
+use Rattle.dc_document.specs.Names.{IsSpelled}
 
 either_short : (b : Bool) (xs ys : List ℕ) → length xs ≤ 6 → length ys ≤ 6 → length (cond b xs ys) ≤ 6
 either_short true xs ys h k = h

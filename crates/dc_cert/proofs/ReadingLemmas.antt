@@ -12,8 +12,8 @@ use Rattle.dc_cert.specs.declared.fault.CertRule.TheVariants.{NotJson, ListOrNam
 use Rattle.dc_cert.specs.declared.fault.TextPlace.{TextPlace}
 use Rattle.dc_cert.specs.declared.fault.TextPlace.TheVariants.{Top}
 use Rattle.dc_cert.specs.Reading.{Reading, refused, found, name_in, list_in, document_of}
-use Rattle.dc_parts.specs.Names.{text_of, name_of}
-use Rattle.dc_parts.specs.lemmas.Spelled.{text_of-name_of}
+use Rattle.dc_document.specs.Names.{text_of, name_of}
+use Rattle.dc_document.specs.lemmas.Spelled.{text_of-name_of}
 
 -- ---- the rows of a list
 

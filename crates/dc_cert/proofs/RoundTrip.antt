@@ -17,7 +17,7 @@ use Rattle.dc_cert.proofs.Lengths.{length-claims_text}
 use Rattle.dc_cert.proofs.Lexed.{IsPlain, ItemsArePlain, read-line_feed}
 use Rattle.dc_cert.proofs.PrintingLemmas.{has_float-claims_data, depth-claims_data}
 use Rattle.dc_cert.proofs.ReadingLemmas.{document_good}
-use Rattle.dc_parts.specs.lemmas.Spelled.{is_spelled-from_IsSpelled}
+use Rattle.dc_document.specs.lemmas.Spelled.{is_spelled-from_IsSpelled}
 
 fits : (n : ℕ) → n < 2 ^ 32 → nat_le n 4294967295 ≡ true
 fits n h = grind (arith, nat_tests)

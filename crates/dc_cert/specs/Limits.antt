@@ -2,7 +2,7 @@
 use Rattle.std.specs.Prelude.{◌^◌, ◌<◌, ◌≤◌, length, All}
 use Rattle.dc_cert.specs.NamedRows.{NamedInput, NamedOutput, NamedLabel, NamedRows}
 use Rattle.dc_cert.specs.declared.read.TheConstants.{LIST_LIMIT}
-use Rattle.dc_parts.specs.Names.{IsSpelled}
+use Rattle.dc_document.specs.Names.{IsSpelled}
 
 -- lists within their limit
 pub record IsWithinLimits (claims : NamedRows) : Type 0 where

@@ -4,7 +4,7 @@ use Rattle.dc_cert.specs.declared.certificate.InputRow.{InputRow}
 use Rattle.dc_cert.specs.declared.certificate.OutputRow.{OutputRow}
 use Rattle.dc_cert.specs.declared.certificate.LabelRow.{LabelRow}
 use Rattle.dc_cert.specs.declared.certificate.Certificate.{Certificate}
-use Rattle.dc_parts.specs.Names.{text_of}
+use Rattle.dc_document.specs.Names.{text_of}
 
 -- the claim for an input bus: its window, backlog and delay
 pub record NamedInput : Type 0 where

@@ -16,8 +16,8 @@ use Rattle.dc_cert.specs.declared.fault.Fault.{Fault}
 use Rattle.dc_cert.specs.NamedRows.{NamedInput, NamedOutput, NamedLabel, NamedRows}
 use Rattle.dc_cert.specs.declared.read.TheConstants.{LIST_LIMIT}
 use Rattle.dc_cert.specs.declared.keys.TheConstants.{GREATEST_NUMBER}
-use Rattle.dc_parts.specs.Names.{is_spelled}
-use Rattle.dc_parts.specs.declared.limits.TheConstants.{TEXT_LIMIT}
+use Rattle.dc_document.specs.Names.{is_spelled}
+use Rattle.dc_document.specs.declared.limits.TheConstants.{TEXT_LIMIT}
 
 -- ---- a value or a fault, and the steps that were good so far
 

@@ -1,6 +1,6 @@
 //! What a certificate says. A row bounds none of its numbers: which are accepted for tables `dc_check` says.
 
-use dc_parts::Name;
+use dc_document::Name;
 
 /// What is claimed of an input bus.
 #[derive(Clone, Copy, Debug, PartialEq, Eq)]

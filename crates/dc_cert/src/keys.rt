@@ -5,11 +5,11 @@ ghost use Rattle.serde_json.specs.Find.{get_member, as_array, as_number, as_u64}
 ghost use Rattle.serde_json.specs.View.{view, items_view, members_view};
 ghost use Rattle.dc_cert.specs.Faults.{seen};
 ghost use Rattle.dc_cert.specs.Reading.{same_key, only_keys, all_keys, object_of, shape_of, number_at, name_in, name_at, list_at, version_of};
-ghost use Rattle.dc_parts.specs.Names.{text_of};
+ghost use Rattle.dc_document.specs.Names.{text_of};
 
 use crate::fault::{CertRule, Fault, TextPlace};
 use crate::read::LIST_LIMIT;
-use dc_parts::Name;
+use dc_document::Name;
 use serde_json::{Map, Value};
 
 /// The members of an object.

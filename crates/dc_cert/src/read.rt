@@ -9,7 +9,7 @@ use crate::certificate::Certificate;
 use crate::fault::{CertFault, CertRule, TextPlace};
 use crate::keys::{list, object, shape, version};
 use crate::row::Row;
-use dc_parts::TEXT_LIMIT;
+use dc_document::TEXT_LIMIT;
 use serde_json::Value;
 use std::alloc::Global;
 

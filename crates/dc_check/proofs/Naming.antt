@@ -9,7 +9,7 @@ use Rattle.dc_check.specs.Placed.{member_count}
 use Rattle.dc_check.specs.Verdict.{is_named}
 use Rattle.dc_check.specs.declared.fault.CertificateList.{CertificateList}
 use Rattle.dc_check.specs.declared.fault.CertificateList.TheVariants.{Inputs, Outputs, Labels}
-use Rattle.dc_parts.specs.Names.{text_of}
+use Rattle.dc_document.specs.Names.{text_of}
 use Rattle.dc_tables.specs.Named.{HaveNames}
 use Rattle.dc_tables.specs.TableRows.{TableRows}
 

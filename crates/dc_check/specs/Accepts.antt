@@ -5,7 +5,7 @@ use Rattle.dc_busy.specs.BusyWindow.{Closes, BacklogBounded, DelayBounded}
 use Rattle.dc_busy.specs.declared.limits.TheConstants.{LONGEST_WINDOW}
 use Rattle.dc_cert.specs.Bounds.{InputBound, OutputBound, CertificateRows, input_bound, output_bound, numbers_of}
 use Rattle.dc_cert.specs.NamedRows.{NamedRows}
-use Rattle.dc_parts.specs.Names.{text_of}
+use Rattle.dc_document.specs.Names.{text_of}
 use Rattle.dc_tables.specs.TableRows.{TableRows, bus_row, stream_row, label_row, bus_cap, bus_floor, output_cap, output_floor}
 use Rattle.dc_transmit.specs.Schedule.{schedule_of, label_gaps}
 

@@ -5,7 +5,7 @@ use Rattle.dc_event.specs.Choice.{chosen_source}
 use Rattle.dc_event.specs.Emissions.{emission}
 use Rattle.dc_event.specs.declared.event.Event.{Event}
 use Rattle.dc_event.specs.declared.event.Event.TheVariants.{Tick, Arrive, Route, Send}
-use Rattle.dc_parts.specs.Names.{padded}
+use Rattle.dc_document.specs.Names.{padded}
 use Rattle.dc_tables.specs.TableNames.{TableNames}
 use Rattle.dc_tables.specs.TableRows.{TableRows}
 use Rattle.dc_tables.specs.declared.rows.Stream.{Stream}

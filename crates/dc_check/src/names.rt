@@ -6,12 +6,12 @@ ghost use Rattle.dc_cert.specs.NamedRows.{named_rows};
 ghost use Rattle.dc_check.specs.Names.{names_of};
 ghost use Rattle.dc_check.specs.Placed.{member_count};
 ghost use Rattle.dc_check.specs.Verdict.{IsSized, is_named, misnaming};
-ghost use Rattle.dc_parts.specs.Names.{text_of};
+ghost use Rattle.dc_document.specs.Names.{text_of};
 
 use crate::fault::{CertificateList, CheckFault, Condition};
 use crate::rules::{fault, fault_unless, first_fault};
 use dc_cert::{Certificate, InputRow, LabelRow, OutputRow};
-use dc_parts::Name;
+use dc_document::Name;
 use dc_tables::Tables;
 
 /// The fault of a certificate's names, if any: `NamesDiffer` at the inputs, the outputs or the labels. Where there is

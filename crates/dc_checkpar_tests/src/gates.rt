@@ -4,9 +4,9 @@ ghost use Rattle.std.specs.Prelude.{◌≤◌};
 
 use dc_cert::Certificate;
 use dc_checkpar::{Gate, ParFault, check_par};
-use dc_gates::{Against, Counting, Meeting, Recording};
 use dc_tables::Tables;
-use dc_trials::{certificate_of, push_equal_certificate, push_equal_tables, tables_of};
+use dc_test_gates::{Against, Counting, Meeting, Recording};
+use dc_test_tables::{certificate_of, push_equal_certificate, push_equal_tables, tables_of};
 use std::alloc::Global;
 use std::process::Abort;
 use std::rt::HostRuntime;

@@ -8,7 +8,7 @@ use dc_build::read_tables;
 use dc_cert::{Certificate, read_cert};
 use dc_check::{Certified, check};
 use dc_tables::Tables;
-use dc_trials::{push_equal_certificate, push_equal_tables};
+use dc_test_tables::{push_equal_certificate, push_equal_tables};
 use std::alloc::Global;
 use std::sync::Arc;
 

@@ -7,7 +7,7 @@ use Rattle.dc_bound.specs.Places.{served_in, first_place, each_place}
 use Rattle.dc_bound.specs.Moves.{ins, passed, is_overfull, latch, entered, taken, routed_tick, arrived_tick, latest_number, latest_by}
 use Rattle.dc_device.specs.Lines.{spelled}
 use Rattle.dc_word.specs.Word.{reversed, ones_in, is_odd, body_of, composed_word, copied_word, fallback_word}
-use Rattle.dc_parts.specs.Names.{padded}
+use Rattle.dc_document.specs.Names.{padded}
 use Rattle.dc_tables.specs.TableRows.{TableRows}
 use Rattle.dc_tables.specs.Declares.{stream_of}
 use Rattle.dc_event.specs.Buses.{moves}

@@ -2,8 +2,8 @@
 use Rattle.std.specs.Prelude.{ℕ, ◌+◌, ◌-◌, Bool, ◌==◌, ◌||◌, nat_lt, if◌then◌else◌, Option, Some, None, option_map, option_and_then, Result, Ok, Err, List, [], ◌∷◌, length, codes}
 use Rattle.std.specs.Str.{bytes_eq}
 use Rattle.dc_device.specs.Lines.{lines_of}
-use Rattle.dc_parts.specs.Names.{name_of}
-use Rattle.dc_parts.specs.Names.{number_of}
+use Rattle.dc_document.specs.Names.{name_of}
+use Rattle.dc_document.specs.Names.{number_of}
 use Rattle.dc_tables.specs.TableRows.{TableRows}
 use Rattle.dc_event.specs.WordText.{word_of}
 use Rattle.dc_event.specs.declared.event.Event.{Event}

@@ -8,7 +8,7 @@ ghost use Rattle.dc_event.specs.WordText.{value_or_much, word_of};
 use crate::event::Event;
 use crate::fields::Fields;
 use crate::trace::LineRule;
-use dc_parts::Name;
+use dc_document::Name;
 use dc_tables::Tables;
 use dc_word::Word;
 

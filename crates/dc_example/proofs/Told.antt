@@ -1,7 +1,7 @@
 -- What tells the tables of a text that says the example's.
 use Rattle.std.proofs.Common.{◌≡◌, Result, Ok, Err, is_ok, inl, inr, sym, ap, ◌∙◌, true≢false}
-use Rattle.dc_parts.specs.declared.fault.BuildError.{BuildError}
-use Rattle.dc_parts.specs.declared.fault.BuildError.TheVariants.{Refused, Memory}
+use Rattle.dc_document.specs.declared.fault.BuildError.{BuildError}
+use Rattle.dc_document.specs.declared.fault.BuildError.TheVariants.{Refused, Memory}
 use Rattle.dc_rules.specs.Rules.{verdict_of}
 use Rattle.dc_tables.specs.TableRows.{TableRows}
 use Rattle.dc_build.specs.RowsOf.{AreRows}

@@ -1,11 +1,11 @@
 -- What the text of examples/small.toml says, the documents that say so, and their rows.
 use Rattle.std.proofs.Common.{◌≡◌, ℕ, zero, suc, ◌<◌, ◌≤◌, List, [], ◌∷◌, map, length, false, Ok, None, Vec, IsPermutation, swap, refl, sym, ap, subst, ◌∙◌, arith, lit≤, slice_index_or}
 use Rattle.std.proofs.lemmas.List.Sorted.{IsPermutation-keeps}
-use Rattle.dc_parts.specs.Names.{padded}
-use Rattle.dc_parts.specs.Document.{Document}
-use Rattle.dc_parts.specs.declared.parts.Version.TheVariants.{One}
-use Rattle.dc_parts.specs.declared.parts.RouterPart.{RouterPart}
-use Rattle.dc_parts.specs.declared.parts.LabelPart.{LabelPart}
+use Rattle.dc_document.specs.Names.{padded}
+use Rattle.dc_document.specs.Document.{Document}
+use Rattle.dc_document.specs.declared.parts.Version.TheVariants.{One}
+use Rattle.dc_document.specs.declared.parts.RouterPart.{RouterPart}
+use Rattle.dc_document.specs.declared.parts.LabelPart.{LabelPart}
 use Rattle.dc_toml.specs.Written.{Written, RouterText, LabelText, written, router_text, label_text}
 use Rattle.dc_tables.specs.TableRows.{TableRows, output_row}
 use Rattle.dc_build.specs.RowsOf.{AreRows, IsOutputRow}
@@ -13,8 +13,8 @@ use Rattle.dc_tables.specs.declared.rows.Output.{Output}
 use Rattle.dc_tables.specs.declared.rows.Entry.{Entry}
 use Rattle.dc_rules.specs.Rules.{verdict_of}
 use Rattle.dc_rules.specs.declared.keys.PlacedEntry.{PlacedEntry}
-use Rattle.dc_parts.specs.declared.parts.OutputPart.{OutputPart}
-use Rattle.dc_parts.specs.declared.parts.Speed.TheVariants.{High}
+use Rattle.dc_document.specs.declared.parts.OutputPart.{OutputPart}
+use Rattle.dc_document.specs.declared.parts.Speed.TheVariants.{High}
 use Rattle.dc_word.specs.declared.format.Format.TheVariants.{Bnr}
 use Rattle.dc_check.specs.Small.{small_tables, small_output}
 

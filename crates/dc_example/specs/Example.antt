@@ -1,8 +1,8 @@
 -- The text of examples/small.toml, and what reading it may answer.
 use Rattle.std.specs.Prelude.{◌≡◌, ℕ, List, ◌++◌, codes, Result, Ok, Err}
 use Rattle.dc_check.specs.Small.{small_tables}
-use Rattle.dc_parts.specs.declared.fault.BuildError.{BuildError}
-use Rattle.dc_parts.specs.declared.fault.BuildError.TheVariants.{Refused, Memory}
+use Rattle.dc_document.specs.declared.fault.BuildError.{BuildError}
+use Rattle.dc_document.specs.declared.fault.BuildError.TheVariants.{Refused, Memory}
 use Rattle.dc_tables.specs.TableRows.{TableRows}
 use Rattle.dc_toml.specs.Reading.{tables_of}
 use Rattle.dc_build.specs.Reported.{TellsTables}

@@ -14,7 +14,7 @@ use Rattle.dc_find.proofs.Jobs.{input-clear, output-clear}
 use Rattle.dc_find.specs.Least.{IsLeastAccepted}
 use Rattle.dc_find.specs.Rows.{EachAt, IsLeastInput, IsLeastOutput, IsInputRow, IsOutputRow, AreInputRows, AreOutputRows, AreLabelRows, IsOldEnough, inputs_alone}
 use Rattle.dc_find.specs.Ways.{AcceptsQueues, IsClearBelow}
-use Rattle.dc_parts.specs.Names.{text_of}
+use Rattle.dc_document.specs.Names.{text_of}
 use Rattle.dc_tables.specs.Named.{HaveNames}
 use Rattle.dc_tables.specs.TableRows.{TableRows, label_row}
 

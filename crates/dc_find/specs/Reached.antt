@@ -11,7 +11,7 @@ use Rattle.dc_find.specs.Ways.{NeverCloses}
 use Rattle.dc_find.specs.declared.fault.FindFault.{FindFault}
 use Rattle.dc_find.specs.declared.fault.FindFault.TheVariants.{WindowNeverCloses, QueueTooShort, LabelRule, Memory}
 use Rattle.dc_find.specs.declared.fault.Queue.TheVariants.{Input, Output}
-use Rattle.dc_parts.specs.Names.{text_of}
+use Rattle.dc_document.specs.Names.{text_of}
 use Rattle.dc_tables.specs.TableRows.{TableRows, bus_cap, bus_floor, output_cap, output_floor}
 
 -- how many jobs are reached, the inputs, the outputs and the labels in one row: those before the fault; where the queue of an

@@ -8,7 +8,7 @@ use Rattle.dc_cert.specs.Bounds.{InputBound, OutputBound, CertificateRows, input
 use Rattle.dc_cert.specs.NamedRows.{NamedInput, NamedOutput, NamedLabel}
 use Rattle.dc_check.specs.Accepts.{WindowCloses, DelayHolds, AcceptsInput, AcceptsOutput, source_delay}
 use Rattle.dc_find.specs.Least.{IsInputAtMost, IsOutputAtMost}
-use Rattle.dc_parts.specs.Names.{text_of}
+use Rattle.dc_document.specs.Names.{text_of}
 use Rattle.dc_tables.specs.TableRows.{TableRows, label_row, bus_cap, bus_floor}
 
 -- P holds of each row and its number

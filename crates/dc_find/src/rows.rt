@@ -7,7 +7,7 @@ ghost use Rattle.dc_cert.specs.NamedRows.{named_input, named_output, named_label
 ghost use Rattle.dc_find.specs.Rows.{IsInputRow, IsOutputRow, IsLabelRow, AreInputRows, AreOutputRows, AreLabelRows, HaveShortDelays, IsOldEnough, inputs_alone};
 ghost use Rattle.dc_find.specs.Ways.{IsFirstOfJob, IsFirstInTheWay, IsClearBelow};
 ghost use Rattle.dc_find.specs.declared.fault.FindFault.TheVariants.{Memory};
-ghost use Rattle.dc_parts.specs.Names.{text_of};
+ghost use Rattle.dc_document.specs.Names.{text_of};
 
 use crate::fault::FindFault;
 use crate::queues::{InputNumbers, Times, input_numbers, output_numbers};

@@ -4,7 +4,7 @@ use dc_core::{Core, StepFault};
 use dc_event::{Event, Reply};
 use dc_oracle::{outputs, steady};
 use dc_tables::Tables;
-use dc_trials::{push_equal_tables, tables_of};
+use dc_test_tables::{push_equal_tables, tables_of};
 use dc_word::{Label, Word};
 use std::alloc::Global;
 use std::process::Abort;

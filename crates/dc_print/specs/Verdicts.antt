@@ -6,7 +6,7 @@ use Rattle.dc_check.specs.declared.fault.Condition.{Condition}
 use Rattle.dc_check.specs.declared.fault.Condition.TheVariants.{NamesDiffer, BacklogTooSmall, DelayTooSmall}
 use Rattle.dc_check.specs.declared.fault.CertificateList.{CertificateList}
 use Rattle.dc_check.specs.declared.fault.CertificateList.TheVariants.{Inputs, Outputs, Labels}
-use Rattle.dc_parts.specs.Names.{text_of}
+use Rattle.dc_document.specs.Names.{text_of}
 use Rattle.dc_tables.specs.TableRows.{TableRows}
 
 -- whether it is of a list as a whole

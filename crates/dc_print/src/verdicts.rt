@@ -2,16 +2,16 @@
 ghost use Rattle.std.specs.Prelude.{◌≡◌, ◌++◌, ◌+◌, ◌<◌, ◌≤◌, length};
 ghost use Rattle.arrayvec.specs.ArrayVec.{array_vec_len};
 ghost use Rattle.dc_cert.specs.Faults.{fault_text};
-ghost use Rattle.dc_parts.specs.FaultText.{table_fault_text};
+ghost use Rattle.dc_document.specs.FaultText.{table_fault_text};
 ghost use Rattle.dc_check.specs.Placed.{IsPlaced, member_count};
 ghost use Rattle.dc_print.specs.Verdicts.{accepted_text, is_of_a_list, list_text, member_name, member_text, names_window, place_text, refused_text, window_text};
 ghost use Rattle.std.specs.Prelude.{codes};
-ghost use Rattle.dc_parts.specs.declared.limits.TheConstants.{NAME_LIMIT};
+ghost use Rattle.dc_document.specs.declared.limits.TheConstants.{NAME_LIMIT};
 
 use crate::text::{Text, append, append_number};
 use dc_cert::Fault;
 use dc_check::{CertificateList, CheckFault, Condition};
-use dc_parts::{Section, TableFault};
+use dc_document::{Section, TableFault};
 use dc_tables::Tables;
 
 /// Whether a condition is of a list as a whole.

@@ -1,7 +1,7 @@
 -- What a shape that is well says of the tick and the parameters.
 use Rattle.std.proofs.Common.{◌≡◌, ◌≤◌, Ok, get_or, arith}
 use Rattle.std.specs.List.{All}
-use Rattle.dc_parts.specs.Document.{Document}
+use Rattle.dc_document.specs.Document.{Document}
 use Rattle.dc_rules.specs.Rules.{outside, parameter_out, then_reported, shape, totals, quantities, first_rules}
 use Rattle.dc_dict.specs.declared.parameter.Parameter.{Parameter as ParameterPart}
 use Rattle.dc_rules.specs.lemmas.Picks.{each_fails, not_outside, or_none}

@@ -4,7 +4,7 @@ use Rattle.std.proofs.Math.Seq.{drop-cons, take-suc}
 use Rattle.std.specs.List.{list_any}
 use Rattle.dc_rules.specs.Rules.{doubled_from, label_entries, entries_from}
 use Rattle.dc_rules.specs.declared.keys.PlacedEntry.{PlacedEntry}
-use Rattle.dc_parts.specs.declared.parts.LabelPart.{LabelPart}
+use Rattle.dc_document.specs.declared.parts.LabelPart.{LabelPart}
 
 step_at : {A : Type 0} (R : A → A → Bool) (past : List A) (i : ℕ) (x : A) (rest : List A) → list_any (R x) past ≡ false
     → doubled_from R past i (x ∷ rest) ≡ doubled_from R (past ++ (x ∷ [])) (suc i) rest

@@ -9,7 +9,7 @@ use Rattle.dc_rules.specs.Rules.{overlap}
 use Rattle.dc_tables.specs.Sdis.{sdis_meet}
 use Rattle.dc_rules.specs.lemmas.Owners.{bool_cases}
 use Rattle.dc_rules.specs.Declarations.{place_of, declaring, same_place, same_declared, overlaps_sdi, overlaps_known}
-use Rattle.dc_parts.specs.declared.parts.StreamPart.{StreamPart}
+use Rattle.dc_document.specs.declared.parts.StreamPart.{StreamPart}
 use Rattle.dc_rules.specs.declared.keys.BusLabel.{BusLabel}
 use Rattle.dc_rules.specs.declared.keys.Declared.{Declared}
 

@@ -2,15 +2,15 @@
 use Rattle.std.proofs.Common.{◌≡◌, ℕ, Bool, true, false, cond, nat_lt, Option, Some, None, Ok, Err, List, length, map, refl}
 use Rattle.std.specs.Prelude.{option_map, IfOk, Result}
 use Rattle.std.specs.List.{slice_get, position}
-use Rattle.dc_parts.specs.Document.{Document, stream_owners, label_owners}
+use Rattle.dc_document.specs.Document.{Document, stream_owners, label_owners}
 use Rattle.dc_rules.specs.Obeys.{TopObeys, ShapeObeys, TotalsObey, QuantitiesObey, NamesObey, ReferencesObey, SchedulesObey, Obeys}
 use Rattle.dc_rules.specs.Rules.{Verdict, reported, then_reported, breach, earlier, at_owner, breach_reported, outside, at_top, counts, doubled, parameter_out, first_bus_out, first_count_out, first_stream_out, first_router_out, first_visits_out, first_output_out, first_label_out, first_sources_out, first_offsets_out, bus_shapes, stream_shapes, router_shapes, output_shapes, label_shapes, top_shape, shape, entries_from, entry_owners, first_overfull, totals, first_inverted, first_quick, first_narrow, later_quantities, quantities, doubled_name, router_names, output_names, label_names, names, first_unknown_stream, first_unknown_label, overlap, bus_names, stream_names, first_lost_router, first_lost_label, first_unserved, first_doubled_source, references, first_different, first_late, first_doubled_offset, first_doubled_label, first_unable_router, first_unable_output, schedules, first_rules, later_rules, verdict_of, Tells}
-use Rattle.dc_parts.specs.Keys.{same_parameter, parameter_key}
-use Rattle.dc_parts.specs.declared.fault.BuildError.{BuildError}
-use Rattle.dc_parts.specs.declared.fault.TableRule.{TableRule}
-use Rattle.dc_parts.specs.declared.fault.TableRule.TheVariants.{NumberOutOfRange, CountOutOfRange, ParameterDoubled, IntervalReversed, MinimumBelowOneTick, NoOutputInterval, NameDoubled, ParameterAbsent, StreamsOverlap, NameAbsent, BusNotVisitedByOne, SourceDoubled, FormatsDiffer, OffsetPastFrame, OffsetDoubled, LabelDoubled, RouterCannotKeepPace, OutputCannotKeepPace}
-use Rattle.dc_parts.specs.declared.fault.Section.{Section}
-use Rattle.dc_parts.specs.declared.fault.Section.TheVariants.{Top, Parameter, Bus, Stream, Router, Output, Label}
+use Rattle.dc_document.specs.Keys.{same_parameter, parameter_key}
+use Rattle.dc_document.specs.declared.fault.BuildError.{BuildError}
+use Rattle.dc_document.specs.declared.fault.TableRule.{TableRule}
+use Rattle.dc_document.specs.declared.fault.TableRule.TheVariants.{NumberOutOfRange, CountOutOfRange, ParameterDoubled, IntervalReversed, MinimumBelowOneTick, NoOutputInterval, NameDoubled, ParameterAbsent, StreamsOverlap, NameAbsent, BusNotVisitedByOne, SourceDoubled, FormatsDiffer, OffsetPastFrame, OffsetDoubled, LabelDoubled, RouterCannotKeepPace, OutputCannotKeepPace}
+use Rattle.dc_document.specs.declared.fault.Section.{Section}
+use Rattle.dc_document.specs.declared.fault.Section.TheVariants.{Top, Parameter, Bus, Stream, Router, Output, Label}
 use Rattle.dc_rules.specs.declared.breach.Breach.{Breach}
 
 pub both : (a b : Verdict) → then_reported a b ≡ Ok tt → (a ≡ Ok tt) × (b ≡ Ok tt)

@@ -1,8 +1,8 @@
 -- Verdicts one after another.
 use Rattle.std.proofs.Common.{◌≡◌, Option, Ok, Err, refl, subst}
 use Rattle.dc_rules.specs.Rules.{Verdict, then_reported, TellsFault, Tells}
-use Rattle.dc_parts.specs.declared.fault.BuildError.{BuildError}
-use Rattle.dc_parts.specs.declared.fault.BuildError.TheVariants.{Refused, Memory}
+use Rattle.dc_document.specs.declared.fault.BuildError.{BuildError}
+use Rattle.dc_document.specs.declared.fault.BuildError.TheVariants.{Refused, Memory}
 
 -- where the first is well, both tell what the second does
 pub tells_later : (a b : Verdict) (r : Option BuildError) → a ≡ Ok tt → TellsFault b r → TellsFault (then_reported a b) r

@@ -11,8 +11,8 @@ use Rattle.std.proofs.lemmas.Iterator.Adapters.{position_from-zero}
 use Rattle.dc_rules.specs.Rules.{visits_bus, first_unserved}
 use Rattle.dc_rules.specs.Visits.{visitors_of, with_visit, with_router, is_served, first_of, visiting_routers}
 use Rattle.dc_rules.specs.declared.visits.Visitors.{Visitors}
-use Rattle.dc_parts.specs.declared.parts.RouterPart.{RouterPart}
-use Rattle.dc_parts.specs.declared.parts.BusPart.{BusPart}
+use Rattle.dc_document.specs.declared.parts.RouterPart.{RouterPart}
+use Rattle.dc_document.specs.declared.parts.BusPart.{BusPart}
 use Rattle.dc_rules.specs.lemmas.Owners.{one, counted, one_true, count_none, bool_cases}
 use Rattle.dc_rules.specs.lemmas.Picks.{each_fails, first_passes}
 

@@ -2,7 +2,7 @@
 use Rattle.std.specs.Prelude.{ℕ, Bool, ◌==◌, ◌&&◌, ◌||◌, nat_eq, Option, Some, None, List}
 use Rattle.std.specs.List.{list_any}
 use Rattle.std.specs.Option.{option_eq}
-use Rattle.dc_parts.specs.declared.parts.StreamPart.{StreamPart}
+use Rattle.dc_document.specs.declared.parts.StreamPart.{StreamPart}
 use Rattle.dc_rules.specs.declared.keys.BusLabel.{BusLabel}
 use Rattle.dc_rules.specs.declared.keys.Declared.{Declared}
 

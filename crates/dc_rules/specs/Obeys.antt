@@ -1,10 +1,10 @@
 -- What it says that a document keeps each rule.
 use Rattle.std.specs.Prelude.{◌≡◌, ℕ, false, nat_lt, None, option_map, length, map, position, slice_get}
-use Rattle.dc_parts.specs.Document.{Document, stream_owners, label_owners}
+use Rattle.dc_document.specs.Document.{Document, stream_owners, label_owners}
 use Rattle.dc_rules.specs.Rules.{outside, counts, doubled, parameter_out, first_bus_out, first_count_out, first_stream_out, first_router_out, first_visits_out, first_output_out, first_label_out, first_sources_out, first_offsets_out, entries_from, entry_owners, first_overfull, first_inverted, first_quick, first_narrow, doubled_name, bus_names, stream_names, router_names, output_names, label_names, first_unknown_stream, first_unknown_label, overlap, first_lost_router, first_lost_label, first_unserved, first_doubled_source, first_different, first_late, first_doubled_offset, first_doubled_label, first_unable_router, first_unable_output}
-use Rattle.dc_parts.specs.Keys.{same_parameter, parameter_key}
+use Rattle.dc_document.specs.Keys.{same_parameter, parameter_key}
 use Rattle.dc_bound.specs.declared.limits.TheConstants.{LONGEST_TICK}
-use Rattle.dc_parts.specs.declared.limits.TheConstants.{MOST_BUSES, MOST_LABELS, MOST_OUTPUTS, MOST_PARAMETERS, MOST_ROUTERS, MOST_STREAMS, SHORTEST_TICK}
+use Rattle.dc_document.specs.declared.limits.TheConstants.{MOST_BUSES, MOST_LABELS, MOST_OUTPUTS, MOST_PARAMETERS, MOST_ROUTERS, MOST_STREAMS, SHORTEST_TICK}
 
 -- the top's number and the lengths of its lists
 pub record TopObeys (d : Document) : Type 0 where

@@ -1,6 +1,6 @@
 -- What a document that keeps all rules is looked up by.
 use Rattle.std.specs.Prelude.{◌≡◌}
-use Rattle.dc_parts.specs.Document.{Document}
+use Rattle.dc_document.specs.Document.{Document}
 use Rattle.dc_rules.specs.Rules.{entries_from, bus_names, stream_names, router_names, output_names, label_names}
 use Rattle.dc_rules.specs.declared.passed.Passed.{Passed}
 

@@ -5,32 +5,32 @@ use Rattle.std.specs.Option.{option_map_or}
 use Rattle.std.specs.Str.{bytes_eq}
 use Rattle.dc_word.specs.declared.format.Format.{Format}
 use Rattle.dc_word.specs.declared.format.Format.TheVariants.{Bnr, Bcd, Disc}
-use Rattle.dc_parts.specs.declared.fault.TableRule.{TableRule}
-use Rattle.dc_parts.specs.declared.fault.TableRule.TheVariants.{NumberOutOfRange, CountOutOfRange, ParameterDoubled, IntervalReversed, MinimumBelowOneTick, NoOutputInterval, NameDoubled, ParameterAbsent, StreamsOverlap, NameAbsent, BusNotVisitedByOne, SourceDoubled, FormatsDiffer, OffsetPastFrame, OffsetDoubled, LabelDoubled, RouterCannotKeepPace, OutputCannotKeepPace}
-use Rattle.dc_parts.specs.declared.fault.Section.{Section}
-use Rattle.dc_parts.specs.declared.fault.Section.TheVariants.{Top, Parameter, Bus, Stream, Router, Output, Label}
-use Rattle.dc_parts.specs.declared.fault.BuildError.{BuildError}
-use Rattle.dc_parts.specs.declared.fault.BuildError.TheVariants.{Refused, Memory}
+use Rattle.dc_document.specs.declared.fault.TableRule.{TableRule}
+use Rattle.dc_document.specs.declared.fault.TableRule.TheVariants.{NumberOutOfRange, CountOutOfRange, ParameterDoubled, IntervalReversed, MinimumBelowOneTick, NoOutputInterval, NameDoubled, ParameterAbsent, StreamsOverlap, NameAbsent, BusNotVisitedByOne, SourceDoubled, FormatsDiffer, OffsetPastFrame, OffsetDoubled, LabelDoubled, RouterCannotKeepPace, OutputCannotKeepPace}
+use Rattle.dc_document.specs.declared.fault.Section.{Section}
+use Rattle.dc_document.specs.declared.fault.Section.TheVariants.{Top, Parameter, Bus, Stream, Router, Output, Label}
+use Rattle.dc_document.specs.declared.fault.BuildError.{BuildError}
+use Rattle.dc_document.specs.declared.fault.BuildError.TheVariants.{Refused, Memory}
 use Rattle.dc_rules.specs.declared.breach.Breach.{Breach}
-use Rattle.dc_parts.specs.declared.keys.ParameterKey.{ParameterKey}
+use Rattle.dc_document.specs.declared.keys.ParameterKey.{ParameterKey}
 use Rattle.dc_rules.specs.declared.keys.LabelKey.{LabelKey}
 use Rattle.dc_rules.specs.declared.keys.PlacedOffset.{PlacedOffset}
 use Rattle.dc_rules.specs.declared.keys.PlacedEntry.{PlacedEntry}
 use Rattle.dc_dict.specs.declared.parameter.Parameter.{Parameter as ParameterPart}
-use Rattle.dc_parts.specs.declared.parts.BusPart.{BusPart}
-use Rattle.dc_parts.specs.declared.parts.StreamPart.{StreamPart}
-use Rattle.dc_parts.specs.declared.parts.RouterPart.{RouterPart}
-use Rattle.dc_parts.specs.declared.parts.OutputPart.{OutputPart}
-use Rattle.dc_parts.specs.declared.parts.LabelPart.{LabelPart}
-use Rattle.dc_parts.specs.Document.{Document, stream_owners, label_owners}
+use Rattle.dc_document.specs.declared.parts.BusPart.{BusPart}
+use Rattle.dc_document.specs.declared.parts.StreamPart.{StreamPart}
+use Rattle.dc_document.specs.declared.parts.RouterPart.{RouterPart}
+use Rattle.dc_document.specs.declared.parts.OutputPart.{OutputPart}
+use Rattle.dc_document.specs.declared.parts.LabelPart.{LabelPart}
+use Rattle.dc_document.specs.Document.{Document, stream_owners, label_owners}
 use Rattle.dc_dict.specs.Rows.{row_of}
 use Rattle.dc_dict.specs.Ticks.{in_minimum, out_minimum, out_maximum}
-use Rattle.dc_parts.specs.Ticks.{output_gap}
-use Rattle.dc_parts.specs.Keys.{same_parameter, parameter_key, stream_key, label_key}
-use Rattle.dc_parts.specs.Names.{number_of}
+use Rattle.dc_document.specs.Ticks.{output_gap}
+use Rattle.dc_document.specs.Keys.{same_parameter, parameter_key, stream_key, label_key}
+use Rattle.dc_document.specs.Names.{number_of}
 use Rattle.dc_tables.specs.Sdis.{sdis_meet}
 use Rattle.dc_bound.specs.declared.limits.TheConstants.{GREATEST_QUEUE, LONGEST_FRAME, LONGEST_TICK, MOST_ENTRIES}
-use Rattle.dc_parts.specs.declared.limits.TheConstants.{GREATEST_AGE, GREATEST_JITTER_US, LAST_OFFSET, LONGEST_INTERVAL_US, LONGEST_STALE, LONGEST_WITHIN, MOST_BUSES, MOST_LABELS, MOST_MEMBERS, MOST_OFFSETS, MOST_OUTPUTS, MOST_PARAMETERS, MOST_ROUTERS, MOST_SOURCES, MOST_STEPS, MOST_STREAMS, MOST_VISITS, SHORTEST_TICK}
+use Rattle.dc_document.specs.declared.limits.TheConstants.{GREATEST_AGE, GREATEST_JITTER_US, LAST_OFFSET, LONGEST_INTERVAL_US, LONGEST_STALE, LONGEST_WITHIN, MOST_BUSES, MOST_LABELS, MOST_MEMBERS, MOST_OFFSETS, MOST_OUTPUTS, MOST_PARAMETERS, MOST_ROUTERS, MOST_SOURCES, MOST_STEPS, MOST_STREAMS, MOST_VISITS, SHORTEST_TICK}
 
 -- ---- what is reported
 

@@ -1,8 +1,8 @@
 -- The routers that visit a bus: the first, and whether another does too.
 use Rattle.std.specs.Prelude.{ℕ, Bool, false, ◌==◌, ◌||◌, not, nat_lt, if◌then◌else◌, Option, Some, None, option_map, List, count_by, map, position, unwrap_or}
 use Rattle.dc_rules.specs.Rules.{visits_bus}
-use Rattle.dc_parts.specs.declared.parts.BusPart.{BusPart}
-use Rattle.dc_parts.specs.declared.parts.RouterPart.{RouterPart}
+use Rattle.dc_document.specs.declared.parts.BusPart.{BusPart}
+use Rattle.dc_document.specs.declared.parts.RouterPart.{RouterPart}
 use Rattle.dc_rules.specs.declared.visits.Visitors.{Visitors}
 
 -- those of the bus of this name, where it has some

@@ -2,7 +2,7 @@
 ghost use Rattle.std.specs.Prelude.{◌≡◌};
 ghost use Rattle.dc_rules.specs.Rules.{reported, breach, earlier, breach_reported};
 
-use dc_parts::{BuildError, Section, TableFault, TableRule};
+use dc_document::{BuildError, Section, TableFault, TableRule};
 
 /// The refusal of a rule at the first index at which it is broken, if it is.
 pub(crate) fn refuse(

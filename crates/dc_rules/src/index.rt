@@ -2,13 +2,13 @@
 ghost use Rattle.std.specs.Prelude.{◌≡◌, ◌≤◌, ◌<◌, ◌++◌, ◌∷◌, None, map, position, IfOk, IfSome, OnOk, [], length, slice_index_or};
 ghost use Rattle.dc_word.specs.declared.format.Format.TheVariants.{Bnr};
 ghost use Rattle.dc_rules.specs.Rules.{doubled, doubled_name, parameter_out, parameter_of, first_inverted, reported, Tells};
-ghost use Rattle.dc_parts.specs.Keys.{parameter_key, same_parameter};
+ghost use Rattle.dc_document.specs.Keys.{parameter_key, same_parameter};
 ghost use Rattle.dc_dict.specs.Rows.{refusal_of};
-ghost use Rattle.dc_parts.specs.declared.limits.TheConstants.{LONGEST_INTERVAL_US};
+ghost use Rattle.dc_document.specs.declared.limits.TheConstants.{LONGEST_INTERVAL_US};
 
 use crate::breach::refuse;
 use dc_dict::{DictFault, Dictionary, Parameter};
-use dc_parts::{BuildError, Name, Named, ParameterKey, Section, TableRule};
+use dc_document::{BuildError, Name, Named, ParameterKey, Section, TableRule};
 use dc_tables::NameIndex;
 use indexmap::IndexSet;
 use std::alloc::{AllocError, Global};
@@ -72,7 +72,7 @@ pub struct Parameters {
 impl Model for Parameters {
     ghost use Rattle.std.specs.Prelude.{◌≤◌, All, List};
     ghost use Rattle.dc_dict.specs.declared.parameter.Parameter.{Parameter as ParameterRow};
-    ghost use Rattle.dc_parts.specs.declared.limits.TheConstants.{LONGEST_INTERVAL_US};
+    ghost use Rattle.dc_document.specs.declared.limits.TheConstants.{LONGEST_INTERVAL_US};
 
     ghost Value = { List ParameterRow };
 

@@ -1,13 +1,13 @@
 //! The rules in their order.
 ghost use Rattle.std.specs.Prelude.{Ok, None, ◌≡◌, ◌≤◌, map, length, IfOk, option_map, option_and_then, slice_get};
 ghost use Rattle.dc_rules.specs.Rules.{Tells, first_rules, later_rules, quantities, reported, then_reported, shape, totals, counts, doubled, doubled_name, overlap as overlap_of, first_unserved as unserved_bus};
-ghost use Rattle.dc_parts.specs.Keys.{same_parameter, parameter_key};
+ghost use Rattle.dc_document.specs.Keys.{same_parameter, parameter_key};
 ghost use Rattle.dc_rules.specs.Rules.{first_inverted, first_quick, first_narrow, first_unknown_stream, first_unknown_label};
 ghost use Rattle.dc_rules.specs.Rules.{bus_names, stream_names, router_names, output_names, label_names, names, references, schedules, entries_from};
 ghost use Rattle.dc_rules.specs.Passed.{ArePassed};
 ghost use Rattle.dc_rules.specs.Rules.{earlier, at_owner, breach_reported, first_overfull, entry_owners, first_doubled_offset, first_doubled_label};
-ghost use Rattle.dc_parts.specs.Document.{stream_owners, label_owners};
-ghost use Rattle.dc_parts.specs.declared.limits.TheConstants.{MOST_LABELS, MOST_STREAMS};
+ghost use Rattle.dc_document.specs.Document.{stream_owners, label_owners};
+ghost use Rattle.dc_document.specs.declared.limits.TheConstants.{MOST_LABELS, MOST_STREAMS};
 
 use crate::breach::{Breach, earlier_of, refuse, refuse_breach};
 use crate::index::{Parameters, distinct, first_doubled_parameter, index_of};
@@ -29,7 +29,7 @@ use crate::shape::{
     stream_owners, stream_shape,
 };
 use dc_bound::MOST_ENTRIES;
-use dc_parts::{
+use dc_document::{
     BuildError, LabelPart, MOST_LABELS, MOST_STREAMS, Parts, Section, StreamPart, TableRule,
 };
 use dc_tables::{NameIndex, Names};

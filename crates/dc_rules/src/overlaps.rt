@@ -5,7 +5,7 @@ ghost use Rattle.dc_rules.specs.Rules.{doubled, overlap};
 ghost use Rattle.dc_rules.specs.Declarations.{place_of, declaring, same_place, same_declared, overlaps_known};
 
 use crate::keys::{BusLabel, Declared};
-use dc_parts::StreamPart;
+use dc_document::StreamPart;
 use dc_word::Sdi;
 use indexmap::IndexSet;
 use std::alloc::{AllocError, Global};

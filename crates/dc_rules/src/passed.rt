@@ -7,7 +7,7 @@ ghost use Rattle.dc_rules.specs.Passed.{ArePassed};
 use crate::index::Parameters;
 use crate::judge::{check_first, check_later};
 use crate::keys::PlacedEntry;
-use dc_parts::{BuildError, Parts};
+use dc_document::{BuildError, Parts};
 use dc_tables::Names;
 use std::alloc::Global;
 

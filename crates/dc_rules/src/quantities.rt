@@ -5,7 +5,7 @@ ghost use Rattle.dc_rules.specs.Rules.{first_unknown_stream, first_unknown_label
 
 use crate::index::Parameters;
 use dc_dict::{Parameter, in_ticks, out_ticks};
-use dc_parts::{LabelPart, ParameterKey, StreamPart};
+use dc_document::{LabelPart, ParameterKey, StreamPart};
 
 /// The first parameter whose least interval is over its greatest.
 pub(crate) fn first_inverted(parameters: &[Parameter]) -> Option<usize>

@@ -6,7 +6,7 @@ ghost use Rattle.std.specs.Str.{bytes_eq};
 ghost use Rattle.std.specs.List.{list_any};
 
 use crate::visits::index_visits;
-use dc_parts::{BusPart, LabelPart, Name, RouterPart};
+use dc_document::{BusPart, LabelPart, Name, RouterPart};
 use dc_tables::NameIndex;
 use std::alloc::{AllocError, Global};
 

@@ -7,7 +7,7 @@ ghost use Rattle.dc_rules.specs.Rules.{label_entries, entries_from, offset_of, l
 use crate::index::Parameters;
 use crate::keys::{LabelKey, PlacedEntry, PlacedOffset};
 use dc_dict::Parameter;
-use dc_parts::{LabelPart, Name, OutputPart, RouterPart, StreamPart, output_gap};
+use dc_document::{LabelPart, Name, OutputPart, RouterPart, StreamPart, output_gap};
 use dc_tables::NameIndex;
 use dc_word::Format;
 use std::alloc::{AllocError, Global};

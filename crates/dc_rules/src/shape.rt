@@ -5,12 +5,12 @@ ghost use Rattle.dc_rules.specs.Rules.{parameter_out, router_out, output_out, la
 ghost use Rattle.dc_rules.specs.Rules.{first_bus_out, first_stream_out, first_router_out, first_output_out, first_label_out};
 ghost use Rattle.dc_rules.specs.Rules.{first_count_out, first_visits_out, first_sources_out, first_offsets_out};
 ghost use Rattle.dc_rules.specs.Rules.{bus_shapes, stream_shapes, router_shapes, output_shapes, label_shapes, top_shape};
-ghost use Rattle.dc_parts.specs.Document.{stream_owners};
+ghost use Rattle.dc_document.specs.Document.{stream_owners};
 
 use crate::breach::{Breach, breach_at, earlier_of, refuse};
 use dc_bound::{GREATEST_QUEUE, LONGEST_FRAME, LONGEST_TICK};
 use dc_dict::Parameter;
-use dc_parts::{
+use dc_document::{
     BuildError, BusPart, GREATEST_AGE, GREATEST_JITTER_US, LAST_OFFSET, LONGEST_INTERVAL_US,
     LONGEST_STALE, LONGEST_WITHIN, LabelPart, MOST_BUSES, MOST_MEMBERS, MOST_OFFSETS, MOST_OUTPUTS,
     MOST_PARAMETERS, MOST_ROUTERS, MOST_SOURCES, MOST_STEPS, MOST_VISITS, OutputPart, Parts,

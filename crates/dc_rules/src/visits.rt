@@ -5,7 +5,7 @@ ghost use Rattle.std.specs.Str.{bytes_eq};
 ghost use Rattle.indexmap.specs.IndexMap.{get};
 ghost use Rattle.dc_rules.specs.Visits.{visitors_of, with_visit, with_router, is_served, first_of, visiting_routers};
 
-use dc_parts::{BusPart, Name, RouterPart};
+use dc_document::{BusPart, Name, RouterPart};
 use indexmap::IndexMap;
 use std::alloc::{AllocError, Global};
 

@@ -16,7 +16,7 @@ use Rattle.dc_word.specs.declared.format.Format.TheVariants.{Bnr}
 use Rattle.dc_tables.specs.Sdis.{sdis_meet}
 use Rattle.dc_tables.specs.TableNames.{TableNames}
 use Rattle.dc_bound.specs.declared.limits.TheConstants.{GREATEST_QUEUE, LONGEST_FRAME, LONGEST_TICK, MOST_ENTRIES}
-use Rattle.dc_parts.specs.declared.limits.TheConstants.{GREATEST_AGE, GREATEST_JITTER, LONGEST_INTERVAL, LONGEST_STALE, LONGEST_WITHIN, MOST_BUSES, MOST_LABELS, MOST_MEMBERS, MOST_OUTPUTS, MOST_ROUTERS, MOST_SOURCES, MOST_STEPS, MOST_STREAMS, MOST_VISITS, SHORTEST_TICK}
+use Rattle.dc_document.specs.declared.limits.TheConstants.{GREATEST_AGE, GREATEST_JITTER, LONGEST_INTERVAL, LONGEST_STALE, LONGEST_WITHIN, MOST_BUSES, MOST_LABELS, MOST_MEMBERS, MOST_OUTPUTS, MOST_ROUTERS, MOST_SOURCES, MOST_STEPS, MOST_STREAMS, MOST_VISITS, SHORTEST_TICK}
 
 -- the length of a tick in microseconds, and the rows and names of all lists
 pub record TableRows : Type 0 where

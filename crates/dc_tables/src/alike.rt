@@ -4,7 +4,7 @@ ghost use Rattle.std.specs.List.{sum_by};
 ghost use Rattle.dc_tables.specs.TableRows.{stream_cap};
 ghost use Rattle.dc_tables.specs.Bounds.{AreBounds, AreBoundsOf, jittered_cap, alike_cap};
 ghost use Rattle.dc_bound.specs.declared.limits.TheConstants.{WIDEST_JITTER};
-ghost use Rattle.dc_parts.specs.declared.limits.TheConstants.{MOST_STREAMS};
+ghost use Rattle.dc_document.specs.declared.limits.TheConstants.{MOST_STREAMS};
 
 use crate::bounds::piece;
 use crate::rows::{Bus, Stream};

@@ -4,7 +4,7 @@ ghost use Rattle.dc_bound.specs.Window.{wire_cap};
 ghost use Rattle.dc_bound.specs.declared.arrival.Wire.{Wire as SpecWire};
 ghost use Rattle.dc_tables.specs.Bounds.{frame_offsets};
 ghost use Rattle.dc_bound.specs.declared.limits.TheConstants.{LONGEST_TICK};
-ghost use Rattle.dc_parts.specs.declared.limits.TheConstants.{MOST_STREAMS};
+ghost use Rattle.dc_document.specs.declared.limits.TheConstants.{MOST_STREAMS};
 
 use crate::rows::{Bus, Entry, Output};
 use dc_bound::Wire;

@@ -1,8 +1,8 @@
 //! Names in order, looked up by their text.
 ghost use Rattle.std.specs.Prelude.{◌≡◌, ◌<◌, [], length, slice_index_or};
-ghost use Rattle.dc_parts.specs.Names.{number_of};
+ghost use Rattle.dc_document.specs.Names.{number_of};
 
-use dc_parts::Name;
+use dc_document::Name;
 use indexmap::IndexSet;
 use std::marker::Model;
 

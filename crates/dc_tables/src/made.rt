@@ -2,7 +2,7 @@
 ghost use Rattle.std.specs.Prelude.{All, ◌≡◌, ◌+◌, ◌≤◌, length, IfOk};
 ghost use Rattle.dc_tables.specs.Bounds.{AreBounds, frame_offsets};
 ghost use Rattle.dc_bound.specs.declared.limits.TheConstants.{WIDEST_JITTER};
-ghost use Rattle.dc_parts.specs.declared.limits.TheConstants.{MOST_STREAMS};
+ghost use Rattle.dc_document.specs.declared.limits.TheConstants.{MOST_STREAMS};
 
 use crate::alike::{BusBounds, bus_bounds};
 use crate::bounds::{FrameOffsets, output_offsets};

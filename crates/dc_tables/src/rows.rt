@@ -6,7 +6,7 @@ use dc_word::{Format, Label, Sdi};
 use std::marker::Model;
 
 /// A receive bus. The ranges here and below are those of the rows of [`Tables`](crate::Tables), by its `valid`; the
-/// limits are this project's own, as in `dc_parts`.
+/// limits are this project's own, as in `dc_document`.
 #[derive(Clone, Copy, Debug, PartialEq)]
 pub struct Bus {
     /// The capacity of its receive queue in words, 1 to [`GREATEST_QUEUE`](dc_bound::GREATEST_QUEUE).
@@ -17,7 +17,7 @@ pub struct Bus {
     pub spacing: u32,
     /// The number of its first stream.
     pub first: usize,
-    /// How many streams it has, those from number `first` on: 1 to [`MOST_MEMBERS`](dc_parts::MOST_MEMBERS).
+    /// How many streams it has, those from number `first` on: 1 to [`MOST_MEMBERS`](dc_document::MOST_MEMBERS).
     pub streams: usize,
     /// The number of the router that visits it, the only one.
     pub router: usize,
@@ -37,31 +37,31 @@ pub struct Stream {
     /// The least interval between two of its words without jitter, in ticks: 1 to `maximum`.
     pub minimum: u32,
     /// The greatest interval between two of its words, in ticks, up to
-    /// [`LONGEST_INTERVAL`](dc_parts::LONGEST_INTERVAL).
+    /// [`LONGEST_INTERVAL`](dc_document::LONGEST_INTERVAL).
     pub maximum: u32,
-    /// How late of their rhythm its words may come, in ticks, up to [`GREATEST_JITTER`](dc_parts::GREATEST_JITTER).
+    /// How late of their rhythm its words may come, in ticks, up to [`GREATEST_JITTER`](dc_document::GREATEST_JITTER).
     pub jitter: u32,
 }
 
 /// A router: its budget, and the buses that it visits in turn. `steps` is at most `most` x `within`.
 #[derive(Debug, Drop)]
 pub struct Router {
-    /// Its fewest steps in each `within` whole ticks, 1 to [`MOST_STEPS`](dc_parts::MOST_STEPS).
+    /// Its fewest steps in each `within` whole ticks, 1 to [`MOST_STEPS`](dc_document::MOST_STEPS).
     pub steps: u32,
-    /// In so many ticks, 1 to [`LONGEST_WITHIN`](dc_parts::LONGEST_WITHIN), it makes `steps` steps or more.
+    /// In so many ticks, 1 to [`LONGEST_WITHIN`](dc_document::LONGEST_WITHIN), it makes `steps` steps or more.
     pub within: u32,
-    /// Its most steps in one tick, 1 to [`MOST_STEPS`](dc_parts::MOST_STEPS).
+    /// Its most steps in one tick, 1 to [`MOST_STEPS`](dc_document::MOST_STEPS).
     pub most: u32,
-    /// The numbers of the buses that it visits in turn, 1 to [`MOST_VISITS`](dc_parts::MOST_VISITS) of them.
+    /// The numbers of the buses that it visits in turn, 1 to [`MOST_VISITS`](dc_document::MOST_VISITS) of them.
     pub visits: Numbers,
 }
 
 /// An output: its budget, and its frame. `steps` x `gap` is at most `within`.
 #[derive(Debug, Drop)]
 pub struct Output {
-    /// Its fewest sends in each `within` whole ticks, 1 to [`MOST_STEPS`](dc_parts::MOST_STEPS).
+    /// Its fewest sends in each `within` whole ticks, 1 to [`MOST_STEPS`](dc_document::MOST_STEPS).
     pub steps: u32,
-    /// In so many ticks, 1 to [`LONGEST_WITHIN`](dc_parts::LONGEST_WITHIN), it makes `steps` sends or more.
+    /// In so many ticks, 1 to [`LONGEST_WITHIN`](dc_document::LONGEST_WITHIN), it makes `steps` sends or more.
     pub within: u32,
     /// How many ticks two of its sends lie apart at least, 1 or more.
     pub gap: u32,
@@ -91,16 +91,16 @@ pub struct OutputLabel {
     pub sdi: Sdi,
     /// The format of its data.
     pub format: Format,
-    /// The numbers of its streams in order of priority, 1 to [`MOST_SOURCES`](dc_parts::MOST_SOURCES) that differ.
+    /// The numbers of its streams in order of priority, 1 to [`MOST_SOURCES`](dc_document::MOST_SOURCES) that differ.
     pub sources: Numbers,
-    /// How many ticks after it was routed a word is fresh, 1 to [`LONGEST_STALE`](dc_parts::LONGEST_STALE).
+    /// How many ticks after it was routed a word is fresh, 1 to [`LONGEST_STALE`](dc_document::LONGEST_STALE).
     pub stale: u32,
-    /// The limit on the age of its data in ticks, 1 to [`GREATEST_AGE`](dc_parts::GREATEST_AGE).
+    /// The limit on the age of its data in ticks, 1 to [`GREATEST_AGE`](dc_document::GREATEST_AGE).
     pub age_limit: u32,
     /// The least interval between two of its words, in ticks, up to `maximum`.
     pub minimum: u32,
     /// The greatest interval between two of its words, in ticks, up to
-    /// [`LONGEST_INTERVAL`](dc_parts::LONGEST_INTERVAL).
+    /// [`LONGEST_INTERVAL`](dc_document::LONGEST_INTERVAL).
     pub maximum: u32,
 }
 

@@ -10,7 +10,7 @@ use crate::index::{NameIndex, Names};
 use crate::made::{Rows, make_kept};
 use crate::rows::{Bus, Output, OutputLabel, Router, Stream};
 use dc_bound::{Alike, ArrivalBound, Capped, Cyclic, Paced, ServiceBound, SumOf, Visits};
-use dc_parts::Name;
+use dc_document::Name;
 use dc_word::{Sdi, Word};
 use std::alloc::{AllocError, Global};
 use std::marker::Model;
@@ -51,7 +51,7 @@ impl Tables {
     ghost use Rattle.std.specs.Prelude.{ℕ, IfOk, [], slice_index_or};
     ghost use Rattle.dc_tables.specs.Bounds.{table_names, table_rows};
     ghost use Rattle.dc_tables.specs.Named.{AreSound, HaveNames};
-    ghost use Rattle.dc_parts.specs.Names.{number_of};
+    ghost use Rattle.dc_document.specs.Names.{number_of};
 
     /// The tables of these rows and names, which are sound.
     pub fn of(alloc: Global, tick_us: u32, rows: Rows, names: Names) -> Result<Tables, AllocError>
@@ -165,7 +165,7 @@ impl Tables {
         let _ = &self.tick_us;
     }
 
-    /// The length of a tick in microseconds, [`SHORTEST_TICK`](dc_parts::SHORTEST_TICK) to
+    /// The length of a tick in microseconds, [`SHORTEST_TICK`](dc_document::SHORTEST_TICK) to
     /// [`LONGEST_TICK`](dc_bound::LONGEST_TICK).
     pub fn tick_us(&self) -> u32
         ensures { result ≡ self.now.tick_us }
@@ -174,35 +174,35 @@ impl Tables {
         *tick_us
     }
 
-    /// How many buses there are, at most [`MOST_BUSES`](dc_parts::MOST_BUSES).
+    /// How many buses there are, at most [`MOST_BUSES`](dc_document::MOST_BUSES).
     pub fn bus_count(&self) -> usize
         ensures { result ≡ length self.now.buses }
     {
         self.buses.len()
     }
 
-    /// How many streams all buses have, at most [`MOST_STREAMS`](dc_parts::MOST_STREAMS).
+    /// How many streams all buses have, at most [`MOST_STREAMS`](dc_document::MOST_STREAMS).
     pub fn stream_count(&self) -> usize
         ensures { result ≡ length self.now.streams }
     {
         self.streams.len()
     }
 
-    /// How many routers there are, at most [`MOST_ROUTERS`](dc_parts::MOST_ROUTERS).
+    /// How many routers there are, at most [`MOST_ROUTERS`](dc_document::MOST_ROUTERS).
     pub fn router_count(&self) -> usize
         ensures { result ≡ length self.now.routers }
     {
         self.routers.len()
     }
 
-    /// How many outputs there are, at most [`MOST_OUTPUTS`](dc_parts::MOST_OUTPUTS).
+    /// How many outputs there are, at most [`MOST_OUTPUTS`](dc_document::MOST_OUTPUTS).
     pub fn output_count(&self) -> usize
         ensures { result ≡ length self.now.outputs }
     {
         self.outputs.len()
     }
 
-    /// How many labels all outputs have, at most [`MOST_LABELS`](dc_parts::MOST_LABELS).
+    /// How many labels all outputs have, at most [`MOST_LABELS`](dc_document::MOST_LABELS).
     pub fn label_count(&self) -> usize
         ensures { result ≡ length self.now.labels }
     {

@@ -7,7 +7,7 @@ use Rattle.toml.specs.Data.{Members}
 use Rattle.toml.specs.Parse.{parse_document}
 use Rattle.toml.specs.View.{items_view}
 use Rattle.toml.specs.declared.value.Value.{Value}
-use Rattle.dc_parts.specs.declared.fault.TableRule.TheVariants.{NotToml}
+use Rattle.dc_document.specs.declared.fault.TableRule.TheVariants.{NotToml}
 use Rattle.dc_toml.specs.Faults.{Reading, refused, found}
 use Rattle.dc_toml.specs.Keys.{items_len}
 use Rattle.dc_toml.specs.Reading.{top, document_of}

@@ -1,10 +1,10 @@
 -- A reading: what a text says, or its first fault; and when a function answers what its reading says.
 use Rattle.std.specs.Prelude.{◌≡◌, ℕ, Bool, true, false, Option, Some, None, Result, Ok, Err}
-use Rattle.dc_parts.specs.declared.fault.TableRule.{TableRule}
-use Rattle.dc_parts.specs.declared.fault.Section.{Section}
-use Rattle.dc_parts.specs.declared.fault.TableFault.{TableFault}
-use Rattle.dc_parts.specs.declared.fault.BuildError.{BuildError}
-use Rattle.dc_parts.specs.declared.fault.BuildError.TheVariants.{Refused, Memory}
+use Rattle.dc_document.specs.declared.fault.TableRule.{TableRule}
+use Rattle.dc_document.specs.declared.fault.Section.{Section}
+use Rattle.dc_document.specs.declared.fault.TableFault.{TableFault}
+use Rattle.dc_document.specs.declared.fault.BuildError.{BuildError}
+use Rattle.dc_document.specs.declared.fault.BuildError.TheVariants.{Refused, Memory}
 use Rattle.dc_toml.specs.declared.place.TablePlace.{TablePlace}
 
 -- what was read, or the first fault

@@ -5,13 +5,13 @@ use Rattle.dc_word.specs.Digits.{digit_in}
 use Rattle.toml.specs.Data.{Data, Items, no_items, item, Members, no_members, member, same_key, get_member, as_str, as_integer, as_bool, as_array, as_table}
 use Rattle.dc_word.specs.declared.format.Format.{Format}
 use Rattle.dc_word.specs.declared.format.Format.TheVariants.{Bnr, Bcd, Disc}
-use Rattle.dc_parts.specs.declared.parts.Speed.{Speed}
-use Rattle.dc_parts.specs.declared.parts.Speed.TheVariants.{High, Low}
-use Rattle.dc_parts.specs.declared.fault.TableRule.TheVariants.{KeyAbsent, KeyUnknown, WrongKind, NumberOutOfRange, WrongSpelling, CountOutOfRange}
-use Rattle.dc_parts.specs.Names.{name_of}
+use Rattle.dc_document.specs.declared.parts.Speed.{Speed}
+use Rattle.dc_document.specs.declared.parts.Speed.TheVariants.{High, Low}
+use Rattle.dc_document.specs.declared.fault.TableRule.TheVariants.{KeyAbsent, KeyUnknown, WrongKind, NumberOutOfRange, WrongSpelling, CountOutOfRange}
+use Rattle.dc_document.specs.Names.{name_of}
 use Rattle.dc_toml.specs.declared.place.TablePlace.{TablePlace}
 use Rattle.dc_toml.specs.Faults.{Reading, refused, ◌>>=◌, wanted, found}
-use Rattle.dc_parts.specs.declared.limits.TheConstants.{LAST_OFFSET}
+use Rattle.dc_document.specs.declared.limits.TheConstants.{LAST_OFFSET}
 
 -- ---- tables and their keys
 

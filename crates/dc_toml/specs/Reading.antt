@@ -3,16 +3,16 @@ use Rattle.std.specs.Prelude.{ℕ, ◌-◌, ℤ, pos, negsuc, List, [], ◌∷�
 use Rattle.std.specs.Str.{is_utf8}
 use Rattle.toml.specs.Data.{Data, Items, no_items, item, Members, get_member, as_integer}
 use Rattle.toml.specs.Parse.{parse_document}
-use Rattle.dc_parts.specs.declared.fault.TableRule.TheVariants.{NotToml, VersionUnknown}
-use Rattle.dc_parts.specs.declared.parts.Version.{Version}
-use Rattle.dc_parts.specs.declared.parts.Version.TheVariants.{One, Two}
-use Rattle.dc_parts.specs.declared.fault.Section.TheVariants.{Top, Parameter, Bus, Stream, Router, Output, Label}
+use Rattle.dc_document.specs.declared.fault.TableRule.TheVariants.{NotToml, VersionUnknown}
+use Rattle.dc_document.specs.declared.parts.Version.{Version}
+use Rattle.dc_document.specs.declared.parts.Version.TheVariants.{One, Two}
+use Rattle.dc_document.specs.declared.fault.Section.TheVariants.{Top, Parameter, Bus, Stream, Router, Output, Label}
 use Rattle.dc_toml.specs.declared.place.TablePlace.{TablePlace}
 use Rattle.dc_toml.specs.Faults.{Reading, place, refused, ◌>>=◌, wanted, found}
 use Rattle.dc_toml.specs.Written.{Written, nothing_written, and_parameter, and_bus, and_stream, and_router, and_output, and_label}
 use Rattle.dc_toml.specs.Keys.{table_of, known, present, keyed, bool_at, number_at, name_at, speed_at, format_at, label_at, equipment_at, sdi_at, stream_sdi_at, names_at, offsets_at, tables_at, optional_at}
 use Rattle.dc_bound.specs.declared.limits.TheConstants.{GREATEST_QUEUE, LONGEST_FRAME, LONGEST_TICK}
-use Rattle.dc_parts.specs.declared.limits.TheConstants.{GREATEST_AGE, GREATEST_JITTER_US, LONGEST_INTERVAL_US, LONGEST_STALE, LONGEST_WITHIN, MOST_BUSES, MOST_MEMBERS, MOST_OFFSETS, MOST_OUTPUTS, MOST_PARAMETERS, MOST_ROUTERS, MOST_SOURCES, MOST_STEPS, MOST_VISITS, SHORTEST_TICK, TEXT_LIMIT}
+use Rattle.dc_document.specs.declared.limits.TheConstants.{GREATEST_AGE, GREATEST_JITTER_US, LONGEST_INTERVAL_US, LONGEST_STALE, LONGEST_WITHIN, MOST_BUSES, MOST_MEMBERS, MOST_OFFSETS, MOST_OUTPUTS, MOST_PARAMETERS, MOST_ROUTERS, MOST_SOURCES, MOST_STEPS, MOST_VISITS, SHORTEST_TICK, TEXT_LIMIT}
 
 -- the tables of a list in order, each after what was read before it
 abbrev pub each_table : (Written → Data → Reading Written) → Written → Items → Reading Written

@@ -1,13 +1,13 @@
 -- What the text of tables says, as data: a document whose lists are lists.
 use Rattle.std.specs.Prelude.{ℕ, List, [], ◌∷◌, ◌++◌, map}
-use Rattle.dc_parts.specs.declared.parts.Version.{Version}
+use Rattle.dc_document.specs.declared.parts.Version.{Version}
 use Rattle.dc_dict.specs.declared.parameter.Parameter.{Parameter as ParameterPart}
-use Rattle.dc_parts.specs.declared.parts.BusPart.{BusPart}
-use Rattle.dc_parts.specs.declared.parts.StreamPart.{StreamPart}
-use Rattle.dc_parts.specs.declared.parts.RouterPart.{RouterPart}
-use Rattle.dc_parts.specs.declared.parts.OutputPart.{OutputPart}
-use Rattle.dc_parts.specs.declared.parts.LabelPart.{LabelPart}
-use Rattle.dc_parts.specs.Document.{Document}
+use Rattle.dc_document.specs.declared.parts.BusPart.{BusPart}
+use Rattle.dc_document.specs.declared.parts.StreamPart.{StreamPart}
+use Rattle.dc_document.specs.declared.parts.RouterPart.{RouterPart}
+use Rattle.dc_document.specs.declared.parts.OutputPart.{OutputPart}
+use Rattle.dc_document.specs.declared.parts.LabelPart.{LabelPart}
+use Rattle.dc_document.specs.Document.{Document}
 
 -- a router and the names of the buses that it visits
 pub record RouterText : Type 0 where

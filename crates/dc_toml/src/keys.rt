@@ -10,7 +10,7 @@ ghost use Rattle.dc_toml.specs.Reading.{version_of, bus_keys, stream_keys, polic
 use crate::place::TablePlace;
 use crate::spellings;
 use dc_dict::Equipment;
-use dc_parts::{GREATEST_JITTER_US, Name, Speed, TableFault, TableRule, Version};
+use dc_document::{GREATEST_JITTER_US, Name, Speed, TableFault, TableRule, Version};
 use dc_word::{Format, Label, Sdi};
 use toml::{Table, Value};
 

@@ -2,14 +2,14 @@
 ghost use Rattle.std.specs.Prelude.{◌≡◌, option_map, option_and_then};
 ghost use Rattle.toml.specs.Data.{get_member, as_array};
 ghost use Rattle.toml.specs.View.{view, items_view, table_view};
-ghost use Rattle.dc_parts.specs.declared.fault.TableRule.TheVariants.{WrongKind};
+ghost use Rattle.dc_document.specs.declared.fault.TableRule.TheVariants.{WrongKind};
 ghost use Rattle.dc_toml.specs.Faults.{seen, Gives, wanted};
 ghost use Rattle.dc_toml.specs.Keys.{array_at, all_items, is_text, is_number, each_item, name_item as name_in_item, number_item, counted, items_len, names_at, offsets_at, tables_at, optional_at};
-ghost use Rattle.dc_parts.specs.declared.limits.TheConstants.{LAST_OFFSET};
+ghost use Rattle.dc_document.specs.declared.limits.TheConstants.{LAST_OFFSET};
 
 use crate::keys::{find, number_between};
 use crate::place::TablePlace;
-use dc_parts::{BuildError, LAST_OFFSET, Name, TableFault, TableRule};
+use dc_document::{BuildError, LAST_OFFSET, Name, TableFault, TableRule};
 use std::alloc::{AllocError, Global};
 use toml::{Table, Value};
 

@@ -3,7 +3,7 @@ ghost use Rattle.std.specs.Prelude.{◌≡◌};
 ghost use Rattle.dc_toml.specs.Faults.{fault_at};
 ghost use Rattle.dc_toml.specs.Faults.{place as section_place};
 
-use dc_parts::{Section, TableFault, TableRule};
+use dc_document::{Section, TableFault, TableRule};
 
 /// A table of the text: its section, and its index there.
 #[derive(Clone, Copy, Debug, PartialEq)]

@@ -11,7 +11,7 @@ use crate::place::TablePlace;
 use crate::sections::read_tables_of;
 use dc_bound::LONGEST_TICK;
 use dc_dict::Parameter;
-use dc_parts::{
+use dc_document::{
     BuildError, BusPart, MOST_BUSES, MOST_OUTPUTS, MOST_PARAMETERS, MOST_ROUTERS, OutputPart,
     Parts, RouterPart, SHORTEST_TICK, Section, TEXT_LIMIT, TableFault, TableRule,
 };

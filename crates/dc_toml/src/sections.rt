@@ -2,7 +2,7 @@
 ghost use Rattle.std.specs.Prelude.{◌≡◌, ◌+◌, ◌≤◌, length, Result, OnOk};
 ghost use Rattle.toml.specs.Data.{Data};
 ghost use Rattle.toml.specs.View.{view, items_view};
-ghost use Rattle.dc_parts.specs.declared.fault.TableFault.{TableFault as SpecFault};
+ghost use Rattle.dc_document.specs.declared.fault.TableFault.{TableFault as SpecFault};
 ghost use Rattle.dc_toml.specs.Faults.{Leaves};
 ghost use Rattle.dc_toml.specs.Written.{Written, written, router_text, label_text, and_bus, and_router, and_label, and_output};
 ghost use Rattle.dc_toml.specs.Reading.{next_router, next_label, each_table, read_parameter, read_bus, read_stream as stream_reading, read_router, read_output, read_label as label_reading};
@@ -15,7 +15,7 @@ use crate::lists::{names, offsets, tables};
 use crate::place::TablePlace;
 use dc_bound::{GREATEST_QUEUE, LONGEST_FRAME};
 use dc_dict::Parameter;
-use dc_parts::{
+use dc_document::{
     BuildError, BusPart, GREATEST_AGE, LONGEST_INTERVAL_US, LONGEST_STALE, LONGEST_WITHIN,
     LabelPart, MOST_MEMBERS, MOST_OFFSETS, MOST_SOURCES, MOST_STEPS, MOST_VISITS, OutputPart,
     Parts, RouterPart, Section, StreamPart,

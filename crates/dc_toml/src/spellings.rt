@@ -4,7 +4,7 @@ ghost use Rattle.toml.specs.Data.{same_key};
 ghost use Rattle.dc_toml.specs.Keys.{three_digits as three_digits_of, label_in, label_of, equipment_of, speed_of, format_of};
 
 use dc_dict::Equipment;
-use dc_parts::Speed;
+use dc_document::Speed;
 use dc_word::{Format, Label, digit_in};
 
 /// Whether two texts are the same.

@@ -6,11 +6,11 @@ use Rattle.dc_cert.specs.declared.fault.CertRule.TheVariants.{NotJson}
 use Rattle.dc_cert.specs.declared.fault.Fault.{Fault}
 use Rattle.dc_cert.specs.declared.fault.TextPlace.TheVariants.{Top as TopPlace}
 use Rattle.dc_tables.specs.TableRows.{TableRows}
-use Rattle.dc_parts.specs.declared.fault.Section.TheVariants.{Top}
-use Rattle.dc_parts.specs.declared.fault.TableFault.{TableFault}
-use Rattle.dc_parts.specs.declared.fault.TableRule.TheVariants.{NotToml}
+use Rattle.dc_document.specs.declared.fault.Section.TheVariants.{Top}
+use Rattle.dc_document.specs.declared.fault.TableFault.{TableFault}
+use Rattle.dc_document.specs.declared.fault.TableRule.TheVariants.{NotToml}
 use Rattle.dc_toml.specs.Reading.{document_of, tables_of}
-use Rattle.dc_parts.specs.declared.limits.TheConstants.{TEXT_LIMIT}
+use Rattle.dc_document.specs.declared.limits.TheConstants.{TEXT_LIMIT}
 use Rattle.dc_answer.specs.Inputs.{Loads, LoadsCertificate, OnlyBehind, ReadsText}
 use Rattle.dc_answer.specs.declared.inputs.Unloaded.{Unloaded}
 use Rattle.dc_answer.specs.declared.inputs.Unloaded.TheVariants.{Refused, Failed}

@@ -6,9 +6,9 @@ use Rattle.dc_cert.specs.Reading.{certificate_of}
 use Rattle.dc_cert.specs.declared.certificate.Certificate.{Certificate}
 use Rattle.dc_cert.specs.declared.fault.Fault.{Fault}
 use Rattle.dc_device.specs.States.{SourceState}
-use Rattle.dc_parts.specs.FaultText.{table_fault_text}
-use Rattle.dc_parts.specs.declared.fault.BuildError.TheVariants.{Refused as RefusedTables}
-use Rattle.dc_parts.specs.declared.fault.TableFault.{TableFault}
+use Rattle.dc_document.specs.FaultText.{table_fault_text}
+use Rattle.dc_document.specs.declared.fault.BuildError.TheVariants.{Refused as RefusedTables}
+use Rattle.dc_document.specs.declared.fault.TableFault.{TableFault}
 use Rattle.dc_tables.specs.TableRows.{TableRows}
 use Rattle.dc_toml.specs.Reading.{tables_of}
 use Rattle.dc_answer.specs.Answer.{Answer, one_line}

@@ -20,7 +20,7 @@ use Rattle.dc_check.specs.declared.fault.CheckFault.{CheckFault}
 use Rattle.dc_check.specs.declared.fault.Condition.{Condition}
 use Rattle.dc_check.specs.declared.fault.CertificateList.{CertificateList}
 use Rattle.dc_check.specs.declared.fault.CertificateList.TheVariants.{Inputs, Outputs}
-use Rattle.dc_parts.specs.Names.{text_of}
+use Rattle.dc_document.specs.Names.{text_of}
 use Rattle.dc_tables.specs.TableRows.{TableRows, stream_row, label_row, bus_cap, bus_floor, output_cap, output_floor}
 
 -- ---- one rule after another

@@ -6,12 +6,12 @@ use Rattle.std.proofs.lemmas.List.{length-take, length-map, get_or-take, get_or-
 use Rattle.std.proofs.lemmas.Bool.Decides.{nat_tests}
 use Rattle.dc_dict.specs.Rows.{is_row_of, row_of, refusal_of}
 use Rattle.dc_dict.specs.declared.parameter.Parameter.{Parameter as ParameterPart}
-use Rattle.dc_parts.specs.declared.keys.ParameterKey.{ParameterKey}
+use Rattle.dc_document.specs.declared.keys.ParameterKey.{ParameterKey}
 use Rattle.dc_rules.specs.Rules.{outside, parameter_out, parameter_of, doubled, first_inverted}
-use Rattle.dc_parts.specs.Keys.{parameter_key, same_parameter}
+use Rattle.dc_document.specs.Keys.{parameter_key, same_parameter}
 use Rattle.dc_rules.specs.lemmas.Apart.{apart}
 use Rattle.dc_rules.specs.lemmas.Picks.{each_fails, not_outside, or_none}
-use Rattle.dc_parts.specs.declared.limits.TheConstants.{LONGEST_INTERVAL_US}
+use Rattle.dc_document.specs.declared.limits.TheConstants.{LONGEST_INTERVAL_US}
 
 found_step : (Q : ParameterPart → Type 0) (p : ParameterPart → Bool) (x : ParameterPart) (xs : List ParameterPart) (r : ParameterPart) (b : Bool) → cond b (Some x) (find p xs) ≡ Some r → Q x → (find p xs ≡ Some r → Q r) → Q r
 found_step Q p x xs r true h here later = let e : x ≡ r = (cc h) in subst Q e here

@@ -3,7 +3,7 @@ use Rattle.std.proofs.lemmas.List.{length-map}
 use Rattle.std.specs.Prelude.{unwrap_or}
 use Rattle.std.specs.List.{position}
 use Rattle.dc_rules.specs.Rules.{visits_bus}
-use Rattle.dc_parts.specs.declared.parts.BusPart.{BusPart}
+use Rattle.dc_document.specs.declared.parts.BusPart.{BusPart}
 use Rattle.dc_build.specs.RowsOf.{bus_rows_from, bus_row_of}
 use Rattle.dc_tables.specs.declared.rows.Bus.{Bus}
 use Rattle.dc_rules.specs.lemmas.Apart.{counts_length}

@@ -3,7 +3,7 @@ use Rattle.std.proofs.lemmas.List.{length-map}
 use Rattle.dc_check.proofs.Naming.{names_agree, names_counted, names_differ, other_name, row_read, same_all, same_more}
 use Rattle.dc_check.specs.Names.{names_of}
 use Rattle.dc_check.specs.Placed.{member_count}
-use Rattle.dc_parts.specs.Names.{text_of}
+use Rattle.dc_document.specs.Names.{text_of}
 use Rattle.dc_check.proofs.names.are_named.Goals as goal
 
 pub returns-then-ne : goal.returns-then-ne

@@ -1,8 +1,8 @@
 use Rattle.std.proofs.Common.{◌≡◌, ◌∙◌, sym, ap, rules, Ok, map}
 use Rattle.dc_rules.specs.Rules.{reported, doubled, first_inverted}
-use Rattle.dc_parts.specs.Keys.{same_parameter, parameter_key}
-use Rattle.dc_parts.specs.declared.fault.TableRule.TheVariants.{ParameterDoubled, IntervalReversed}
-use Rattle.dc_parts.specs.declared.fault.Section.TheVariants.{Parameter}
+use Rattle.dc_document.specs.Keys.{same_parameter, parameter_key}
+use Rattle.dc_document.specs.declared.fault.TableRule.TheVariants.{ParameterDoubled, IntervalReversed}
+use Rattle.dc_document.specs.declared.fault.Section.TheVariants.{Parameter}
 use Rattle.dc_rules.proofs.Telling.{tells_later}
 use Rattle.dc_rules.proofs.judge.check_parameters.Goals as goal
 

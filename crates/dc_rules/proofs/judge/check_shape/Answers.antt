@@ -1,5 +1,5 @@
 use Rattle.std.proofs.Common.{◌≡◌, ap, ◌∙◌, rules}
-use Rattle.dc_parts.specs.Document.{Document}
+use Rattle.dc_document.specs.Document.{Document}
 use Rattle.dc_rules.specs.Rules.{shape}
 use Rattle.dc_rules.proofs.Telling.{tells_exact}
 use Rattle.dc_rules.proofs.judge.check_shape.Goals as goal

@@ -1,8 +1,8 @@
 use Rattle.std.proofs.Common.{◌≡◌, Ok, rules}
-use Rattle.dc_parts.specs.Document.{Document}
+use Rattle.dc_document.specs.Document.{Document}
 use Rattle.dc_rules.specs.Rules.{Verdict, reported, then_reported, fault_in, doubled_name, bus_names, stream_names, router_names, output_names, label_names}
-use Rattle.dc_parts.specs.declared.fault.TableRule.TheVariants.{NameDoubled}
-use Rattle.dc_parts.specs.declared.fault.Section.TheVariants.{Bus, Stream, Router, Output, Label}
+use Rattle.dc_document.specs.declared.fault.TableRule.TheVariants.{NameDoubled}
+use Rattle.dc_document.specs.declared.fault.Section.TheVariants.{Bus, Stream, Router, Output, Label}
 use Rattle.dc_rules.proofs.Telling.{tells_later}
 use Rattle.dc_rules.proofs.judge.index_names.Goals as goal
 

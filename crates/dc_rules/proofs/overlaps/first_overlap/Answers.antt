@@ -1,5 +1,5 @@
 use Rattle.std.proofs.Common.{take, ◌∙◌, sym, subst, List}
-use Rattle.dc_parts.specs.declared.parts.StreamPart.{StreamPart}
+use Rattle.dc_document.specs.declared.parts.StreamPart.{StreamPart}
 use Rattle.dc_rules.specs.Rules.{overlap}
 use Rattle.dc_rules.proofs.Doubled.{doubled_at, doubled_step, take_more}
 use Rattle.dc_rules.proofs.Meeting.{known_overlaps, known_more, KnowsAll}

@@ -1,7 +1,7 @@
 use Rattle.std.proofs.Common.{true≢false, sym, ap, ◌∙◌, Err}
 use Rattle.toml.specs.Errors.{IsMemory}
 use Rattle.toml.specs.View.{table_view}
-use Rattle.dc_parts.specs.declared.fault.TableRule.TheVariants.{NotToml}
+use Rattle.dc_document.specs.declared.fault.TableRule.TheVariants.{NotToml}
 use Rattle.dc_toml.specs.Faults.{fault_at}
 use Rattle.dc_toml.proofs.Steps.{document_good, document_bad}
 use Rattle.dc_toml.proofs.read.document.Goals as goal

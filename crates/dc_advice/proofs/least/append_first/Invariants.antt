@@ -1,7 +1,0 @@
-use Rattle.std.proofs.Common.{◌≡◌, ◌++◌}
-use Rattle.dc_cert.specs.Bounds.{certificate_rows}
-use Rattle.dc_advice.specs.Margins.{fed, lines_of_first}
-use Rattle.dc_advice.proofs.least.append_first.Given as goal
-
-abbrev pub invariant-loop-job : goal.invariant-loop-job
-invariant-loop-job l = l.page ≡ l.initial.page ++ fed (lines_of_first l.job l.tables (certificate_rows l.certificate))

@@ -1,4 +1,0 @@
-use Rattle.dc_app.proofs.sharing.keep_shared.Goals as goal
-
-pub returns-clause-answer : goal.returns-clause-answer
-returns-clause-answer g c = rw c.tell.ensures c.judge_shared-judged.ensures.answer

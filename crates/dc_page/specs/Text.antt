@@ -1,0 +1,71 @@
+-- Names and numbers as the page writes them.
+use Rattle.std.specs.Prelude.{ℕ, ◌/◌, ◌%◌, Bool, not, ◌&&◌, if◌then◌else◌, nat_eq, nat_lt, List, [], ◌∷◌, ◌++◌, codes, decimal, encode_utf8}
+use Rattle.dc_page.specs.declared.amount.Amount.{Amount}
+use Rattle.dc_page.specs.declared.amount.Unit.{Unit}
+use Rattle.dc_page.specs.declared.amount.Unit.TheVariants.{Ticks, Words, Entries, Inputs, Outputs, Labels}
+
+-- ---- names
+
+-- a byte, or its entity: &, <, >, " and '
+unfoldable pub entity : ℕ → List ℕ
+entity byte =
+    if nat_eq byte 38 then codes "&amp;"
+    else if nat_eq byte 60 then codes "&lt;"
+    else if nat_eq byte 62 then codes "&gt;"
+    else if nat_eq byte 34 then codes "&quot;"
+    else if nat_eq byte 39 then codes "&#39;"
+    else encode_utf8 byte
+
+-- a text as the page writes it, byte by byte; a byte above 127 is the character of that number
+unfoldable pub escaped : List ℕ → List ℕ
+escaped [] = []
+escaped (byte ∷ bytes) = entity byte ++ escaped bytes
+
+-- ---- numbers
+
+-- the last three digits, with noughts in front
+abbrev pub last_three : ℕ → List ℕ
+last_three n = decimal (n / 100 % 10) ++ decimal (n / 10 % 10) ++ decimal (n % 10)
+
+-- with commas between thousands, of which a million has no more
+abbrev pub grouped : ℕ → List ℕ
+grouped n =
+    if nat_lt n 1000 then decimal n
+    else if nat_lt n 1000000 then decimal (n / 1000) ++ codes "," ++ last_three n
+    else decimal (n / 1000000) ++ codes "," ++ last_three (n / 1000) ++ codes "," ++ last_three n
+
+-- a number of tenths
+abbrev pub tenths : ℕ → List ℕ
+tenths n = if nat_eq (n % 10) 0 then decimal (n / 10) else decimal (n / 10) ++ codes "." ++ decimal (n % 10)
+
+-- what is counted: one, or another number
+abbrev pub one_of : Unit → List ℕ
+one_of Ticks = codes "tick"
+one_of Words = codes "word"
+one_of Entries = codes "entry"
+one_of Inputs = codes "input"
+one_of Outputs = codes "output"
+one_of Labels = codes "label"
+
+-- the word for several
+abbrev pub more_of : Unit → List ℕ
+more_of Ticks = codes "ticks"
+more_of Words = codes "words"
+more_of Entries = codes "entries"
+more_of Inputs = codes "inputs"
+more_of Outputs = codes "outputs"
+more_of Labels = codes "labels"
+
+-- the word for so many
+abbrev pub unit_word : Unit → ℕ → List ℕ
+unit_word unit count = if nat_eq count 1 then one_of unit else more_of unit
+
+-- as `1 tick` or `1,000 words`
+abbrev pub amount_text : Amount → List ℕ
+amount_text amount = grouped amount.count ++ codes " " ++ unit_word amount.unit amount.count
+
+-- ---- what stays inside
+
+-- neither <, >, " nor '
+abbrev pub is_harmless : ℕ → Bool
+is_harmless byte = not (nat_eq byte 60) && not (nat_eq byte 62) && not (nat_eq byte 34) && not (nat_eq byte 39)

@@ -1,0 +1,157 @@
+//! What the page shows of each input, output and label: the tables' words on it, the certificate's numbers and the
+//! margins.
+
+ghost use Rattle.std.specs.Prelude.{◌<◌, length};
+ghost use Rattle.dc_tables.specs.TableRows.{label_row};
+
+use dc_check::Fitted;
+use dc_document::Name;
+use dc_margin::{InputMargins, LabelMargins, OutputMargins, label_margins};
+use dc_tables::Tables;
+use dc_transmit::Schedule;
+
+/// Of an input.
+#[derive(Clone, Copy)]
+pub struct InputFacts {
+    pub name: Name,
+    pub router: Name,
+    pub queue: u32,
+    pub police: bool,
+    pub window: u32,
+    pub backlog: u32,
+    pub delay: u32,
+    pub margins: InputMargins,
+}
+
+/// Of an output.
+#[derive(Clone, Copy)]
+pub struct OutputFacts {
+    pub name: Name,
+    pub frame: u32,
+    pub window: u32,
+    pub delay: u32,
+    pub margins: OutputMargins,
+}
+
+/// Of a label: beside its own numbers its gaps, the delay of its output and the longest one of its sources' buses.
+#[derive(Clone, Copy)]
+pub struct LabelFacts {
+    pub name: Name,
+    pub least_gap: u64,
+    pub greatest_gap: u64,
+    pub output_delay: u32,
+    pub minimum: u32,
+    pub maximum: u32,
+    pub stale: u32,
+    pub slowest: u32,
+    pub age: u32,
+    pub age_limit: u32,
+    pub margins: LabelMargins,
+}
+
+/// Of a source of a label.
+#[derive(Clone, Copy)]
+pub struct SourceFacts {
+    pub name: Name,
+    pub bus: Name,
+    pub delay: u32,
+    pub maximum: u32,
+}
+
+/// The facts of the input of this number, with its margins.
+pub fn input_facts(fitted: &Fitted<'_>, bus: usize, margins: &InputMargins) -> InputFacts
+    requires there { bus < length fitted.now.tables.now.buses }
+{
+    fitted.tables.valid();
+    let row = &fitted.certificate.inputs[bus];
+    let own = fitted.tables.bus(bus);
+    InputFacts {
+        name: *fitted.tables.bus_name(bus),
+        router: *fitted.tables.router_name(own.router),
+        queue: own.queue,
+        police: own.police,
+        window: row.window,
+        backlog: row.backlog,
+        delay: row.delay,
+        margins: *margins,
+    }
+}
+
+/// The facts of the output of this number, with its margins.
+pub fn output_facts(fitted: &Fitted<'_>, output: usize, margins: &OutputMargins) -> OutputFacts
+    requires there { output < length fitted.now.tables.now.outputs }
+{
+    let row = &fitted.certificate.outputs[output];
+    OutputFacts {
+        name: *fitted.tables.output_name(output),
+        frame: fitted.tables.output(output).frame,
+        window: row.window,
+        delay: row.delay,
+        margins: *margins,
+    }
+}
+
+/// The facts of the label of this number.
+pub fn label_facts(fitted: &Fitted<'_>, label: usize) -> LabelFacts
+    requires there { label < length fitted.now.tables.now.labels }
+{
+    fitted.tables.valid();
+    let row = fitted.tables.label(label);
+    let schedule = Schedule::of(fitted.tables, row.output);
+    LabelFacts {
+        name: *fitted.tables.label_name(label),
+        least_gap: schedule.min_gap(label),
+        greatest_gap: schedule.max_gap(label),
+        output_delay: fitted.certificate.outputs[row.output].delay,
+        minimum: row.minimum,
+        maximum: row.maximum,
+        stale: row.stale,
+        slowest: slowest_delay(fitted, label),
+        age: fitted.certificate.labels[label].age,
+        age_limit: row.age_limit,
+        margins: label_margins(fitted, label),
+    }
+}
+
+/// The longest delay of the buses of a label's sources.
+fn slowest_delay(fitted: &Fitted<'_>, label: usize) -> u32
+    requires there { label < length fitted.now.tables.now.labels }
+{
+    let mut longest = 0;
+    for place in 0..fitted.tables.label(label).sources.len() {
+        let stream = source_at(fitted.tables, label, place);
+        longest = delay_of(fitted, stream).max(longest);
+    }
+    longest
+}
+
+/// The stream at this place among a label's sources.
+pub fn source_at(tables: &Tables, label: usize, place: usize) -> usize
+    requires there { label < length tables.now.labels }
+    requires place { place < length (label_row tables.now label).sources }
+    ensures { result < length tables.now.streams }
+{
+    tables.valid();
+    let row = tables.label(label);
+    row.sources.as_slice()[place]
+}
+
+/// The delay that the certificate claims of a stream's bus.
+fn delay_of(fitted: &Fitted<'_>, stream: usize) -> u32
+    requires there { stream < length fitted.now.tables.now.streams }
+{
+    fitted.certificate.inputs[fitted.tables.bus_of(stream)].delay
+}
+
+/// The facts of the source that is the stream of this number.
+pub fn source_facts(fitted: &Fitted<'_>, stream: usize) -> SourceFacts
+    requires there { stream < length fitted.now.tables.now.streams }
+{
+    let bus = fitted.tables.bus_of(stream);
+    SourceFacts {
+        name: *fitted.tables.stream_name(stream),
+        bus: *fitted.tables.bus_name(bus),
+        delay: delay_of(fitted, stream),
+        maximum: fitted.tables.stream(stream).maximum,
+    }
+}

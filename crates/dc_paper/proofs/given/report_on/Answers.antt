@@ -1,5 +1,0 @@
-use Rattle.dc_paper.proofs.Paging.{page_kept}
-use Rattle.dc_paper.proofs.given.report_on.Goals as goal
-
-pub returns : goal.returns
-returns c = page_kept _ _ c.keep_judged.result c.keep_judged.ensures.outcome

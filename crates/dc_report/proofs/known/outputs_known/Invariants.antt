@@ -1,5 +1,0 @@
-use Rattle.std.proofs.Common.{◌≡◌, length}
-use Rattle.dc_report.proofs.known.outputs_known.Given as goal
-
-abbrev pub invariant-loop-output : goal.invariant-loop-output
-invariant-loop-output l = length l.margins.items ≡ l.output

@@ -1,0 +1,34 @@
+use Rattle.dc_answer.specs.lemmas.Stages.{kept_order, none_ask, read_raised, unread_raised}
+use Rattle.dc_run.specs.Stages.{TraceGoesOn}
+use Rattle.dc_run.proofs.Auditing.{trace_order, trace_read, trace_refused}
+use Rattle.dc_run.proofs.stages.ReadRunJudgeWith.judge.Goals as goal
+
+pub returns-in-Ok-clause-answer : goal.returns-in-Ok-clause-answer
+returns-in-Ok-clause-answer g c =
+    trace_read (g.C.Known.rows c.args.known) (λ run. g.J.Judge.answers c.args.self.now.0 (c.args.known, run)) (g.S.Source.state c.args.given.now.first.now) (g.R.Given.states c.args.given.now.rest) _ c.in-Ok.run' c.judge.result (rw c.tables.ensures at c.named.ensures) (rw c.tables-2.ensures at c.in-Ok.ensures.run) c.judge.ensures.answer
+
+pub returns-in-Ok-clause-order : goal.returns-in-Ok-clause-order
+returns-in-Ok-clause-order g c = trace_order g.R.Given.kept _ _ _ _ (g.C.Known.rows c.args.known) (λ run. g.J.Judge.goes_on c.args.self.now.0 (c.args.known, run)) (g.S.Source.state c.args.given.now.first.now) (g.R.Given.states c.args.given.now.rest) c.in-Ok.run' (rw c.tables-2.ensures at c.in-Ok.ensures.run) c.judge.ensures.order
+
+pub returns-in-Err-Refused-clause-answer : goal.returns-in-Err-Refused-clause-answer
+returns-in-Err-Refused-clause-answer g c =
+    let loads = rw (c.in-Err-Refused.field-0-is, c.tables-2.ensures) at c.in-Err-Refused.ensures.run in
+    trace_refused (g.C.Known.rows c.args.known) (λ run. g.J.Judge.answers c.args.self.now.0 (c.args.known, run)) (g.S.Source.state c.args.given.now.first.now) (g.R.Given.states c.args.given.now.rest) _ _ _ _ loads c.in-Err-Refused.fault-is (rw c.code_of.ensures.text at c.print_fault.ensures) c.tell.ensures
+
+pub returns-in-Err-Refused-clause-asks : goal.returns-in-Err-Refused-clause-asks
+returns-in-Err-Refused-clause-asks g c = (c.in-Err-Refused.ensures.asks, none_ask _ _)
+
+pub returns-clause-asks : goal.returns-clause-asks
+returns-clause-asks g c = (c.in-Err-Failed.ensures.asks, none_ask _ _)
+
+pub returns-in-Ok-clause-raises : goal.returns-in-Ok-clause-raises
+returns-in-Ok-clause-raises g c = read_raised _ _ _ _ c.judge.result c.in-Ok.ensures.count c.judge.ensures.raises
+
+pub returns-in-Err-Refused-clause-order : goal.returns-in-Err-Refused-clause-order
+returns-in-Err-Refused-clause-order g c = kept_order g.R.Given.kept g.R.Given.kept_same _ _ _ (TraceGoesOn (g.C.Known.rows c.args.known) (λ run. g.J.Judge.goes_on c.args.self.now.0 (c.args.known, run))) (g.S.Source.state c.args.given.now.first.now) (g.R.Given.states c.args.given.now.rest) tt
+
+pub returns-clause-order : goal.returns-clause-order
+returns-clause-order g c = kept_order g.R.Given.kept g.R.Given.kept_same _ _ _ (TraceGoesOn (g.C.Known.rows c.args.known) (λ run. g.J.Judge.goes_on c.args.self.now.0 (c.args.known, run))) (g.S.Source.state c.args.given.now.first.now) (g.R.Given.states c.args.given.now.rest) tt
+
+pub returns-clause-raises : goal.returns-clause-raises
+returns-clause-raises g c = unread_raised _ _ _ c.in-Err-Failed.failure _ _ c.in-Err-Failed.failure-is c.unread.ensures.told (rw c.in-Err-Failed.field-0-is at c.in-Err-Failed.ensures.count)

@@ -1,0 +1,75 @@
+-- What `report` answers, and what it reports from what the frame does.
+use Rattle.std.proofs.Common.{◌≡◌, ◌≢◌, ℕ, ◌+◌, List, [], ◌∷◌, refl, ap, subst, Option, IfOk, Result, Ok, Err, inl, inr}
+use Rattle.dc_cert.specs.NamedRows.{NamedRows, named_rows}
+use Rattle.dc_cert.specs.Reading.{Reading, certificate_of}
+use Rattle.dc_check.specs.Verdict.{verdict_of}
+use Rattle.dc_find.specs.Least.{IsLeastAccepted, NoneAccepted}
+use Rattle.dc_find.specs.Ways.{IsFirstInTheWay}
+use Rattle.dc_find.specs.declared.fault.FindFault.{FindFault}
+use Rattle.dc_find.specs.declared.fault.FindFault.TheVariants.{Memory as NoMemory}
+use Rattle.dc_document.specs.declared.fault.BuildError.TheVariants.{Refused as RefusedTables, Memory as NoTables}
+use Rattle.dc_tables.specs.TableRows.{TableRows}
+use Rattle.dc_answer.specs.Answer.{Answer, Reported, WholeOrNone, one_line}
+use Rattle.dc_answer.specs.Exits.{is_answered}
+use Rattle.dc_answer.specs.Inputs.{AnswersCertificate, AnswersTables, AnswersClaims as FrameClaims}
+use Rattle.dc_answer.specs.Judging.{Keeps}
+use Rattle.dc_answer.specs.declared.exit.Exit.{Exit}
+use Rattle.dc_answer.specs.declared.exit.Outcome.{Outcome}
+use Rattle.dc_answer.specs.declared.exit.Outcome.TheVariants.{Done, Refused as WasRefused}
+use Rattle.dc_answer.specs.lemmas.Judgments.{one_said}
+use Rattle.dc_answer.specs.lemmas.Plain.{of_one, of_two, reported_as, whole_as}
+use Rattle.dc_run.specs.Find.{obstacle_text}
+use Rattle.dc_run_report.specs.Paper.{AnswersClaims, AnswersLeast, AnswersReport, AnswersRows, IsPage, ReportsLeast, ReportsPage, outcome_of}
+
+-- ---- what is told
+
+-- a page of which nothing is said, with its outcome
+pub page_kept : {E : Type 0} (text : List ℕ) (outcome : Outcome) (result : Result Outcome E) → IfOk result (λ o. o ≡ outcome) → Keeps (IsPage outcome) text result
+page_kept text outcome (Ok o) is = one_said (IsPage outcome) text text o refl (text, ap (one_line text) is)
+page_kept text outcome (Err e) is = tt
+
+pub found_kept : {E : Type 0} (t : TableRows) (claims : NamedRows) (text : List ℕ) (result : Result Outcome E) → IsLeastAccepted t claims → IfOk result (λ o. o ≡ Done) → Keeps (AnswersRows t) text result
+found_kept t claims text (Ok o) least is = one_said (AnswersRows t) text text o refl (inl (claims, least, (text, ap (one_line text) is)))
+found_kept t claims text (Err e) least is = tt
+
+pub obstacle_kept : {E : Type 0} (t : TableRows) (fault : FindFault) (text : List ℕ) (result : Result Outcome E) → (fault ≢ NoMemory → NoneAccepted t) → (fault ≢ NoMemory → IsFirstInTheWay t fault)
+    → IfOk result (λ x. text ≡ obstacle_text t fault) → IfOk result (λ o. o ≡ WasRefused) → IfOk result (λ x. fault ≢ NoMemory) → Keeps (AnswersRows t) text result
+obstacle_kept t fault text (Ok o) none first kept is some =
+    one_said (AnswersRows t) text (obstacle_text t fault) o kept (inr (record { fault = fault; none = none some; first = first some; said = ap (one_line (obstacle_text t fault)) is }))
+obstacle_kept t fault text (Err e) none first kept is some = tt
+
+-- ---- what is reported
+
+abbrev pub ReportFrame : List ℕ → List ℕ → Answer → Type 0
+ReportFrame rows given = AnswersTables (λ t. AnswersCertificate (λ c texts answer. IsPage (outcome_of (verdict_of t (named_rows c))) answer)) (rows ∷ given ∷ [])
+
+abbrev pub LeastFrame : List ℕ → Answer → Type 0
+LeastFrame rows = AnswersTables (λ t texts answer. AnswersRows t answer) (rows ∷ [])
+
+claims_as : (t : TableRows) (reading : Reading NamedRows) (answer : Answer) → FrameClaims (λ c texts a. IsPage (outcome_of (verdict_of t (named_rows c))) a) [] answer reading
+    → AnswersClaims t answer reading
+claims_as t (Ok claims) answer (c, same, is) = subst (λ n. IsPage (outcome_of (verdict_of t n)) answer) same is
+claims_as t (Err fault) answer is = is
+
+page_as : (rows given : List ℕ) (answer : Answer) → ReportFrame rows given answer → AnswersReport rows given answer
+page_as rows given answer (Ok t, tells, is) = (Ok t, tells, claims_as t (certificate_of given) answer is)
+page_as rows given answer (Err (RefusedTables fault), tells, is) = (Err (RefusedTables fault), tells, is)
+page_as rows given answer (Err (NoTables e), tells, is) = absurd is
+
+least_as : (rows : List ℕ) (answer : Answer) → LeastFrame rows answer → AnswersLeast rows answer
+least_as rows answer (Ok t, tells, is) = (Ok t, tells, is)
+least_as rows answer (Err (RefusedTables fault), tells, is) = (Err (RefusedTables fault), tells, is)
+least_as rows answer (Err (NoTables e), tells, is) = absurd is
+
+pub page_reports : (rows given : List ℕ) (old new : Option (List ℕ)) (a a' b b' k k' : ℕ) (exit : Exit)
+    → Reported (WholeOrNone (ReportFrame rows given) (is_answered exit)) old new (a + (b + 0)) (a' + (b' + 0)) k k' exit → ReportsPage rows given old new (a + b) (a' + b') k k' exit
+page_reports rows given old new a a' b b' k k' exit r =
+    reported_as (WholeOrNone (ReportFrame rows given) (is_answered exit)) (WholeOrNone (AnswersReport rows given) (is_answered exit)) old new (a + b) (a' + b') k k' exit
+    (whole_as (ReportFrame rows given) (AnswersReport rows given) (is_answered exit) (page_as rows given))
+    (of_two (WholeOrNone (ReportFrame rows given) (is_answered exit)) old new k k' exit a a' b b' r)
+
+pub least_reports : (rows : List ℕ) (old new : Option (List ℕ)) (a a' k k' : ℕ) (exit : Exit)
+    → Reported (WholeOrNone (LeastFrame rows) (is_answered exit)) old new (a + 0) (a' + 0) k k' exit → ReportsLeast rows old new a a' k k' exit
+least_reports rows old new a a' k k' exit r =
+    reported_as (WholeOrNone (LeastFrame rows) (is_answered exit)) (WholeOrNone (AnswersLeast rows) (is_answered exit)) old new a a' k k' exit
+    (whole_as (LeastFrame rows) (AnswersLeast rows) (is_answered exit) (least_as rows)) (of_one (WholeOrNone (LeastFrame rows) (is_answered exit)) old new k k' exit a a' r)

@@ -1,0 +1,109 @@
+//! `report` with a certificate.
+ghost use Rattle.std.specs.Prelude.{◌≡◌, ◌≢◌, ℕ, List, ◌+◌, ◌<◌, IfOk, IfSome, Some};
+ghost use Rattle.dc_answer.specs.Answer.{Any, LeavesSink, Reported};
+ghost use Rattle.dc_answer.specs.Inputs.{OnlyBehind};
+ghost use Rattle.dc_answer.specs.Judging.{Keeps};
+ghost use Rattle.dc_cert.specs.NamedRows.{named_rows};
+ghost use Rattle.dc_check.specs.Verdict.{verdict_of};
+ghost use Rattle.dc_device.specs.States.{AsksUpTo, CanFail, IsCountable};
+ghost use Rattle.dc_document.specs.declared.limits.TheConstants.{TEXT_LIMIT};
+ghost use Rattle.dc_toml.specs.Reading.{tables_of};
+ghost use Rattle.dc_run_report.specs.Paper.{IsPage, ReportsPage, outcome_of};
+
+use crate::pages::keep_page;
+use dc_answer::{End, Exit, Outcome, Page, ReadCertificate, ReadTables, Tell, Then, With, run};
+use dc_cert::Certificate;
+use dc_check::verdict;
+use dc_device::{Sink, Source};
+use dc_tables::Tables;
+use std::alloc::{AllocError, Global};
+
+/// Keeps the page on a certificate with the outcome of its verdict.
+fn keep_judged(
+    alloc: Global,
+    tables: &Tables,
+    certificate: &Certificate,
+    page: &mut Page,
+) -> Result<Outcome, AllocError>
+    ensures outcome { IfOk result (λ o. o ≡ outcome_of (verdict_of tables.now (named_rows certificate.now))) }
+{
+    let fault = verdict(tables, certificate).err();
+    keep_page(alloc, tables, certificate, fault, page)
+}
+
+/// Judges a certificate, and keeps the page on it.
+fn report_on(
+    alloc: Global,
+    tables: &Tables,
+    certificate: &Certificate,
+    page: &mut Page,
+) -> Result<Outcome, AllocError>
+    ensures { Keeps (IsPage (outcome_of (verdict_of tables.now (named_rows certificate.now)))) page.new result }
+{
+    keep_judged(alloc, tables, certificate, page)
+}
+
+/// Makes the page on a certificate for tables, with the outcome of its verdict. No clause says what stands in the page:
+/// it is tested.
+#[derive(Clone, Copy, Debug)]
+pub struct Report;
+
+impl Tell<(Tables, Certificate)> for Report {
+    ghost answers = { λ _ known. IsPage (outcome_of (verdict_of known.0 (named_rows known.1))) };
+
+    fn tell(
+        &self,
+        alloc: Global,
+        known: (Tables, Certificate),
+        page: &mut Page,
+    ) -> Result<Outcome, AllocError> {
+        let (tables, certificate) = known;
+        report_on(alloc, &tables, &certificate, page)
+    }
+}
+
+/// The engine of `report` with a certificate.
+pub const REPORT: ReadTables<ReadCertificate<Then<Report>>> = ReadTables(ReadCertificate(Then(
+    Report,
+)));
+
+/// Writes the page on a certificate for tables onto a sink, both read whole from their sources, the tables first; where
+/// one of them can't be read, its line. No clause says what stands in the page: it is tested.
+///
+/// It ends `Done` where the certificate is accepted, `Refused` where it is refused, `Unreadable` where a text can't be
+/// read, `Failed` where a device failed or memory was refused: `failed memory` alone was written, or `failed device`
+/// behind nothing or all that was to be written; where a push or flush failed, a front of one of these or of the
+/// latter. That call is the last of the sink, and at most one pull of each source gives no byte. The certificate is
+/// asked for only where the tables are in order.
+pub fn run_report<T: Source, C: Source, K: Sink>(
+    alloc: Global,
+    tables: &mut T,
+    certificate: &mut C,
+    sink: &mut K,
+) -> Exit
+    requires tables { IsCountable (T.state tables.old) }
+    requires certificate { IsCountable (C.state certificate.old) }
+    requires sink { CanFail (K.state sink.old) }
+    ensures reports { (rows given : List ℕ) → (T.state tables.old).remaining ≡ Some rows → (C.state certificate.old).remaining ≡ Some given
+        → ReportsPage rows given (K.state sink.old).contents (K.state sink.new).contents
+        ((T.state tables.old).failed + (C.state certificate.old).failed) ((T.state tables.new).failed + (C.state certificate.new).failed)
+        (K.state sink.old).failed (K.state sink.new).failed result }
+    ensures reported { Reported Any (K.state sink.old).contents (K.state sink.new).contents
+        ((T.state tables.old).failed + (C.state certificate.old).failed) ((T.state tables.new).failed + (C.state certificate.new).failed)
+        (K.state sink.old).failed (K.state sink.new).failed result }
+    ensures asks_tables { AsksUpTo TEXT_LIMIT (T.state tables.old) (T.state tables.new) }
+    ensures asks_certificate { AsksUpTo TEXT_LIMIT (C.state certificate.old) (C.state certificate.new) }
+    ensures order { IfSome (T.state tables.old).remaining (λ rows. OnlyBehind (tables_of rows) (certificate.new ≡ certificate.old)) }
+    ensures left { LeavesSink (K.state sink.old).failed (K.state sink.new).failed (K.state sink.new).last_failed (K.state sink.new).hidden }
+    ensures quiet { result ≢ Exit.Failed → (T.state tables.new).failed + (C.state certificate.new).failed + (K.state sink.new).failed
+        ≡ (T.state tables.old).failed + (C.state certificate.old).failed + (K.state sink.old).failed }
+{
+    let mut given = With {
+        first: tables,
+        rest: With {
+            first: certificate,
+            rest: End,
+        },
+    };
+    run(&(), alloc, &REPORT, &mut given, sink)
+}
