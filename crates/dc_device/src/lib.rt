@@ -3,6 +3,7 @@
 
 mod device;
 mod memory;
+mod pen;
 mod reader;
 mod whole;
 mod wrappers;
@@ -10,6 +11,7 @@ mod writer;
 
 pub use device::{Broken, Sink, Source};
 pub use memory::{MemSink, MemSource};
+pub use pen::Pen;
 pub use reader::{BLOCK, LINE_LIMIT, Line, LineEnd, LineReader};
 pub use whole::{Unread, read_at_most};
 pub use wrappers::{Nowhere, ReadSource, WriteSink};

@@ -5,6 +5,7 @@ ghost use Rattle.dc_device.specs.Device.{Settles, failures_of};
 ghost use Rattle.dc_device.specs.States.{CanFail};
 
 use crate::device::{Broken, Sink};
+use crate::pen::{Pen, copy_over};
 use crate::reader::BLOCK;
 use std::marker::Model;
 
@@ -25,16 +26,6 @@ impl Model for LineWriter {
     ghost view = { λ w. take w.len w.block };
 
     ghost invariant = { λ w. w.len ≤ BLOCK };
-}
-
-/// Copies bytes over those from a place on.
-#[inline(always)]
-fn copy_over(block: &mut [u8], at: usize, bytes: &[u8])
-    requires { at + length bytes.now ≤ length block.old }
-    ensures front { take (at + length bytes.now) block.new ≡ take at block.old ++ bytes.now }
-    ensures len { length block.new ≡ length block.old }
-{
-    block[at..at + bytes.len()].copy_from_slice(bytes);
 }
 
 /// Pushes all the bytes, by as many pushes as it takes. It is called once a block: kept apart, so that `put` stays
@@ -137,6 +128,45 @@ impl LineWriter {
     {
         self.put(sink, line)?;
         self.put(sink, b"\n")
+    }
+
+    /// Puts the bytes of a pen and a line feed after those that wait, where there is room for all that the pen may
+    /// hold, and says whether there was.
+    #[inline(always)]
+    fn hold_pen<const CAP: usize>(&mut self, pen: &Pen<CAP>) -> bool
+        ensures { MatchBool result (self.new ≡ self.old ++ (pen.now ++ 10 ∷ [])) (self.new ≡ self.old) }
+    {
+        if CAP >= BLOCK - self.len {
+            return false;
+        }
+        pen.copy_to(&mut self.block, self.len);
+        let end = self.len + pen.len();
+        copy_over(&mut self.block, end, b"\n");
+        self.len = end + 1;
+        true
+    }
+
+    /// Writes the line of a pen and a line feed, after what waits.
+    ///
+    /// # Errors
+    /// `Broken` where the sink failed: it took a front of what waited and the line, and nothing waits.
+    #[inline(always)]
+    pub fn line_by<K: Sink, const CAP: usize>(
+        &mut self,
+        sink: &mut K,
+        pen: &Pen<CAP>,
+    ) -> Result<(), Broken>
+        requires { CanFail (K.state sink.old) }
+        ensures bytes { Gathers (K.state sink.old).contents self.old (K.state sink.new).contents self.new
+            (pen.now ++ 10 ∷ []) result }
+        ensures count { (K.state sink.new).failed ≡ (K.state sink.old).failed + failures_of result }
+        ensures last { IfErr result (λ _. (K.state sink.new).last_failed ≡ true) }
+        ensures answered { (K.state sink.new).answered ≡ (K.state sink.old).answered }
+    {
+        if self.hold_pen(pen) {
+            return Ok(());
+        }
+        self.line(sink, pen.text())
     }
 
     /// Writes a line that is handed in as two parts, and a line feed, after what waits.

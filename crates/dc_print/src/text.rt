@@ -1,7 +1,7 @@
 //! Text in a room of [`TEXT_CAPACITY`] bytes.
 ghost use Rattle.std.specs.Prelude.{◌≡◌, ◌++◌, ◌+◌, ◌<◌, ◌≤◌, length, codes, decimal};
 ghost use Rattle.arrayvec.specs.ArrayVec.{array_vec_len};
-ghost use Rattle.dc_print.specs.Text.{five_decimal, five_hex, three_octal};
+ghost use Rattle.dc_print.specs.Text.{five_decimal, five_hex};
 ghost use Rattle.dc_event.specs.WordText.{digit, eight_hex};
 ghost use Rattle.dc_print.specs.declared.text.TheConstants.{TEXT_CAPACITY};
 
@@ -81,11 +81,4 @@ pub fn decimal_5(n: u32) -> [u8; 5]
         digit_of(n / 10 % 10),
         digit_of(n % 10),
     ]
-}
-
-/// The last three octal digits.
-pub fn octal_3(n: u32) -> [u8; 3]
-    ensures { result ≡ three_octal n }
-{
-    [digit_of(n / 64 % 8), digit_of(n / 8 % 8), digit_of(n % 8)]
 }

@@ -1,0 +1,2 @@
+mod HexPairs
+mod Pieces
