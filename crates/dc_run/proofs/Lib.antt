@@ -13,3 +13,4 @@ pub mod Says
 pub mod Sharing
 pub mod Shown
 pub mod StepLemmas
+pub mod WordAhead

@@ -1,8 +1,8 @@
 -- What `decode` writes for a text of words.
-use Rattle.std.specs.Prelude.{◌≡◌, IfSome, ℕ, ◌+◌, ◌-◌, List, [], ◌∷◌, length, ◌||◌, Bool, nat_lt, if◌then◌else◌, Option, Some, None, codes}
+use Rattle.std.specs.Prelude.{◌≡◌, ◌≤◌, IfSome, ℕ, ◌+◌, ◌-◌, slice_index_or, take, List, [], ◌∷◌, length, ◌||◌, Bool, nat_lt, if◌then◌else◌, Option, Some, None, codes}
 use Rattle.dc_word.specs.declared.format.Format.{Format}
 use Rattle.std.specs.Io.KnownBytes.{Appends}
-use Rattle.dc_device.specs.Lines.{lines_of, spelled}
+use Rattle.dc_device.specs.Lines.{Held, lines_of, spelled}
 use Rattle.dc_event.specs.WordText.{word_of}
 use Rattle.dc_event.specs.TraceFaults.{line_rule_code}
 use Rattle.dc_event.specs.declared.trace.LineRule.TheVariants.{LineTooLong, NotAWord, LineNotEnded}
@@ -52,3 +52,8 @@ AreDue format text lines = (number : ℕ) × (rest : List ℕ) × (decode_text f
 -- a text is a text that ends there, so each line is seen before what follows it is asked for.
 abbrev pub IsPrompt : Format → List ℕ → Option (List ℕ) → Option (List ℕ) → Type 0
 IsPrompt format text old seen = (lines : List (List ℕ)) × AreDue format text lines × IfSome seen (λ bytes. Appends old (Some bytes) (spelled lines))
+
+-- nothing of a line was gathered, and the held bytes begin with this word's eight digits and a line feed
+abbrev pub IsAhead : Held → List ℕ → ℕ → Type 0
+IsAhead held line word =
+    (line ≡ []) × (9 ≤ length held.bytes) × (9 ≤ held.room) × (slice_index_or held.bytes 8 0 ≡ 10) × (word_of (take 8 held.bytes) ≡ Some word)

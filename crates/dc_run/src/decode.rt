@@ -5,14 +5,14 @@ ghost use Rattle.dc_device.specs.Device.{failures_of};
 ghost use Rattle.dc_device.specs.States.{AsksUpTo, CanFail, IsCountable};
 ghost use Rattle.dc_run.specs.declared.decode.TheConstants.{STREAM_LIMIT};
 ghost use Rattle.dc_answer.specs.Answer.{Causes, Ends, LeavesSink, Reports, SettlesBy};
-ghost use Rattle.dc_run.specs.Decode.{IsPrompt, answer_end, decode_text};
+ghost use Rattle.dc_run.specs.Decode.{IsAhead, IsPrompt, answer_end, decode_text};
 ghost use Rattle.dc_print.specs.Words.{line_of};
 
 use crate::replay::code_of;
 use dc_answer::{Exit, Failure, Outcome, ask, end_at, report};
-use dc_device::{Line, LineEnd, LineReader, LineWriter, Sink, Source};
+use dc_device::{Line, LineEnd, LineReader, LineWriter, Pen, Sink, Source};
 use dc_event::{LineRule, read_word};
-use dc_print::{Text, print_word};
+use dc_print::put_word;
 use dc_word::{Format, Word};
 
 /// How many bytes a text may have that is read without an end in sight: what a gigabyte a second makes in three
@@ -43,6 +43,7 @@ fn end_inside<K: Sink>(
 }
 
 /// Writes the line of a word.
+#[inline(always)]
 fn write_word<K: Sink>(
     writer: &mut LineWriter,
     sink: &mut K,
@@ -56,12 +57,27 @@ fn write_word<K: Sink>(
     ensures sink { IfErr result (λ e. e ≡ Failure.Sink) }
     ensures last { IfErr result (λ e. (K.state sink.new).last_failed ≡ true) }
 {
-    let mut text = Text::new();
-    print_word(&mut text, format, word);
-    match writer.line(sink, text.as_slice()) {
+    let mut pen = Pen::new();
+    put_word(&mut pen, format, word);
+    match writer.line_by(sink, &pen) {
         Ok(()) => Ok(()),
         Err(_) => Err(Failure::Sink),
     }
+}
+
+/// The word of the next line, where nothing of it was gathered and it is held: eight digits and a line feed.
+#[inline(always)]
+fn word_ahead(reader: &LineReader, line: &Line) -> Option<Word>
+    ensures { IfSome result (λ word. IsAhead reader.now line.now.items word) }
+{
+    if !line.is_empty() || reader.room() < 9 {
+        return None;
+    }
+    let held = reader.held();
+    if held.len() < 9 || held[8] != b'\n' {
+        return None;
+    }
+    read_word(&held[..8])
 }
 
 /// Answers the text of a source, until one of the two fails.
@@ -89,6 +105,15 @@ fn answer<S: Source, K: Sink>(
     let mut line = Line::new();
     let mut number: u64 = 1;
     loop {
+        if let Some(word) = word_ahead(&reader, &line) {
+            reader.pass(9);
+            match write_word(writer, sink, format, word) {
+                Err(failure) => return Err(failure),
+                Ok(()) => {}
+            }
+            number += 1;
+            continue;
+        }
         match reader.read_on(&mut line) {
             None => match ask(&mut reader, source, writer, sink) {
                 Err(failure) => return Err(failure),

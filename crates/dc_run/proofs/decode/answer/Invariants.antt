@@ -5,8 +5,8 @@ use Rattle.dc_run.specs.declared.decode.TheConstants.{STREAM_LIMIT}
 use Rattle.dc_run.proofs.Says.{Says, waits}
 use Rattle.dc_run.proofs.decode.answer.Given as goal
 
-abbrev pub invariant-loop-reader : goal.invariant-loop-reader
-invariant-loop-reader g l =
+abbrev pub invariant-loop-word : goal.invariant-loop-word
+invariant-loop-word g l =
     record {
       said : Says l.format STREAM_LIMIT (g.S.Source.state l.fn.source).remaining (prepend_known (l.line.items ++ l.reader.bytes) (g.S.Source.state l.source).remaining) (g.K.Sink.state l.fn.sink).contents (g.K.Sink.state l.sink).contents l.writer (l.reader.room + length l.line.items) l.number;
       plain : NoFeed l.line.items;
@@ -17,5 +17,5 @@ invariant-loop-reader g l =
       dry : (g.S.Source.state l.source).dry ≤ (g.S.Source.state l.fn.source).dry;
     }
 
-abbrev pub decreases-loop-reader : goal.decreases-loop-reader
-decreases-loop-reader g l = 2 * l.reader.room + waits l.reader.bytes
+abbrev pub decreases-loop-word : goal.decreases-loop-word
+decreases-loop-word g l = 2 * l.reader.room + waits l.reader.bytes
