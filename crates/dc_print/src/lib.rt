@@ -11,4 +11,4 @@ pub use text::{TEXT_CAPACITY, Text, append, append_number, digit_of, hex_8};
 pub use verdicts::{
     append_member, print_accepted, print_cert_fault, print_refused, print_table_fault,
 };
-pub use words::put_word;
+pub use words::{WORD_ROOM, put_word};

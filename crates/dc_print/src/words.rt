@@ -1,17 +1,20 @@
 //! The printed line of a word.
 ghost use Rattle.std.specs.Prelude.{◌≡◌, [], ◌++◌, ◌+◌, ◌≤◌, length};
 ghost use Rattle.dc_print.specs.Words.{data_text, line_of, parity_text, status_text};
-ghost use Rattle.dc_print.specs.declared.text.TheConstants.{TEXT_CAPACITY};
+ghost use Rattle.dc_print.specs.declared.words.TheConstants.{WORD_ROOM};
 
 use crate::put::{put_hex_8, put_octal_3, put_signed};
-use crate::text::{TEXT_CAPACITY, decimal_5, digit_of, hex_5};
+use crate::text::{decimal_5, digit_of, hex_5};
 use dc_device::Pen;
 use dc_word::{Format, Status, Word};
 
+/// The room of the line of a word, in bytes: no line is longer, and all of the room is copied where the line is written.
+pub const WORD_ROOM: usize = 96;
+
 /// Puts the status at the end.
 #[inline(always)]
-fn put_status(pen: &mut Pen<TEXT_CAPACITY>, status: Status)
-    requires { length pen.old + 16 ≤ TEXT_CAPACITY }
+fn put_status(pen: &mut Pen<WORD_ROOM>, status: Status)
+    requires { length pen.old + 16 ≤ WORD_ROOM }
     ensures items { pen.new ≡ pen.old ++ status_text status }
     ensures len { length pen.new ≤ length pen.old + 16 }
 {
@@ -28,8 +31,8 @@ fn put_status(pen: &mut Pen<TEXT_CAPACITY>, status: Status)
 
 /// Puts the parity at the end.
 #[inline(always)]
-fn put_parity(pen: &mut Pen<TEXT_CAPACITY>, is_odd: bool)
-    requires { length pen.old + 4 ≤ TEXT_CAPACITY }
+fn put_parity(pen: &mut Pen<WORD_ROOM>, is_odd: bool)
+    requires { length pen.old + 4 ≤ WORD_ROOM }
     ensures { pen.new ≡ pen.old ++ parity_text is_odd }
 {
     if is_odd {
@@ -41,8 +44,8 @@ fn put_parity(pen: &mut Pen<TEXT_CAPACITY>, is_odd: bool)
 
 /// Puts the data at the end.
 #[inline(always)]
-fn put_data(pen: &mut Pen<TEXT_CAPACITY>, format: Format, word: Word)
-    requires { length pen.old + 21 ≤ TEXT_CAPACITY }
+fn put_data(pen: &mut Pen<WORD_ROOM>, format: Format, word: Word)
+    requires { length pen.old + 21 ≤ WORD_ROOM }
     ensures items { pen.new ≡ pen.old ++ data_text format word }
     ensures len { length pen.new ≤ length pen.old + 21 }
 {
@@ -62,7 +65,7 @@ fn put_data(pen: &mut Pen<TEXT_CAPACITY>, format: Format, word: Word)
 /// Puts the line of a word into an empty pen.
 #[tactic(auto, unfolding(crate::specs::Words::line_of))]
 #[inline(always)]
-pub fn put_word(pen: &mut Pen<TEXT_CAPACITY>, format: Format, word: Word)
+pub fn put_word(pen: &mut Pen<WORD_ROOM>, format: Format, word: Word)
     requires { pen.old ≡ [] }
     ensures { pen.new ≡ line_of format word }
 {

@@ -12,7 +12,7 @@ use crate::replay::code_of;
 use dc_answer::{Exit, Failure, Outcome, ask, end_at, report};
 use dc_device::{Line, LineEnd, LineReader, LineWriter, Pen, Sink, Source};
 use dc_event::{LineRule, read_word};
-use dc_print::put_word;
+use dc_print::{WORD_ROOM, put_word};
 use dc_word::{Format, Word};
 
 /// How many bytes a text may have that is read without an end in sight: what a gigabyte a second makes in three
@@ -57,7 +57,7 @@ fn write_word<K: Sink>(
     ensures sink { IfErr result (λ e. e ≡ Failure.Sink) }
     ensures last { IfErr result (λ e. (K.state sink.new).last_failed ≡ true) }
 {
-    let mut pen = Pen::new();
+    let mut pen = Pen::<WORD_ROOM>::new();
     put_word(&mut pen, format, word);
     match writer.line_by(sink, &pen) {
         Ok(()) => Ok(()),
