@@ -1,9 +1,10 @@
 -- The verdict on a certificate: the first rule that it breaks.
-use Rattle.std.specs.Prelude.{◌≡◌, ℕ, ◌+◌, ◌-◌, Bool, ◌==◌, ◌&&◌, not, if◌then◌else◌, nat_le, nat_lt, zero, suc, Option, None, Some, List, [], ◌∷◌, length, map, slice_index}
+use Rattle.std.specs.Prelude.{◌≡◌, ℕ, ◌+◌, ◌-◌, Bool, ◌==◌, ◌&&◌, not, if◌then◌else◌, nat_le, nat_lt, zero, suc, Option, None, Some, List, [], ◌∷◌, length, map, slice_index, MatchResult}
 use Rattle.std.specs.Cmp.Lexicographic.{pointwise}
 use Rattle.std.specs.List.{list_all}
 use Rattle.std.specs.Option.{option_or}
 use Rattle.std.specs.Str.{bytes_eq}
+use Rattle.std.specs.declared.result.Result.{Result}
 use Rattle.dc_bound.specs.Places.{when, or_else}
 use Rattle.dc_busy.specs.declared.limits.TheConstants.{LONGEST_WINDOW}
 use Rattle.dc_cert.specs.Bounds.{InputBound, OutputBound, CertificateRows, input_bound, output_bound, numbers_of}
@@ -97,6 +98,14 @@ range_rules list index window delay =
     ∷ unless (is_delay delay) (fault_at list index DelayOutOfRange 0)
     ∷ []
 
+-- what they say of an input of the certificate
+abbrev pub input_ranges : CertificateRows → ℕ → Option CheckFault
+input_ranges c b = first_of (range_rules Inputs b (input_bound c b).window (input_bound c b).delay)
+
+-- what they say of an output of the certificate
+abbrev pub output_ranges : CertificateRows → ℕ → Option CheckFault
+output_ranges c o = first_of (range_rules Outputs o (output_bound c o).window (output_bound c o).delay)
+
 -- the first number of ticks up to the window at which a bus's backlog is too small, if there is one
 abbrev pub input_backlog_failure : TableRows → ℕ → InputBound → Option ℕ
 input_backlog_failure t b c = backlog_failure (bus_cap t b) (bus_floor t b) c.window c.backlog
@@ -125,14 +134,22 @@ output_rules t o c =
     ∷ at_window Outputs o DelayTooSmall (output_delay_failure t o c)
     ∷ []
 
+-- whether the age is long enough for the oldest word of each of the label's sources that it still copies
+abbrev pub are_within : TableRows → (label age : ℕ) → CertificateRows → Bool
+are_within t x age c = list_all (λ s. nat_le ((label_row t x).stale + source_delay t c s) age) (label_row t x).sources
+
+-- whether the label's stale limit is long enough for each of its sources that keeps sending
+abbrev pub stay_fresh : TableRows → (label : ℕ) → CertificateRows → Bool
+stay_fresh t x c = list_all (λ s. nat_le (source_delay t c s + (stream_row t s).maximum) (label_row t x).stale) (label_row t x).sources
+
 -- the rules on a label: its gaps, its age and its sources
 abbrev pub label_rules : TableRows → ℕ → CertificateRows → List (Option CheckFault)
 label_rules t x c =
     unless (list_all (λ g. nat_le ((label_row t x).minimum + label_delay t c x) g) (gaps_of t x)) (fault_at Labels x SentTooSoon 0)
     ∷ unless (list_all (λ g. nat_le (g + label_delay t c x) (label_row t x).maximum) (gaps_of t x)) (fault_at Labels x SentTooLate 0)
-    ∷ unless (list_all (λ s. nat_le ((label_row t x).stale + source_delay t c s) (slice_index c.ages x)) (label_row t x).sources) (fault_at Labels x AgeTooSmall 0)
+    ∷ unless (are_within t x (slice_index c.ages x) c) (fault_at Labels x AgeTooSmall 0)
     ∷ unless (nat_le (slice_index c.ages x) (label_row t x).age_limit) (fault_at Labels x AgeOverLimit 0)
-    ∷ unless (list_all (λ s. nat_le (source_delay t c s + (stream_row t s).maximum) (label_row t x).stale) (label_row t x).sources) (fault_at Labels x SourceGoesStale 0)
+    ∷ unless (stay_fresh t x c) (fault_at Labels x SourceGoesStale 0)
     ∷ []
 
 -- ---- jobs: the inputs, the outputs and the labels in one row, from 0
@@ -146,8 +163,8 @@ abbrev pub job_ranges : TableRows → CertificateRows → ℕ → Option CheckFa
 job_ranges t c job =
     let inputs = length t.buses in
     let outputs = length t.outputs in
-    if nat_lt job inputs then first_of (range_rules Inputs job (input_bound c job).window (input_bound c job).delay)
-    else if nat_lt job (inputs + outputs) then first_of (range_rules Outputs (job - inputs) (output_bound c (job - inputs)).window (output_bound c (job - inputs)).delay)
+    if nat_lt job inputs then input_ranges c job
+    else if nat_lt job (inputs + outputs) then output_ranges c (job - inputs)
     else None
 
 -- what the other rules say of it
@@ -185,3 +202,7 @@ first_job_fault verdict (suc n) = option_or (first_job_fault verdict n) (verdict
 -- the first fault of a certificate for the tables: of its names, then of its jobs in their order
 unfoldable pub verdict_of : TableRows → NamedRows → Option CheckFault
 verdict_of t claims = option_or (misnaming t claims) (first_job_fault (job_verdict t (numbers_of claims)) (job_count t))
+
+-- the answer is the verdict: no fault, or the first
+abbrev pub IsVerdict : {T : Type 0} → TableRows → NamedRows → Result T CheckFault → Type 0
+IsVerdict t claims answer = MatchResult answer (λ _. verdict_of t claims ≡ None) (λ fault. verdict_of t claims ≡ Some fault)

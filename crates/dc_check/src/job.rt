@@ -1,11 +1,11 @@
 //! The verdict on a certificate, job by job. Jobs are the inputs, the outputs and the labels in one row, from 0.
 
-ghost use Rattle.std.specs.Prelude.{◌≡◌, ℕ, ◌+◌, ◌<◌, length, None, Some, IfErr, MatchResult};
+ghost use Rattle.std.specs.Prelude.{◌≡◌, ℕ, ◌+◌, ◌<◌, length, None, Some, IfErr};
 ghost use Rattle.dc_cert.specs.Bounds.{certificate_rows};
 ghost use Rattle.dc_cert.specs.NamedRows.{named_rows};
 ghost use Rattle.dc_check.specs.Jobs.{IsJob};
 ghost use Rattle.dc_check.specs.Placed.{IsPlaced};
-ghost use Rattle.dc_check.specs.Verdict.{job_count, job_ranges, job_verdict, job_backlog_failure, job_delay_failure, first_job_fault, verdict_of};
+ghost use Rattle.dc_check.specs.Verdict.{IsVerdict, job_count, job_ranges, job_verdict, job_backlog_failure, job_delay_failure, first_job_fault};
 
 use crate::fault::CheckFault;
 use crate::fitted::Fitted;
@@ -121,7 +121,7 @@ pub(crate) fn jobs_fault(fitted: &Fitted<'_>) -> Option<CheckFault>
 /// The verdict on a certificate: its first fault, if it has one.
 pub fn verdict(tables: &Tables, certificate: &Certificate) -> Result<(), CheckFault>
     ensures place { IfErr result (λ fault. IsPlaced tables.now fault) }
-    ensures exact { MatchResult result (λ _. verdict_of tables.now (named_rows certificate.now) ≡ None) (λ fault. verdict_of tables.now (named_rows certificate.now) ≡ Some fault) }
+    ensures exact { IsVerdict tables.now (named_rows certificate.now) result }
 {
     if let Some(fault) = misnamed(tables, certificate) {
         return Err(fault);

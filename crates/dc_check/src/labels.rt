@@ -4,8 +4,8 @@ ghost use Rattle.std.specs.Prelude.{◌≡◌, ℕ, ◌+◌, ◌<◌, ◌≤◌,
 ghost use Rattle.std.specs.List.{list_all};
 ghost use Rattle.dc_cert.specs.Bounds.{certificate_rows, input_bound, output_bound};
 ghost use Rattle.dc_check.specs.Accepts.{gaps_of, source_delay};
-ghost use Rattle.dc_check.specs.Verdict.{first_of, label_rules};
-ghost use Rattle.dc_tables.specs.TableRows.{stream_row, label_row};
+ghost use Rattle.dc_check.specs.Verdict.{are_within, first_of, label_rules, stay_fresh};
+ghost use Rattle.dc_tables.specs.TableRows.{label_row};
 
 use crate::fault::{CertificateList, CheckFault, Condition};
 use crate::fitted::Fitted;
@@ -72,7 +72,7 @@ fn are_not_late(tables: &Tables, label: usize, delay: u32) -> bool
 /// Whether the age is long enough for the oldest word that the label still copies, from whichever source.
 fn are_within(fitted: &Fitted<'_>, label: usize, age: u32) -> bool
     requires there { label < length fitted.now.tables.now.labels }
-    ensures { result ≡ list_all (λ s. nat_le ((label_row fitted.now.tables.now label).stale + source_delay fitted.now.tables.now (certificate_rows fitted.now.certificate.now) s) age) (label_row fitted.now.tables.now label).sources }
+    ensures { result ≡ are_within fitted.now.tables.now label age (certificate_rows fitted.now.certificate.now) }
 {
     fitted.tables.valid();
     let row = fitted.tables.label(label);
@@ -89,7 +89,7 @@ fn are_within(fitted: &Fitted<'_>, label: usize, age: u32) -> bool
 /// Whether the label's stale limit is long enough for each of its sources that keeps sending.
 fn stay_fresh(fitted: &Fitted<'_>, label: usize) -> bool
     requires there { label < length fitted.now.tables.now.labels }
-    ensures { result ≡ list_all (λ s. nat_le (source_delay fitted.now.tables.now (certificate_rows fitted.now.certificate.now) s + (stream_row fitted.now.tables.now s).maximum) (label_row fitted.now.tables.now label).stale) (label_row fitted.now.tables.now label).sources }
+    ensures { result ≡ stay_fresh fitted.now.tables.now label (certificate_rows fitted.now.certificate.now) }
 {
     fitted.tables.valid();
     let row = fitted.tables.label(label);

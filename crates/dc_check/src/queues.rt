@@ -2,8 +2,8 @@
 
 ghost use Rattle.std.specs.Prelude.{◌≡◌, ℕ, ◌+◌, ◌<◌, ◌≤◌, length, None};
 ghost use Rattle.dc_cert.specs.Bounds.{certificate_rows, input_bound, output_bound};
-ghost use Rattle.dc_check.specs.Verdict.{first_of, range_rules, input_rules, output_rules, input_backlog_failure, input_delay_failure, output_delay_failure, job_verdict};
-ghost use Rattle.dc_check.specs.declared.fault.CertificateList.TheVariants.{Inputs, Outputs};
+ghost use Rattle.dc_check.specs.Verdict.{first_of, input_ranges, output_ranges, input_rules, output_rules, job_verdict};
+ghost use Rattle.dc_check.specs.Verdict.{input_backlog_failure, input_delay_failure, output_delay_failure};
 ghost use Rattle.dc_tables.specs.TableRows.{bus_cap, bus_floor, output_cap, output_floor};
 
 use crate::fault::{CertificateList, CheckFault, Condition};
@@ -24,7 +24,7 @@ pub(crate) fn input_fault<A: ArrivalBound, S: ServiceBound>(
     overdue: Option<u32>,
 ) -> Option<CheckFault>
     requires there { bus < length fitted.now.tables.now.buses }
-    requires ranges { first_of (range_rules Inputs bus (input_bound (certificate_rows fitted.now.certificate.now) bus).window (input_bound (certificate_rows fitted.now.certificate.now) bus).delay) ≡ None }
+    requires ranges { input_ranges (certificate_rows fitted.now.certificate.now) bus ≡ None }
     requires arrivals { (d : ℕ) → A.cap arrivals.now d ≡ bus_cap fitted.now.tables.now bus d }
     requires service { (d : ℕ) → S.floor service.now d ≡ bus_floor fitted.now.tables.now bus d }
     requires overfull { overfull ≡ input_backlog_failure fitted.now.tables.now bus (input_bound (certificate_rows fitted.now.certificate.now) bus) }
@@ -63,7 +63,7 @@ pub(crate) fn output_fault<A: ArrivalBound, S: ServiceBound>(
     overdue: Option<u32>,
 ) -> Option<CheckFault>
     requires there { output < length fitted.now.tables.now.outputs }
-    requires ranges { first_of (range_rules Outputs output (output_bound (certificate_rows fitted.now.certificate.now) output).window (output_bound (certificate_rows fitted.now.certificate.now) output).delay) ≡ None }
+    requires ranges { output_ranges (certificate_rows fitted.now.certificate.now) output ≡ None }
     requires arrivals { (d : ℕ) → A.cap arrivals.now d ≡ output_cap fitted.now.tables.now output d }
     requires service { (d : ℕ) → S.floor service.now d ≡ output_floor fitted.now.tables.now output d }
     requires overdue { overdue ≡ output_delay_failure fitted.now.tables.now output (output_bound (certificate_rows fitted.now.certificate.now) output) }
