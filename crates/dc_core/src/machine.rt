@@ -132,7 +132,8 @@ impl State {
     /// The first actor, routers before outputs, that lacks steps for a Tick.
     fn lacking(&self, tables: &Tables) -> Option<Actor>
         requires sized { IsSized tables.now self.now }
-        ensures { MatchOption result (NoneLacks tables.now self.now.routers.items self.now.outputs.items) (λ a. FirstLacks tables.now self.now.routers.items self.now.outputs.items a) }
+        ensures { MatchOption result (NoneLacks tables.now self.now.routers.items self.now.outputs.items)
+            (λ a. FirstLacks tables.now self.now.routers.items self.now.outputs.items a) }
     {
         for r in 0..self.routers.len() {
             if self.routers[r].window.lacks(tables.router(r).steps) {
@@ -230,7 +231,8 @@ fn is_soon(gap: u64, tick: u64, last: Option<u64>) -> bool
 /// Ends the tick of each router.
 fn turn_routers(routers: &mut Vec<RouterState>)
     ensures len { length routers.new.items ≡ length routers.old.items }
-    ensures turned { EachIndex routers.old.items (λ k. slice_index_or routers.new.items k no_router ≡ router_turned (slice_index_or routers.old.items k no_router)) }
+    ensures turned { EachIndex routers.old.items (λ k. slice_index_or routers.new.items k no_router
+        ≡ router_turned (slice_index_or routers.old.items k no_router)) }
 {
     for i in 0..routers.len() {
         routers[i].turn();
@@ -240,7 +242,8 @@ fn turn_routers(routers: &mut Vec<RouterState>)
 /// Ends the tick of each output.
 fn turn_outputs(outputs: &mut Vec<OutputState>)
     ensures len { length outputs.new.items ≡ length outputs.old.items }
-    ensures turned { EachIndex outputs.old.items (λ k. slice_index_or outputs.new.items k no_output ≡ output_turned (slice_index_or outputs.old.items k no_output)) }
+    ensures turned { EachIndex outputs.old.items (λ k. slice_index_or outputs.new.items k no_output
+        ≡ output_turned (slice_index_or outputs.old.items k no_output)) }
 {
     for i in 0..outputs.len() {
         outputs[i].turn();
