@@ -1,5 +1,5 @@
 -- What is carried along the moves of a bus.
-use Rattle.std.specs.Prelude.{◌≡◌, ℕ, ◌+◌, ◌-◌, ◌<◌, ◌⊎◌, if◌then◌else◌, false, Option, Some, None, is_some, List, [], ◌∷◌, ◌++◌, length, slice_index_or}
+use Rattle.std.specs.Prelude.{◌≡◌, ℕ, ◌+◌, ◌-◌, ◌<◌, ◌≤◌, ◌⊎◌, if◌then◌else◌, false, Option, Some, None, is_some, MatchOption, List, [], ◌∷◌, ◌++◌, length, slice_index_or}
 use Rattle.dc_bound.specs.Moves.{Move, latch, entered, taken}
 use Rattle.dc_bound.specs.Moves.Move.{In}
 use Rattle.dc_event.specs.declared.event.Reply.{Reply}
@@ -27,6 +27,11 @@ queue_reply room ms x =
 pub record Received (room : ℕ) (new : BusData) (ms : List Move) (x : ℕ × ℕ) (r : Reply) : Type 0 where
   pub holds : IsLog room new (ms ++ In x ∷ [])
   pub answer : r ≡ queue_reply room ms x
+
+-- the word that is taken next, with the number of its stream; none where all are taken
+abbrev pub IsNextTaken : BusData → Option (ℕ × ℕ) → Type 0
+IsNextTaken log next =
+    MatchOption next (length log.words ≤ log.taken) (λ (x : ℕ × ℕ). (log.taken < length log.words) × (x ≡ slice_index_or log.words log.taken (0, 0)))
 
 -- the last word that was taken, as its number and the number of its stream
 abbrev pub IsLastTaken : BusData → Option (ℕ × ℕ) → Type 0

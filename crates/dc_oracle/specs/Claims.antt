@@ -1,20 +1,41 @@
 -- What is carried along a run of its claims, and what is said of one more event.
-use Rattle.std.specs.Prelude.{◌≡◌, ℕ, ◌<◌, Bool, true, false, Option, Some, None, List, [], ◌∷◌, ◌++◌, length, if◌then◌else◌, not, slice_index}
+use Rattle.std.specs.Prelude.{◌≡◌, ℕ, ◌<◌, Bool, true, false, Option, Some, None, List, [], ◌∷◌, ◌++◌, length, if◌then◌else◌, not, slice_index, MatchBool}
 use Rattle.dc_tables.specs.TableRows.{TableRows, label_row}
 use Rattle.dc_event.specs.Alive.{IsAlive, AreUsable}
 use Rattle.dc_event.specs.Breaks.{ClaimAt}
+use Rattle.dc_event.specs.Choice.{chosen_source}
 use Rattle.dc_event.specs.ClaimNumber.{claim_number}
 use Rattle.dc_event.specs.Claims.{Claims}
+use Rattle.dc_event.specs.Time.{tick_after}
 use Rattle.dc_event.specs.declared.event.Event.{Event}
 use Rattle.dc_event.specs.declared.event.Claim.{Claim}
 use Rattle.dc_event.specs.declared.event.Claim.TheVariants.{NoOverrun, DataAge, LiveSource, Interval}
 use Rattle.dc_event.specs.declared.event.Reply.{Reply}
 use Rattle.dc_event.specs.declared.event.Reply.TheVariants.{Queued, BadParity, Undeclared, TooEarly, Overrun, Latched, Took, Empty, Sent, Idle, Now}
+use Rattle.dc_oracle.specs.declared.arrivals.ArrivalWatch.{ArrivalWatch}
 use Rattle.dc_oracle.specs.declared.claim_watch.ClaimWatch.{ClaimWatch}
+use Rattle.dc_oracle.specs.declared.replies.ReplyWatch.{ReplyWatch}
 use Rattle.dc_oracle.specs.Replies.{IsSized as AreReplies, Holds}
 use Rattle.dc_oracle.specs.Police.{Polices}
 use Rattle.dc_oracle.specs.Arrivals.{IsSized as AreArrivals, Follows}
 use Rattle.dc_oracle.specs.Emissions.{IsSized as AreEmissions, Emits}
+
+-- the answer is whether the statement holds
+abbrev pub IsWhether : (holds : Type 0) → Bool → Type 0
+IsWhether holds answer = MatchBool answer holds (holds → ⊥)
+
+-- whatever the run that the replies and the arrivals stand for, the answer is whether the statement holds of it
+abbrev pub AnswersWhether : TableRows → ReplyWatch → ArrivalWatch → (holds : List Event → Type 0) → Bool → Type 0
+AnswersWhether t replies arrivals holds answer = (now : List Event) → Holds t replies now → Follows t arrivals now → IsWhether (holds now) answer
+
+-- whatever the run that the arrivals stand for, where this is its tick and the label's choice after it, the answer is whether the statement holds of it
+abbrev pub AnswersChoice : TableRows → ArrivalWatch → (label tick : ℕ) → Option (ℕ × ℕ) → (holds : List Event → Type 0) → Bool → Type 0
+AnswersChoice t arrivals label tick choice holds answer =
+    (now : List Event) → Follows t arrivals now → tick ≡ tick_after now → choice ≡ chosen_source t label now → IsWhether (holds now) answer
+
+-- whether the source is alive for the label, and its words are usable
+abbrev pub IsGood : TableRows → (label source : ℕ) → List Event → Bool → Type 0
+IsGood t x s now answer = MatchBool answer (IsAlive t x s now × AreUsable t x s now) (IsAlive t x s now → AreUsable t x s now → ⊥)
 
 -- whether some source of the label is alive, and its words are usable
 abbrev pub IsAnyGood : TableRows → ℕ → List Event → Bool → Type 0

@@ -38,9 +38,13 @@ pub record Replies (t : TableRows) (new : ReplyWatch) (run : List Event) (e : Ev
 abbrev pub fresh_now : TableRows → ReplyWatch → ℕ → ℕ → List (ℕ × ℕ)
 fresh_now t w x s = cond (slice_index_or w.buses.items (stream_row t s).bus no_log).latched [] (fresh_word (label_row t x).stale w.tick (slice_index_or w.latest.items s None))
 
--- the label's fresh sources by priority
+-- of these sources of the label the fresh ones, in their order
 unfoldable pub all_fresh : TableRows → ReplyWatch → ℕ → List ℕ → List (ℕ × ℕ)
 all_fresh t w x sources = flat_map (fresh_now t w x) sources
+
+-- the label's fresh sources by priority
+abbrev pub fresh_sources : TableRows → ReplyWatch → ℕ → List (ℕ × ℕ)
+fresh_sources t w x = all_fresh t w x (label_row t x).sources
 
 -- whether a word is asked for: each, or the usable ones alone
 abbrev pub is_wanted : Bool → TableRows → ℕ → ℕ → Bool

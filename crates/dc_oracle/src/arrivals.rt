@@ -48,7 +48,8 @@ fn taken_bus(reply: &Reply) -> Option<usize>
 /// The stream of an arrival on the bus, by the reply to it.
 fn arrival_of(tables: &Tables, bus: usize, word: Word, reply: &Reply) -> Option<usize>
     ensures there { IfSome result (λ s. s < length tables.now.streams) }
-    ensures arrives { (run : List Event) → bus < length tables.now.buses → reply.now ≡ reply_to tables.now run (Event.Arrive word bus) → Arrives tables.now run bus word result }
+    ensures arrives { (run : List Event) → bus < length tables.now.buses → reply.now ≡ reply_to tables.now run (Event.Arrive word bus)
+        → Arrives tables.now run bus word result }
 {
     if !is_arrival(reply) {
         return None;
@@ -127,7 +128,9 @@ impl ArrivalWatch {
         requires sized { IsSized tables.now self.old }
         requires early { tick < 2 ^ 64 - 1 }
         ensures sized { IsSized tables.now self.new }
-        ensures follows { (run : List Event) → Follows tables.now self.old run → tick ≡ tick_after run → bus < length tables.now.buses → reply.now ≡ reply_to tables.now run (Event.Arrive word bus) → OnOk result (Follows tables.now self.new (run ++ Event.Arrive word bus ∷ [])) }
+        ensures follows { (run : List Event) → Follows tables.now self.old run → tick ≡ tick_after run → bus < length tables.now.buses
+            → reply.now ≡ reply_to tables.now run (Event.Arrive word bus)
+            → OnOk result (Follows tables.now self.new (run ++ Event.Arrive word bus ∷ [])) }
     {
         tables.valid();
         queues_grow(tables);
@@ -148,7 +151,9 @@ impl ArrivalWatch {
         requires sized { IsSized tables.now self.old }
         requires replies { AreReplies tables.now replies.now }
         ensures sized { IsSized tables.now self.new }
-        ensures follows { (run : List Event) → Follows tables.now self.old run → Holds tables.now replies.now (run ++ Event.Route router ∷ []) → router < length tables.now.routers → reply.now ≡ reply_to tables.now run (Event.Route router) → Follows tables.now self.new (run ++ Event.Route router ∷ []) }
+        ensures follows { (run : List Event) → Follows tables.now self.old run → Holds tables.now replies.now (run ++ Event.Route router ∷ [])
+            → router < length tables.now.routers → reply.now ≡ reply_to tables.now run (Event.Route router)
+            → Follows tables.now self.new (run ++ Event.Route router ∷ []) }
     {
         tables.valid();
         queues_grow(tables);
@@ -177,7 +182,9 @@ impl ArrivalWatch {
         requires replies { AreReplies tables.now replies.now }
         requires early { tick < 2 ^ 64 - 1 }
         ensures sized { IsSized tables.now self.new }
-        ensures follows { (run : List Event) → Follows tables.now self.old run → tick ≡ tick_after run → Holds tables.now replies.now (run ++ event.now ∷ []) → IsNumbered tables.now event.now → reply.now ≡ reply_to tables.now run event.now → OnOk result (Follows tables.now self.new (run ++ event.now ∷ [])) }
+        ensures follows { (run : List Event) → Follows tables.now self.old run → tick ≡ tick_after run
+            → Holds tables.now replies.now (run ++ event.now ∷ []) → IsNumbered tables.now event.now → reply.now ≡ reply_to tables.now run event.now
+            → OnOk result (Follows tables.now self.new (run ++ event.now ∷ [])) }
     {
         queues_grow(tables);
         match *event {

@@ -1,9 +1,9 @@
 //! What entered the queue of one bus, and what left it.
 
-ghost use Rattle.std.specs.Prelude.{◌≡◌, ◌<◌, ◌≤◌, ℕ, List, [], ◌∷◌, ◌++◌, length, slice_index_or, IfOk, MatchOption};
+ghost use Rattle.std.specs.Prelude.{◌≡◌, ℕ, List, [], ◌∷◌, ◌++◌, IfOk};
 ghost use Rattle.dc_bound.specs.Moves.{Move};
 ghost use Rattle.dc_bound.specs.Moves.Move.{Visit};
-ghost use Rattle.dc_oracle.specs.BusLog.{IsLog, Received, IsLastTaken, no_log};
+ghost use Rattle.dc_oracle.specs.BusLog.{IsLog, Received, IsLastTaken, IsNextTaken, no_log};
 ghost use Rattle.dc_oracle.specs.Fresh.{AllMade};
 
 use dc_event::Reply;
@@ -69,7 +69,7 @@ impl BusLog {
     /// The queue is visited. The word that is taken, with the number of its stream.
     pub fn take(&mut self) -> Option<(usize, Word)>
         ensures visit { (room : ℕ) (ms : List Move) → IsLog room self.old ms → IsLog room self.new (ms ++ Visit ∷ []) }
-        ensures item { MatchOption result (length self.old.words ≤ self.old.taken) (λ x. (self.old.taken < length self.old.words) × (x ≡ slice_index_or self.old.words self.old.taken (0, 0))) }
+        ensures item { IsNextTaken self.old result }
     {
         if self.taken >= self.words.len() {
             return None;

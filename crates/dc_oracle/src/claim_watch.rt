@@ -86,7 +86,8 @@ impl ClaimWatch {
         ensures sized { IsSized tables.now self.new }
         ensures tick { self.new.replies.tick ≤ self.old.replies.tick + 1 }
         ensures police_tick { self.new.police.tick ≤ self.old.police.tick + 1 }
-        ensures seen { (run : List Event) → StandsFor tables.now self.old run → IsNumbered tables.now event.now → IfOk result (Seen tables.now (certificate_rows certificate.now).ages self.new run event.now) }
+        ensures seen { (run : List Event) → StandsFor tables.now self.old run → IsNumbered tables.now event.now
+            → IfOk result (Seen tables.now (certificate_rows certificate.now).ages self.new run event.now) }
     {
         let tick = self.replies.tick();
         let in_time = self.emissions.is_in_time(tables, tick);

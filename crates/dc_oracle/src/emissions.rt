@@ -1,11 +1,12 @@
 //! When labels were emitted.
 
-ghost use Rattle.std.specs.Prelude.{◌≡◌, ◌+◌, ◌-◌, ◌<◌, ◌≤◌, ◌^◌, ℕ, min, List, [], ◌∷◌, ◌++◌, length, slice_set, Some, None, IfOk, IfSome, MatchBool, slice_index_or};
+ghost use Rattle.std.specs.Prelude.{◌≡◌, ◌+◌, ◌-◌, ◌<◌, ◌≤◌, ◌^◌, ℕ, min, List, [], ◌∷◌, ◌++◌, length, slice_set, Some, None, IfOk, IfSome, slice_index_or};
 ghost use Rattle.dc_tables.specs.TableRows.{label_row};
 ghost use Rattle.dc_event.specs.Claims.{IsInTime, IsSpaced};
 ghost use Rattle.dc_event.specs.Emissions.{emission};
 ghost use Rattle.dc_event.specs.Time.{tick_after};
 ghost use Rattle.dc_event.specs.declared.event.Event.{Event};
+ghost use Rattle.dc_oracle.specs.Claims.{IsWhether};
 
 use crate::replies::all_of;
 use dc_tables::Tables;
@@ -60,7 +61,8 @@ impl EmissionWatch {
         requires sized { IsSized tables.now self.old }
         ensures sized { IsSized tables.now self.new }
         ensures emits { (run : List Event) → Emits tables.now self.old run → Emits tables.now self.new run }
-        ensures in_time { (run : List Event) (e : Event) → Emits tables.now self.old run → tick ≡ tick_after run → MatchBool result (IsInTime tables.now run e) (IsInTime tables.now run e → ⊥) }
+        ensures in_time { (run : List Event) (e : Event) → Emits tables.now self.old run → tick ≡ tick_after run
+            → IsWhether (IsInTime tables.now run e) result }
     {
         if tick <= self.limit {
             return true;
@@ -74,7 +76,8 @@ impl EmissionWatch {
         requires sized { IsSized tables.now self.now }
         requires early { tick < 2 ^ 64 - 1 }
         requires there { IfSome emitted (λ x. x < length tables.now.labels) }
-        ensures { (run : List Event) (e : Event) → Emits tables.now self.now run → tick ≡ tick_after run → emitted ≡ emission tables.now run e → MatchBool result (IsSpaced tables.now run e) (IsSpaced tables.now run e → ⊥) }
+        ensures { (run : List Event) (e : Event) → Emits tables.now self.now run → tick ≡ tick_after run → emitted ≡ emission tables.now run e
+            → IsWhether (IsSpaced tables.now run e) result }
     {
         let Some(label) = emitted else {
             return true;
@@ -91,7 +94,8 @@ impl EmissionWatch {
         requires sized { IsSized tables.now self.old }
         requires there { IfSome emitted (λ x. x < length tables.now.labels) }
         ensures sized { IsSized tables.now self.new }
-        ensures emits { (run : List Event) (e : Event) → Emits tables.now self.old run → tick ≡ tick_after run → emitted ≡ emission tables.now run e → Emits tables.now self.new (run ++ e ∷ []) }
+        ensures emits { (run : List Event) (e : Event) → Emits tables.now self.old run → tick ≡ tick_after run → emitted ≡ emission tables.now run e
+            → Emits tables.now self.new (run ++ e ∷ []) }
     {
         let _ = tables;
         if let Some(label) = emitted {

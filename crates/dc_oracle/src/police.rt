@@ -36,7 +36,8 @@ impl Police {
         requires sized { length self.old.paces.items ≡ length tables.now.streams }
         ensures sized { length self.new.paces.items ≡ length tables.now.streams }
         ensures tick { self.new.tick ≡ self.old.tick }
-        ensures judges { (run : List Event) → Polices tables.now self.old run → bus < length tables.now.buses → Judges tables.now self.new run (Event.Arrive word bus) result }
+        ensures judges { (run : List Event) → Polices tables.now self.old run → bus < length tables.now.buses
+            → Judges tables.now self.new run (Event.Arrive word bus) result }
     {
         tables.valid();
         if !word.is_odd() {
@@ -61,7 +62,8 @@ impl Police {
         requires early { self.old.tick < 2 ^ 64 - 1 }
         ensures sized { length self.new.paces.items ≡ length tables.now.streams }
         ensures tick { self.new.tick ≤ self.old.tick + 1 }
-        ensures judges { (run : List Event) → Polices tables.now self.old run → IsNumbered tables.now event.now → Judges tables.now self.new run event.now result }
+        ensures judges { (run : List Event) → Polices tables.now self.old run → IsNumbered tables.now event.now
+            → Judges tables.now self.new run event.now result }
     {
         match *event {
             Event::Arrive(word, bus) => self.arrive(tables, bus, word),

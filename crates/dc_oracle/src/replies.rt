@@ -1,7 +1,7 @@
 //! The reply to each event, from the run so far.
 
-ghost use Rattle.std.specs.Prelude.{◌≡◌, ℕ, ◌+◌, ◌-◌, ◌<◌, ◌≤◌, ◌^◌, min, List, [], length, filter, slice_set, Some, None, IfOk, IfSome, ◌∷◌, ◌++◌, false, slice_index_or};
-ghost use Rattle.dc_tables.specs.TableRows.{label_row};
+ghost use Rattle.std.specs.Prelude.{◌≡◌, ◌+◌, ◌-◌, ◌<◌, ◌≤◌, ◌^◌, ◌∷◌, ◌++◌, [], List, length, filter, slice_set, slice_index_or};
+ghost use Rattle.std.specs.Prelude.{Some, None, IfOk, IfSome, false, min};
 ghost use Rattle.dc_event.specs.Outputs.{due_tick, entry_label};
 ghost use Rattle.dc_event.specs.Choice.{head, choice, word_for};
 ghost use Rattle.dc_event.specs.Emissions.{emission};
@@ -80,7 +80,7 @@ fn note(latest: &mut Vec<Option<((usize, Word), u64)>>, stream: usize, word: Wor
 
 impl ReplyWatch {
     ghost use Rattle.dc_oracle.specs.BusLog.{no_log};
-    ghost use Rattle.dc_oracle.specs.Replies.{IsSized, Holds, Replies, fresh_now, all_fresh};
+    ghost use Rattle.dc_oracle.specs.Replies.{IsSized, Holds, Replies, fresh_now, fresh_sources};
     ghost use Rattle.dc_oracle.specs.Police.{is_refused};
     ghost use Rattle.dc_event.specs.declared.event.Event.{Event};
 
@@ -105,7 +105,8 @@ impl ReplyWatch {
         requires sized { IsSized tables.now self.old }
         ensures sized { IsSized tables.now self.new }
         ensures tick { self.new.tick ≡ self.old.tick }
-        ensures reply { (run : List Event) → Holds tables.now self.old run → bus < length tables.now.buses → is_refused tables.now run (Event.Arrive word bus) ≡ false → IfOk result (Replies tables.now self.new run (Event.Arrive word bus)) }
+        ensures reply { (run : List Event) → Holds tables.now self.old run → bus < length tables.now.buses
+            → is_refused tables.now run (Event.Arrive word bus) ≡ false → IfOk result (Replies tables.now self.new run (Event.Arrive word bus)) }
     {
         if !word.is_odd() {
             return Ok(Reply::BadParity);
@@ -125,7 +126,8 @@ impl ReplyWatch {
         requires sized { IsSized tables.now self.old }
         ensures sized { IsSized tables.now self.new }
         ensures tick { self.new.tick ≡ self.old.tick }
-        ensures reply { (run : List Event) → Holds tables.now self.old run → router < length tables.now.routers → Replies tables.now self.new run (Event.Route router) result }
+        ensures reply { (run : List Event) → Holds tables.now self.old run → router < length tables.now.routers
+            → Replies tables.now self.new run (Event.Route router) result }
     {
         tables.valid();
         if router >= self.cursors.len() {
@@ -163,7 +165,7 @@ impl ReplyWatch {
     fn first_fresh(&self, tables: &Tables, label: usize, usable: bool) -> Option<(usize, Word)>
         requires sized { IsSized tables.now self.now }
         requires label { label < length tables.now.labels }
-        ensures { result ≡ head (filter (λ c. is_wanted usable tables.now label c.1) (all_fresh tables.now self.now label (label_row tables.now label).sources)) }
+        ensures { result ≡ head (filter (λ c. is_wanted usable tables.now label c.1) (fresh_sources tables.now self.now label)) }
     {
         tables.valid();
         let row = tables.label(label);
@@ -181,7 +183,7 @@ impl ReplyWatch {
     pub fn choice(&self, tables: &Tables, label: usize) -> Option<(usize, Word)>
         requires sized { IsSized tables.now self.now }
         requires label { label < length tables.now.labels }
-        ensures { result ≡ choice tables.now label (all_fresh tables.now self.now label (label_row tables.now label).sources) }
+        ensures { result ≡ choice tables.now label (fresh_sources tables.now self.now label) }
     {
         let usable = self.first_fresh(tables, label, true);
         if usable.is_some() {
@@ -194,7 +196,7 @@ impl ReplyWatch {
     fn chosen(&self, tables: &Tables, label: usize) -> Word
         requires sized { IsSized tables.now self.now }
         requires label { label < length tables.now.labels }
-        ensures { result ≡ word_for tables.now label (choice tables.now label (all_fresh tables.now self.now label (label_row tables.now label).sources)) }
+        ensures { result ≡ word_for tables.now label (choice tables.now label (fresh_sources tables.now self.now label)) }
     {
         word_for(tables, label, self.choice(tables, label))
     }
@@ -232,7 +234,8 @@ impl ReplyWatch {
         requires sized { IsSized tables.now self.now }
         requires early { self.now.tick < 2 ^ 64 - 1 }
         ensures there { IfSome result (λ x. x < length tables.now.labels) }
-        ensures emission { (run : List Event) → Holds tables.now self.now run → output < length tables.now.outputs → result ≡ emission tables.now run (Event.Send output) }
+        ensures emission { (run : List Event) → Holds tables.now self.now run → output < length tables.now.outputs
+            → result ≡ emission tables.now run (Event.Send output) }
     {
         tables.valid();
         if output >= self.sent.len() {
@@ -252,7 +255,8 @@ impl ReplyWatch {
         requires early { self.old.tick < 2 ^ 64 - 1 }
         ensures sized { IsSized tables.now self.new }
         ensures tick { self.new.tick ≡ self.old.tick }
-        ensures reply { (run : List Event) → Holds tables.now self.old run → output < length tables.now.outputs → Replies tables.now self.new run (Event.Send output) result }
+        ensures reply { (run : List Event) → Holds tables.now self.old run → output < length tables.now.outputs
+            → Replies tables.now self.new run (Event.Send output) result }
     {
         tables.valid();
         if output >= self.sent.len() {
@@ -286,7 +290,8 @@ impl ReplyWatch {
         requires early { self.old.tick < 2 ^ 64 - 1 }
         ensures sized { IsSized tables.now self.new }
         ensures tick { self.new.tick ≤ self.old.tick + 1 }
-        ensures reply { (run : List Event) → Holds tables.now self.old run → IsNumbered tables.now event → is_refused tables.now run event ≡ false → IfOk result (Replies tables.now self.new run event) }
+        ensures reply { (run : List Event) → Holds tables.now self.old run → IsNumbered tables.now event → is_refused tables.now run event ≡ false
+            → IfOk result (Replies tables.now self.new run event) }
     {
         match event {
             Event::Arrive(word, bus) => self.arrive(tables, bus, word),
@@ -323,8 +328,10 @@ pub fn answer(
     ensures paces { length police.new.paces.items ≡ length tables.now.streams }
     ensures tick { watch.new.tick ≤ watch.old.tick + 1 }
     ensures police_tick { police.new.tick ≤ police.old.tick + 1 }
-    ensures reply { (run : List Event) → Holds tables.now watch.old run → Polices tables.now police.old run → IsNumbered tables.now event.now → IfOk result (Replies tables.now watch.new run event.now) }
-    ensures judges { (run : List Event) → Polices tables.now police.old run → IsNumbered tables.now event.now → Polices tables.now police.new (run ++ event.now ∷ []) }
+    ensures reply { (run : List Event) → Holds tables.now watch.old run → Polices tables.now police.old run → IsNumbered tables.now event.now
+        → IfOk result (Replies tables.now watch.new run event.now) }
+    ensures judges { (run : List Event) → Polices tables.now police.old run → IsNumbered tables.now event.now
+        → Polices tables.now police.new (run ++ event.now ∷ []) }
 {
     if police.refuses(tables, event) {
         return Ok(Reply::TooEarly);

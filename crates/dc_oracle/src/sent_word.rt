@@ -1,16 +1,14 @@
 //! What the claims say of a word that leaves: how old it is, and which sources it uses.
 
-ghost use Rattle.std.specs.Prelude.{◌≡◌, ◌<◌, List, length, IfSome, MatchBool, slice_index};
+ghost use Rattle.std.specs.Prelude.{◌≡◌, ◌<◌, List, length, IfSome, slice_index};
 ghost use Rattle.dc_cert.specs.Bounds.{certificate_rows};
 ghost use Rattle.dc_tables.specs.TableRows.{label_row};
-ghost use Rattle.dc_event.specs.Alive.{IsAlive, AreUsable};
-ghost use Rattle.dc_event.specs.Choice.{chosen_source};
 ghost use Rattle.dc_event.specs.Claims.{IsYoung, UsesFirst, UsesAny};
 ghost use Rattle.dc_event.specs.Time.{tick_after};
 ghost use Rattle.dc_event.specs.declared.event.Event.{Event};
 ghost use Rattle.dc_oracle.specs.Arrivals.{IsSized as AreArrivals, Follows};
-ghost use Rattle.dc_oracle.specs.Replies.{IsSized as AreReplies, Holds};
-ghost use Rattle.dc_oracle.specs.Claims.{IsAnyGood};
+ghost use Rattle.dc_oracle.specs.Replies.{IsSized as AreReplies};
+ghost use Rattle.dc_oracle.specs.Claims.{AnswersChoice, AnswersWhether, IsAnyGood, IsGood};
 
 use crate::arrivals::ArrivalWatch;
 use crate::replies::{ReplyWatch, word_for};
@@ -39,7 +37,7 @@ fn is_young(
     requires replies { AreReplies tables.now replies.now }
     requires arrivals { AreArrivals tables.now arrivals.now }
     requires label { label < length tables.now.labels }
-    ensures { (now : List Event) → Holds tables.now replies.now now → Follows tables.now arrivals.now now → MatchBool result (IsYoung tables.now label age now) (IsYoung tables.now label age now → ⊥) }
+    ensures { AnswersWhether tables.now replies.now arrivals.now (IsYoung tables.now label age) result }
 {
     tables.valid();
     let Some((stream, word)) = replies.choice(tables, label) else {
@@ -61,7 +59,7 @@ fn is_good(arrivals: &ArrivalWatch, tables: &Tables, label: usize, source: usize
     requires arrivals { AreArrivals tables.now arrivals.now }
     requires label { label < length tables.now.labels }
     requires source { source < length tables.now.streams }
-    ensures { (now : List Event) → Follows tables.now arrivals.now now → tick ≡ tick_after now → MatchBool result (IsAlive tables.now label source now × AreUsable tables.now label source now) (IsAlive tables.now label source now → AreUsable tables.now label source now → ⊥) }
+    ensures { (now : List Event) → Follows tables.now arrivals.now now → tick ≡ tick_after now → IsGood tables.now label source now result }
 {
     tables.valid();
     let row = tables.label(label);
@@ -80,7 +78,7 @@ fn uses_first(
 ) -> bool
     requires arrivals { AreArrivals tables.now arrivals.now }
     requires label { label < length tables.now.labels }
-    ensures { (now : List Event) → Follows tables.now arrivals.now now → tick ≡ tick_after now → choice.now ≡ chosen_source tables.now label now → MatchBool result (UsesFirst tables.now label now) (UsesFirst tables.now label now → ⊥) }
+    ensures { AnswersChoice tables.now arrivals.now label tick choice.now (UsesFirst tables.now label) result }
 {
     tables.valid();
     let row = tables.label(label);
@@ -121,7 +119,7 @@ fn uses_any(
 ) -> bool
     requires arrivals { AreArrivals tables.now arrivals.now }
     requires label { label < length tables.now.labels }
-    ensures { (now : List Event) → Follows tables.now arrivals.now now → tick ≡ tick_after now → choice.now ≡ chosen_source tables.now label now → MatchBool result (UsesAny tables.now label now) (UsesAny tables.now label now → ⊥) }
+    ensures { AnswersChoice tables.now arrivals.now label tick choice.now (UsesAny tables.now label) result }
 {
     let format = tables.label(label).format;
     if word_for(tables, label, *choice).usable(format) {
@@ -141,7 +139,8 @@ pub fn is_sent_young(
     requires replies { AreReplies tables.now replies.now }
     requires arrivals { AreArrivals tables.now arrivals.now }
     requires there { IfSome emitted (λ x. x < length tables.now.labels) }
-    ensures { (now : List Event) → Holds tables.now replies.now now → Follows tables.now arrivals.now now → MatchBool result (IfSome emitted (λ x. IsYoung tables.now x (slice_index (certificate_rows certificate.now).ages x) now)) (IfSome emitted (λ x. IsYoung tables.now x (slice_index (certificate_rows certificate.now).ages x) now) → ⊥) }
+    ensures { AnswersWhether tables.now replies.now arrivals.now
+        (λ now. IfSome emitted (λ x. IsYoung tables.now x (slice_index (certificate_rows certificate.now).ages x) now)) result }
 {
     match emitted {
         Some(label) => is_young(replies, arrivals, tables, label, age_of(certificate, label)),
@@ -159,7 +158,8 @@ pub fn is_sent_live(
     requires replies { AreReplies tables.now replies.now }
     requires arrivals { AreArrivals tables.now arrivals.now }
     requires there { IfSome emitted (λ x. x < length tables.now.labels) }
-    ensures { (now : List Event) → Holds tables.now replies.now now → Follows tables.now arrivals.now now → MatchBool result (IfSome emitted (λ x. UsesFirst tables.now x now × UsesAny tables.now x now)) (IfSome emitted (λ x. UsesFirst tables.now x now × UsesAny tables.now x now) → ⊥) }
+    ensures { AnswersWhether tables.now replies.now arrivals.now
+        (λ now. IfSome emitted (λ x. UsesFirst tables.now x now × UsesAny tables.now x now)) result }
 {
     tables.valid();
     let Some(label) = emitted else {
