@@ -1,14 +1,17 @@
 -- Which receipts an actor's entries call for, and where receipts differ from them.
 use Rattle.std.specs.Prelude.{◌≡◌, ◌≢◌, ℕ, ◌+◌, ◌-◌, ◌<◌, ◌==◌, Bool, true, false, cond, if◌then◌else◌, nat_lt, Option, Some, None, List, [], ◌∷◌, ◌++◌, map, take, length, slice_get}
+use Rattle.dc_check.specs.Lent.{tables_of}
+use Rattle.dc_check.specs.declared.certified.Certified.{Certified}
 use Rattle.dc_event.specs.declared.event.Actor.{Actor}
 use Rattle.dc_event.specs.declared.event.Actor.TheVariants.{Wire, Router, Output, Clock}
 use Rattle.dc_event.specs.declared.event.Event.{Event}
 use Rattle.dc_event.specs.declared.event.Event.TheVariants.{Tick, Arrive, Route, Send}
-use Rattle.dc_hub.specs.Views.{SeatView, WireView}
+use Rattle.dc_hub.specs.Views.{BookView, SeatView, WireView, IsBookOf, parts_in, receipts_in}
 use Rattle.dc_hub.specs.declared.entry.Entry.{Entry}
 use Rattle.dc_hub.specs.declared.entry.Receipt.{Receipt}
 use Rattle.dc_hub.specs.declared.fault.CloseFault.{CloseFault}
 use Rattle.dc_hub.specs.declared.fault.CloseFault.TheVariants.{SeatMissing, Mismatch}
+use Rattle.dc_hub.specs.declared.seats.Seats.{Seats}
 use Rattle.dc_tables.specs.TableRows.{TableRows}
 
 -- whether the actor makes the step
@@ -69,6 +72,10 @@ clock_seats (Some s) = s ∷ []
 abbrev pub all_seats : List WireView → List SeatView → List SeatView → Option SeatView → List SeatView
 all_seats wires routers outputs clock = map (λ (w : WireView). w.seat) wires ++ (routers ++ (outputs ++ clock_seats clock))
 
+-- all seats of a hub in that order
+abbrev pub seats_in : {L : Type 0} → Seats L → List SeatView
+seats_in seats = all_seats seats.wires.items seats.routers.items seats.outputs.items seats.clock
+
 -- the actor at this place in that order
 abbrev pub actor_at : TableRows → ℕ → Actor
 actor_at t p =
@@ -89,6 +96,14 @@ AreOneEach t seats = (length seats ≡ actor_count t) × ((p : ℕ) (s : SeatVie
 abbrev pub AllAgree : List Entry → List SeatView → Type 0
 AllAgree es seats = (p : ℕ) (s : SeatView) → slice_get seats p ≡ Some s → Agrees es s
 
+-- the seats are one for each actor of the certified tables, and their receipts are the entries
+abbrev pub ClosesOver : Certified → List Entry → List SeatView → Type 0
+ClosesOver certified es seats = AreOneEach (tables_of certified) seats × AllAgree es seats
+
+-- the seats are one for each actor of the tables, have all of so many parts of the count, and were answered nothing
+abbrev pub AreUnanswered : TableRows → (parts : ℕ) → List SeatView → Type 0
+AreUnanswered t parts seats = AreOneEach t seats × (parts_in seats ≡ parts) × (receipts_in seats ≡ 0)
+
 -- the first seat whose receipts are not its actor's entries has this index first
 pub record FirstDiffers (es : List Entry) (seats : List SeatView) (index : ℕ) : Type 0 where
   pub place : ℕ
@@ -101,3 +116,8 @@ pub record FirstDiffers (es : List Entry) (seats : List SeatView) (index : ℕ) 
 abbrev pub IsCloseFault : TableRows → List Entry → List SeatView → CloseFault → Type 0
 IsCloseFault t es seats SeatMissing = ¬ AreOneEach t seats
 IsCloseFault t es seats (Mismatch index) = AreOneEach t seats × FirstDiffers es seats index
+
+-- a book of the hub does not close over the seats, for this cause; where they are one for each actor, it has as many entries as they have receipts
+abbrev pub DoesNotClose : Option Certified → ℕ → List SeatView → CloseFault → Type 0
+DoesNotClose certified limit seats fault =
+    (book : BookView) × IsBookOf certified limit book × (AreOneEach (tables_of book.certified) seats → length book.entries ≡ receipts_in seats) × IsCloseFault (tables_of book.certified) book.entries seats fault

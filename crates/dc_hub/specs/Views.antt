@@ -11,7 +11,8 @@ use Rattle.dc_core.specs.declared.fault.StepFault.{StepFault}
 use Rattle.dc_event.specs.declared.event.Actor.{Actor}
 use Rattle.dc_event.specs.declared.event.Actor.TheVariants.{Wire, Router, Output, Clock}
 use Rattle.dc_event.specs.declared.event.Event.{Event}
-use Rattle.dc_hub.specs.Entries.{backlog_of, entry, events, IsLegal}
+use Rattle.dc_event.specs.declared.event.Event.TheVariants.{Arrive}
+use Rattle.dc_hub.specs.Entries.{actor_of, backlog_of, entry, events, IsLegal}
 use Rattle.dc_hub.specs.declared.entry.Entry.{Entry}
 use Rattle.dc_hub.specs.declared.entry.Receipt.{Receipt}
 use Rattle.dc_hub.specs.declared.fault.HubFault.{HubFault}
@@ -32,6 +33,11 @@ pub record IsBookOf (certified : Option Certified) (limit : ℕ) (book : BookVie
   pub limit_is : limit ≡ book.limit
   pub legal : IsLegal (tables_of book.certified) book.entries
   pub fits : length book.entries ≤ book.limit
+
+-- the book is not full, and the event may not follow its run, for this cause
+abbrev pub DoesNotTake : BookView → Event → StepFault → Type 0
+DoesNotTake book event fault =
+    (length book.entries < book.limit) × (¬ MayFollow (tables_of book.certified) (events book.entries) event) × IsFault (tables_of book.certified) (events book.entries) event fault
 
 -- the receipt is of the last entry of a book of the hub, which has at least so many entries
 pub record IsOfLast (certified : Option Certified) (limit calls : ℕ) (r : Receipt) : Type 0 where
@@ -75,6 +81,14 @@ pub record SeatView : Type 0 where
   pub actor : Actor
   pub receipts : List Receipt
   pub parts : ℕ
+
+-- a call of the seat's actor is refused so
+abbrev pub IsRefusedCall : Option Certified → ℕ → SeatView → HubFault → Type 0
+IsRefusedCall certified limit seat fault = (event : Event) × (actor_of event ≡ seat.actor) × IsRefusal certified limit (length seat.receipts) event fault
+
+-- the word of the wire whose seat it is, is refused so
+abbrev pub IsRefusedWord : Option Certified → (limit word : ℕ) → SeatView → HubFault → Type 0
+IsRefusedWord certified limit word seat fault = (bus : ℕ) × (seat.actor ≡ Wire bus) × IsRefusal certified limit (length seat.receipts) (Arrive word bus) fault
 
 -- they are the hub's tables
 abbrev pub AreTablesOf : Option Certified → TableRows → Type 0

@@ -2,12 +2,11 @@
 
 ghost use Rattle.std.specs.Prelude.{◌≡◌, ◌≢◌, ℕ, ◌+◌, ◌<◌, ◌≤◌, ◌++◌, ◌∷◌, [], List, IfOk, OnErr, Err, MatchResult, Some, length};
 ghost use Rattle.dc_check.specs.Lent.{tables_of};
-ghost use Rattle.dc_core.specs.Standing.{MayFollow, IsFault};
 ghost use Rattle.dc_core.specs.Steps.{IsSized, StandsFor, StepsTo};
 ghost use Rattle.dc_event.specs.declared.event.Event.{Event};
 ghost use Rattle.dc_core.specs.declared.fault.StepFault.{StepFault};
 ghost use Rattle.dc_hub.specs.Entries.{actor_of, backlog_of, entry, events, IsLegal};
-ghost use Rattle.dc_hub.specs.Views.{BookView, IsBookOf, others};
+ghost use Rattle.dc_hub.specs.Views.{BookView, DoesNotTake, IsBookOf, others};
 ghost use Rattle.dc_hub.specs.declared.fault.HubFault.TheVariants.{Step, TraceFull, Astray};
 ghost use Rattle.dc_hub.specs.declared.limits.TheConstants.{GREATEST_BACKLOG};
 
@@ -44,7 +43,11 @@ impl<L: Charter> Model for Book<L> {
 
     ghost view = { λ b. record { certified = b.certified; limit = b.limit; entries = b.entries.items } };
 
-    ghost invariant = { λ b. IsLegal (tables_of b.certified) b.entries.items × IsSized (tables_of b.certified) b.state × StandsFor (tables_of b.certified) b.state (events b.entries.items) × (b.count.total ≡ length b.entries.items) × (length b.entries.items ≤ b.limit) × (L.certified ≡ Some b.certified) × (L.limit ≡ b.limit) × (others L.certified < L.whole) × (b.none.parts ≡ 0) × (b.none.amount ≡ 0) };
+    ghost invariant = { λ b. IsLegal (tables_of b.certified) b.entries.items
+        × IsSized (tables_of b.certified) b.state × StandsFor (tables_of b.certified) b.state (events b.entries.items)
+        × (b.count.total ≡ length b.entries.items) × (length b.entries.items ≤ b.limit)
+        × (L.certified ≡ Some b.certified) × (L.limit ≡ b.limit) × (others L.certified < L.whole)
+        × (b.none.parts ≡ 0) × (b.none.amount ≡ 0) };
 }
 
 impl<L: Charter> Book<L> {
@@ -113,13 +116,15 @@ impl<L: Charter> Book<L> {
     /// `Memory`. Book and seat are unchanged then.
     pub fn act(&mut self, seat: &mut Seat<L>, event: Event) -> Result<Receipt, HubFault>
         requires { actor_of event ≡ seat.old.actor }
-        ensures entry { IfOk result (λ r. (self.new.entries ≡ self.old.entries ++ entry event r.reply ∷ []) × (r.index ≡ length self.new.entries) × (r.event ≡ event)) }
+        ensures entry { IfOk result (λ r. (self.new.entries ≡ self.old.entries ++ entry event r.reply ∷ [])
+            × (r.index ≡ length self.new.entries) × (r.event ≡ event)) }
         ensures receipt { IfOk result (λ r. seat.new.receipts ≡ seat.old.receipts ++ r ∷ []) }
         ensures book { OnErr result (self.new ≡ self.old) }
         ensures seat { OnErr result (seat.new ≡ seat.old) }
-        ensures kept { (self.new.certified ≡ self.old.certified) × (self.new.limit ≡ self.old.limit) × (seat.new.actor ≡ seat.old.actor) × (seat.new.parts ≡ seat.old.parts) }
+        ensures kept { (self.new.certified ≡ self.old.certified) × (self.new.limit ≡ self.old.limit)
+            × (seat.new.actor ≡ seat.old.actor) × (seat.new.parts ≡ seat.old.parts) }
         ensures full { result ≡ Err TraceFull → self.old.limit ≤ length self.old.entries }
-        ensures step { (f : StepFault) → result ≡ Err (Step f) → (length self.old.entries < self.old.limit) × (¬ MayFollow (tables_of self.old.certified) (events self.old.entries) event) × IsFault (tables_of self.old.certified) (events self.old.entries) event f }
+        ensures step { (f : StepFault) → result ≡ Err (Step f) → DoesNotTake self.old event f }
         ensures legal { IsLegal (tables_of self.new.certified) self.new.entries }
         ensures backlog { IfOk result (λ r. backlog_of r.reply ≤ GREATEST_BACKLOG) }
         ensures astray { result ≢ Err Astray }

@@ -89,7 +89,8 @@ fn overruns_of(entry: &Entry) -> u64
 
 /// Raises the mark of the bus to the backlog that its wire was answered.
 fn raise(marks: &mut [u64; MOST_WORDS], entry: &Entry)
-    ensures { (bus : ℕ) → bus < MOST_WORDS → slice_index marks.new bus ≡ (if is_by (Wire bus) entry.now.event then max (slice_index marks.old bus) (backlog_of entry.now.reply) else slice_index marks.old bus) }
+    ensures { (bus : ℕ) → bus < MOST_WORDS → slice_index marks.new bus
+        ≡ (if is_by (Wire bus) entry.now.event then max (slice_index marks.old bus) (backlog_of entry.now.reply) else slice_index marks.old bus) }
 {
     let Event::Arrive(_, bus) = entry.event else {
         return;

@@ -3,7 +3,8 @@
 ghost use Rattle.std.specs.Prelude.{◌≡◌, ◌+◌, ◌<◌, ◌≤◌, true, false, None, Some, MatchOption, IfOk, IfErr, length, slice_get};
 ghost use Rattle.std.specs.List.{sum_by};
 ghost use Rattle.dc_check.specs.Lent.{tables_of};
-ghost use Rattle.dc_hub.specs.Closing.{is_by, receipts_of, DifferAt, all_seats, clock_seats, actor_at, actor_count, AreOneEach, AllAgree, FirstDiffers, IsCloseFault};
+ghost use Rattle.dc_hub.specs.Closing.{is_by, receipts_of, DifferAt, clock_seats, seats_in, actor_at, actor_count};
+ghost use Rattle.dc_hub.specs.Closing.{AreOneEach, AllAgree, ClosesOver, FirstDiffers, IsCloseFault};
 ghost use Rattle.dc_hub.specs.Views.{WireView, parts_for, parts_needed, receipts_in};
 ghost use Rattle.dc_hub.specs.declared.limits.TheConstants.{MOST_ACTORS};
 
@@ -90,7 +91,7 @@ fn actors(tables: &Tables) -> usize
 impl<L: Charter> Seats<L> {
     /// The seat at this place: wires, routers, outputs, clock.
     fn at(&self, place: usize) -> Option<&Seat<L>>
-        ensures { MatchOption result (slice_get (all_seats self.now.wires.items self.now.routers.items self.now.outputs.items self.now.clock) place ≡ None) (λ s. slice_get (all_seats self.now.wires.items self.now.routers.items self.now.outputs.items self.now.clock) place ≡ Some s.now) }
+        ensures { MatchOption result (slice_get (seats_in self.now) place ≡ None) (λ s. slice_get (seats_in self.now) place ≡ Some s.now) }
     {
         if place < self.wires.len() {
             return Some(&self.wires[place].seat);
@@ -115,8 +116,8 @@ impl<L: Charter> Seats<L> {
 
 /// Whether the seats are one for each actor, in order.
 fn are_one_each<L: Charter>(seats: &Seats<L>, tables: &Tables) -> bool
-    ensures yes { result ≡ true → AreOneEach tables.now (all_seats seats.now.wires.items seats.now.routers.items seats.now.outputs.items seats.now.clock) }
-    ensures no { result ≡ false → ¬ AreOneEach tables.now (all_seats seats.now.wires.items seats.now.routers.items seats.now.outputs.items seats.now.clock) }
+    ensures yes { result ≡ true → AreOneEach tables.now (seats_in seats.now) }
+    ensures no { result ≡ false → ¬ AreOneEach tables.now (seats_in seats.now) }
 {
     let count = actors(tables);
     for place in 0..count {
@@ -132,8 +133,8 @@ fn are_one_each<L: Charter>(seats: &Seats<L>, tables: &Tables) -> bool
 
 /// The index at which the first seat differs whose receipts are not its actor's entries.
 fn first_mismatch<L: Charter>(seats: &Seats<L>, count: usize, entries: &[Entry]) -> Option<u64>
-    requires { length (all_seats seats.now.wires.items seats.now.routers.items seats.now.outputs.items seats.now.clock) ≡ count }
-    ensures { MatchOption result (AllAgree entries.now (all_seats seats.now.wires.items seats.now.routers.items seats.now.outputs.items seats.now.clock)) (λ index. FirstDiffers entries.now (all_seats seats.now.wires.items seats.now.routers.items seats.now.outputs.items seats.now.clock) index) }
+    requires { length (seats_in seats.now) ≡ count }
+    ensures { MatchOption result (AllAgree entries.now (seats_in seats.now)) (λ index. FirstDiffers entries.now (seats_in seats.now) index) }
 {
     for place in 0..count {
         let Some(seat) = seats.at(place) else {
@@ -152,7 +153,8 @@ fn close_fault<L: Charter>(
     entries: &[Entry],
     seats: &Seats<L>,
 ) -> Option<CloseFault>
-    ensures { MatchOption result (AreOneEach (tables_of certified.now) (all_seats seats.now.wires.items seats.now.routers.items seats.now.outputs.items seats.now.clock) × AllAgree entries.now (all_seats seats.now.wires.items seats.now.routers.items seats.now.outputs.items seats.now.clock)) (λ fault. IsCloseFault (tables_of certified.now) entries.now (all_seats seats.now.wires.items seats.now.routers.items seats.now.outputs.items seats.now.clock) fault) }
+    ensures { MatchOption result (ClosesOver certified.now entries.now (seats_in seats.now))
+        (IsCloseFault (tables_of certified.now) entries.now (seats_in seats.now)) }
 {
     let tables = certified.tables();
     if !are_one_each(seats, tables) {
@@ -233,9 +235,9 @@ impl<L: Charter> Book<L> {
     /// not its actor's entries.
     pub fn close(self, seats: Seats<L>) -> Result<Closed, CloseFault>
         ensures same { IfOk result (λ c. (c.certified ≡ self.certified) × (c.entries ≡ self.entries)) }
-        ensures ok { IfOk result (λ c. AreOneEach (tables_of c.certified) (all_seats seats.wires.items seats.routers.items seats.outputs.items seats.clock) × AllAgree c.entries (all_seats seats.wires.items seats.routers.items seats.outputs.items seats.clock)) }
-        ensures err { IfErr result (λ fault. IsCloseFault (tables_of self.certified) self.entries (all_seats seats.wires.items seats.routers.items seats.outputs.items seats.clock) fault) }
-        ensures as_many { AreOneEach (tables_of self.certified) (all_seats seats.wires.items seats.routers.items seats.outputs.items seats.clock) → length self.entries ≡ receipts_in (all_seats seats.wires.items seats.routers.items seats.outputs.items seats.clock) }
+        ensures ok { IfOk result (λ c. ClosesOver c.certified c.entries (seats_in seats)) }
+        ensures err { IfErr result (λ fault. IsCloseFault (tables_of self.certified) self.entries (seats_in seats) fault) }
+        ensures as_many { AreOneEach (tables_of self.certified) (seats_in seats) → length self.entries ≡ receipts_in (seats_in seats) }
     {
         let fault = close_fault(&self.certified, &self.entries, &seats);
         let book = self.counted(seats);
@@ -248,7 +250,7 @@ impl<L: Charter> Book<L> {
     /// Where the seats are one for each actor, there are as many entries as receipts: their shares are the whole count.
     fn counted(self, seats: Seats<L>) -> Book<L>
         ensures same { result ≡ self }
-        ensures as_many { AreOneEach (tables_of self.certified) (all_seats seats.wires.items seats.routers.items seats.outputs.items seats.clock) → length self.entries ≡ receipts_in (all_seats seats.wires.items seats.routers.items seats.outputs.items seats.clock) }
+        ensures as_many { AreOneEach (tables_of self.certified) (seats_in seats) → length self.entries ≡ receipts_in (seats_in seats) }
     {
         let mut book = self;
         let Seats {

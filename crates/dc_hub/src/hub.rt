@@ -1,16 +1,16 @@
 //! The book under its lock, and the board beside it.
 
-ghost use Rattle.std.specs.Prelude.{◌≡◌, ◌≢◌, ℕ, ◌+◌, ◌<◌, ◌≤◌, ◌++◌, ◌∷◌, [], List, IfOk, IfErr, OnErr, OnOk, Err, Some, IsSome, IfSome, length, slice_index, slice_set, max};
+ghost use Rattle.std.specs.Prelude.{◌≡◌, ℕ, ◌+◌, ◌<◌, ◌≤◌, ◌++◌, ◌∷◌, [], List, IfOk, IfErr, OnErr, Err, Some, length, slice_index, slice_set};
 ghost use Rattle.atomic_table.specs.Seated.{TableId};
 ghost use Rattle.dc_board.specs.Marks.{IsSeatOf, raised, fresh, stepped_once};
 ghost use Rattle.dc_check.specs.Lent.{tables_of};
 ghost use Rattle.dc_event.specs.declared.event.Actor.TheVariants.{Wire, Router, Output, Clock};
-ghost use Rattle.dc_event.specs.declared.event.Event.{Event};
 ghost use Rattle.dc_event.specs.declared.event.Event.TheVariants.{Tick, Arrive, Route, Send};
-ghost use Rattle.dc_hub.specs.Closing.{all_seats, AreOneEach, AllAgree, IsCloseFault};
-ghost use Rattle.dc_hub.specs.Entries.{actor_of, backlog_of, IsLegal};
+ghost use Rattle.dc_hub.specs.Closing.{seats_in, AreUnanswered, ClosesOver, DoesNotClose};
+ghost use Rattle.dc_hub.specs.Entries.{actor_of, backlog_of};
 ghost use Rattle.dc_hub.specs.Opening.{IsCharterOf};
-ghost use Rattle.dc_hub.specs.Views.{BookView, IsBookOf, IsOfLast, IsRefusal, unused, board_caps, stepped, parts_for, parts_in, receipts_in, HasNoted, AreNewWires, AreNewSeats};
+ghost use Rattle.dc_hub.specs.Views.{IsOfLast, IsRefusal, IsRefusedCall, IsRefusedWord, HasNoted, AreNewWires, AreNewSeats};
+ghost use Rattle.dc_hub.specs.Views.{unused, board_caps, stepped, parts_for, receipts_in};
 ghost use Rattle.dc_board.specs.declared.limits.TheConstants.{MOST_WORDS};
 ghost use Rattle.dc_hub.specs.declared.limits.TheConstants.{GREATEST_BACKLOG};
 
@@ -62,7 +62,7 @@ impl<L: Charter> Hub<L> {
     ) -> Result<(Hub<L>, Seats<L>), OpenFault>
         requires blank { (blank.name ≡ L.name) × (blank.parts ≡ L.parts) }
         requires charter { IsCharterOf L.certified L.limit L.whole L.parts certified trace_limit }
-        ensures each { IfOk result (λ r. AreOneEach (tables_of certified) (all_seats r.1.wires.items r.1.routers.items r.1.outputs.items r.1.clock) × (parts_in (all_seats r.1.wires.items r.1.routers.items r.1.outputs.items r.1.clock) ≡ L.parts) × (receipts_in (all_seats r.1.wires.items r.1.routers.items r.1.outputs.items r.1.clock) ≡ 0)) }
+        ensures each { IfOk result (λ r. AreUnanswered (tables_of certified) L.parts (seats_in r.1)) }
         ensures wires { IfOk result (λ r. AreNewWires r.0 r.1.wires.items (length (tables_of certified).buses)) }
         ensures routers { IfOk result (λ r. AreNewSeats Router r.1.routers.items (length (tables_of certified).routers)) }
         ensures outputs { IfOk result (λ r. AreNewSeats Output r.1.outputs.items (length (tables_of certified).outputs)) }
@@ -84,7 +84,7 @@ impl<L: Charter> Hub<L> {
     ) -> Result<(Hub<L>, Seats<L>), AllocError>
         requires blank { (blank.name ≡ L.name) × (blank.parts ≡ L.parts) }
         requires charter { IsCharterOf L.certified L.limit L.whole L.parts certified limit }
-        ensures each { IfOk result (λ r. AreOneEach (tables_of certified) (all_seats r.1.wires.items r.1.routers.items r.1.outputs.items r.1.clock) × (parts_in (all_seats r.1.wires.items r.1.routers.items r.1.outputs.items r.1.clock) ≡ L.parts) × (receipts_in (all_seats r.1.wires.items r.1.routers.items r.1.outputs.items r.1.clock) ≡ 0)) }
+        ensures each { IfOk result (λ r. AreUnanswered (tables_of certified) L.parts (seats_in r.1)) }
         ensures wires { IfOk result (λ r. AreNewWires r.0 r.1.wires.items (length (tables_of certified).buses)) }
         ensures routers { IfOk result (λ r. AreNewSeats Router r.1.routers.items (length (tables_of certified).routers)) }
         ensures outputs { IfOk result (λ r. AreNewSeats Output r.1.outputs.items (length (tables_of certified).outputs)) }
@@ -141,13 +141,14 @@ impl<L: Charter> Hub<L> {
         word: Word,
     ) -> Result<Receipt, HubFault>
         requires { IsSeatOf self.now seat.old.marks }
-        ensures receipt { IfOk result (λ r. (seat.new.seat.receipts ≡ seat.old.seat.receipts ++ r ∷ []) × ((bus : ℕ) → seat.old.seat.actor ≡ Wire bus → r.event ≡ Arrive word bus)) }
+        ensures receipt { IfOk result (λ r. (seat.new.seat.receipts ≡ seat.old.seat.receipts ++ r ∷ [])
+            × ((bus : ℕ) → seat.old.seat.actor ≡ Wire bus → r.event ≡ Arrive word bus)) }
         ensures same { OnErr result (seat.new ≡ seat.old) }
         ensures kept { (seat.new.seat.actor ≡ seat.old.seat.actor) × (seat.new.seat.parts ≡ seat.old.seat.parts) }
         ensures board { IsSeatOf self.now seat.new.marks }
         ensures noted { HasNoted seat.new }
         ensures entry { IfOk result (λ r. IsOfLast L.certified L.limit (length seat.new.seat.receipts) r) }
-        ensures err { IfErr result (λ fault. (bus : ℕ) × (seat.old.seat.actor ≡ Wire bus) × IsRefusal L.certified L.limit (length seat.old.seat.receipts) (Arrive word bus) fault) }
+        ensures err { IfErr result (IsRefusedWord L.certified L.limit word seat.old.seat) }
     {
         let event = Event::Arrive(word, seat.bus);
         let receipt = self.act(rt, &mut seat.seat, event)?;
@@ -164,7 +165,7 @@ impl<L: Charter> Hub<L> {
         ensures same { OnErr result (seat.new ≡ seat.old) }
         ensures kept { (seat.new.actor ≡ seat.old.actor) × (seat.new.parts ≡ seat.old.parts) }
         ensures entry { IfOk result (λ r. IsOfLast L.certified L.limit (length seat.new.receipts) r) }
-        ensures err { IfErr result (λ fault. (event : Event) × (actor_of event ≡ seat.old.actor) × IsRefusal L.certified L.limit (length seat.old.receipts) event fault) }
+        ensures err { IfErr result (IsRefusedCall L.certified L.limit seat.old) }
     {
         let event = Event::Route(seat.router);
         self.act(rt, &mut seat.seat, event)
@@ -179,7 +180,7 @@ impl<L: Charter> Hub<L> {
         ensures same { OnErr result (seat.new ≡ seat.old) }
         ensures kept { (seat.new.actor ≡ seat.old.actor) × (seat.new.parts ≡ seat.old.parts) }
         ensures entry { IfOk result (λ r. IsOfLast L.certified L.limit (length seat.new.receipts) r) }
-        ensures err { IfErr result (λ fault. (event : Event) × (actor_of event ≡ seat.old.actor) × IsRefusal L.certified L.limit (length seat.old.receipts) event fault) }
+        ensures err { IfErr result (IsRefusedCall L.certified L.limit seat.old) }
     {
         let event = Event::Send(seat.output);
         self.act(rt, &mut seat.seat, event)
@@ -194,7 +195,7 @@ impl<L: Charter> Hub<L> {
         ensures same { OnErr result (seat.new ≡ seat.old) }
         ensures kept { (seat.new.actor ≡ seat.old.actor) × (seat.new.parts ≡ seat.old.parts) }
         ensures entry { IfOk result (λ r. IsOfLast L.certified L.limit (length seat.new.receipts) r) }
-        ensures err { IfErr result (λ fault. (event : Event) × (actor_of event ≡ seat.old.actor) × IsRefusal L.certified L.limit (length seat.old.receipts) event fault) }
+        ensures err { IfErr result (IsRefusedCall L.certified L.limit seat.old) }
     {
         self.act(rt, &mut seat.seat, Event::Tick)
     }
@@ -236,10 +237,10 @@ impl<L: Charter> Hub<L> {
     /// trace limit that the hub was opened with, and where the seats are one for each actor, as many entries as they
     /// have receipts.
     pub fn close(self, seats: Seats<L>) -> Result<Closed, CloseFault>
-        ensures ok { IfOk result (λ c. AreOneEach (tables_of c.certified) (all_seats seats.wires.items seats.routers.items seats.outputs.items seats.clock) × AllAgree c.entries (all_seats seats.wires.items seats.routers.items seats.outputs.items seats.clock)) }
+        ensures ok { IfOk result (λ c. ClosesOver c.certified c.entries (seats_in seats)) }
         ensures same { IfOk result (λ c. (L.certified ≡ Some c.certified) × (length c.entries ≤ L.limit)) }
-        ensures as_many { IfOk result (λ c. length c.entries ≡ receipts_in (all_seats seats.wires.items seats.routers.items seats.outputs.items seats.clock)) }
-        ensures err { IfErr result (λ fault. (book : BookView) × IsBookOf L.certified L.limit book × (AreOneEach (tables_of book.certified) (all_seats seats.wires.items seats.routers.items seats.outputs.items seats.clock) → length book.entries ≡ receipts_in (all_seats seats.wires.items seats.routers.items seats.outputs.items seats.clock)) × IsCloseFault (tables_of book.certified) book.entries (all_seats seats.wires.items seats.routers.items seats.outputs.items seats.clock) fault) }
+        ensures as_many { IfOk result (λ c. length c.entries ≡ receipts_in (seats_in seats)) }
+        ensures err { IfErr result (DoesNotClose L.certified L.limit (seats_in seats)) }
     {
         let Hub { book, board: _ } = self;
         let book = book.into_inner();

@@ -16,7 +16,8 @@ use crate::seat::ClockSeat;
 /// Where the words of the entries' run keep what is asked of the sources, their intervals and their wires, the claims
 /// of the certificate hold at each entry. The call does nothing.
 pub fn keeps_the_claims(closed: &Closed)
-    ensures { KeepsSources (tables_of closed.now.certified) (events closed.now.entries) → ClaimsHold (tables_of closed.now.certified) (numbers_of (named_rows (certificate_of closed.now.certified))).ages (events closed.now.entries) }
+    ensures { KeepsSources (tables_of closed.now.certified) (events closed.now.entries)
+        → ClaimsHold (tables_of closed.now.certified) (numbers_of (named_rows (certificate_of closed.now.certified))).ages (events closed.now.entries) }
 {
     closed.legal();
     closed.certified.keeps_its_claims();
