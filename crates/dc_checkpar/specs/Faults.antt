@@ -1,5 +1,6 @@
 -- The faults of a parallel check.
-use Rattle.std.specs.Prelude.{◌≡◌, Some}
+use Rattle.std.specs.Prelude.{◌≡◌, None, Some, MatchResult}
+use Rattle.std.specs.declared.result.Result.{Result}
 use Rattle.dc_cert.specs.NamedRows.{NamedRows}
 use Rattle.dc_check.specs.Placed.{IsPlaced}
 use Rattle.dc_check.specs.Verdict.{verdict_of}
@@ -15,6 +16,10 @@ IsOfVerdict t claims (fault.Refused f) = (verdict_of t claims ≡ Some f) × IsP
 IsOfVerdict t claims fault.Spawn = Unit {0}
 IsOfVerdict t claims fault.Memory = Unit {0}
 IsOfVerdict t claims fault.GateStuck = Unit {0}
+
+-- the answer is the verdict: no fault, or what a refusal says; or it is why there is none
+abbrev pub IsParVerdict : {T : Type 0} → TableRows → NamedRows → Result T ParFault → Type 0
+IsParVerdict t claims answer = MatchResult answer (λ _. verdict_of t claims ≡ None) (λ fault. IsOfVerdict t claims fault)
 
 -- why the workers halted before all jobs were judged, as a fault of the check
 abbrev pub halt_fault : Halt → ParFault

@@ -133,7 +133,8 @@ fn output_fault<A: ArrivalBound + Sync, S: ServiceBound + Sync, R: Threads + Syn
     requires there { output < length case.now.fitted.now.tables.now.outputs }
     requires arrivals { (d : ℕ) → A.cap arrivals.now d ≡ output_cap case.now.fitted.now.tables.now output d }
     requires service { (d : ℕ) → S.floor service.now d ≡ output_floor case.now.fitted.now.tables.now output d }
-    ensures { result ≡ job_verdict case.now.fitted.now.tables.now (certificate_rows case.now.fitted.now.certificate.now) (length case.now.fitted.now.tables.now.buses + output) }
+    ensures { result ≡ job_verdict case.now.fitted.now.tables.now (certificate_rows case.now.fitted.now.certificate.now)
+        (length case.now.fitted.now.tables.now.buses + output) }
 {
     case.fitted.tables.valid();
     let job = case.fitted.tables.bus_count() + output;

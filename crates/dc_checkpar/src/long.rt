@@ -1,10 +1,10 @@
 //! The search of a long window, in pieces.
 
-ghost use Rattle.std.specs.Prelude.{◌≡◌, ℕ, ◌+◌, ◌*◌, ◌<◌, ◌≤◌, None, MatchOption, min};
+ghost use Rattle.std.specs.Prelude.{◌≡◌, ◌<◌, ◌≤◌, None, MatchOption};
 ghost use Rattle.std.specs.Option.{option_or};
-ghost use Rattle.dc_busy.specs.BusyWindow.{BacklogAt, BacklogBounded, DelayAt, DelayBounded, IsLeastFailing, IsFirstBetween};
+ghost use Rattle.dc_busy.specs.BusyWindow.{BacklogAt, BacklogBounded, DelayAt, DelayBounded, IsLeastFailing};
 ghost use Rattle.dc_busy.specs.declared.limits.TheConstants.{LONGEST_WINDOW};
-ghost use Rattle.dc_checkpar.specs.declared.limits.TheConstants.{PIECE};
+ghost use Rattle.dc_checkpar.specs.Pieces.{IsFirstInPiece};
 
 use crate::limits::{LEAST, PIECE};
 use dc_bound::{ArrivalBound, ServiceBound};
@@ -25,8 +25,10 @@ pub(crate) fn first_failures<A: ArrivalBound + Sync, S: ServiceBound + Sync>(
     requires least { 1 ≤ window }
     requires most { window ≤ LONGEST_WINDOW }
     requires short { delay ≤ LONGEST_WINDOW }
-    ensures backlog { MatchOption result.0 (BacklogBounded (A.cap arrivals.now) (S.floor service.now) window backlog) (λ w. IsLeastFailing (BacklogAt (A.cap arrivals.now) (S.floor service.now) backlog) window w) }
-    ensures delay { MatchOption result.1 (DelayBounded (A.cap arrivals.now) (S.floor service.now) window delay) (λ w. IsLeastFailing (DelayAt (A.cap arrivals.now) (S.floor service.now) delay) window w) }
+    ensures backlog { MatchOption result.0 (BacklogBounded (A.cap arrivals.now) (S.floor service.now) window backlog)
+        (λ w. IsLeastFailing (BacklogAt (A.cap arrivals.now) (S.floor service.now) backlog) window w) }
+    ensures delay { MatchOption result.1 (DelayBounded (A.cap arrivals.now) (S.floor service.now) window delay)
+        (λ w. IsLeastFailing (DelayAt (A.cap arrivals.now) (S.floor service.now) delay) window w) }
 {
     let pieces = window.div_ceil(PIECE);
     (0..pieces)
@@ -35,8 +37,8 @@ pub(crate) fn first_failures<A: ArrivalBound + Sync, S: ServiceBound + Sync>(
         .map(
             |piece: u32| -> (Option<u32>, Option<u32>)
                 requires { (piece < LONGEST_WINDOW) × (window ≤ LONGEST_WINDOW) × (delay ≤ LONGEST_WINDOW) }
-                ensures backlog { IsFirstBetween (BacklogAt (A.cap arrivals.entry.now) (S.floor service.entry.now) backlog) (piece * PIECE + 1) (min (piece * PIECE + PIECE) window) result.0 }
-                ensures delay { IsFirstBetween (DelayAt (A.cap arrivals.entry.now) (S.floor service.entry.now) delay) (piece * PIECE + 1) (min (piece * PIECE + PIECE) window) result.1 }
+                ensures backlog { IsFirstInPiece (BacklogAt (A.cap arrivals.entry.now) (S.floor service.entry.now) backlog) piece window result.0 }
+                ensures delay { IsFirstInPiece (DelayAt (A.cap arrivals.entry.now) (S.floor service.entry.now) delay) piece window result.1 }
             { piece_failures(arrivals, service, piece, window, backlog, delay) },
         )
         .reduce(
@@ -65,8 +67,8 @@ fn piece_failures<A: ArrivalBound, S: ServiceBound>(
     requires piece { piece < LONGEST_WINDOW }
     requires most { window ≤ LONGEST_WINDOW }
     requires short { delay ≤ LONGEST_WINDOW }
-    ensures backlog { IsFirstBetween (BacklogAt (A.cap arrivals.now) (S.floor service.now) backlog) (piece * PIECE + 1) (min (piece * PIECE + PIECE) window) result.0 }
-    ensures delay { IsFirstBetween (DelayAt (A.cap arrivals.now) (S.floor service.now) delay) (piece * PIECE + 1) (min (piece * PIECE + PIECE) window) result.1 }
+    ensures backlog { IsFirstInPiece (BacklogAt (A.cap arrivals.now) (S.floor service.now) backlog) piece window result.0 }
+    ensures delay { IsFirstInPiece (DelayAt (A.cap arrivals.now) (S.floor service.now) delay) piece window result.1 }
 {
     let before = piece * PIECE;
     let last = (before + PIECE).min(window);

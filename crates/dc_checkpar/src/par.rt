@@ -1,13 +1,13 @@
 //! The verdict by several workers.
 
-ghost use Rattle.std.specs.Prelude.{◌≡◌, ℕ, ◌≤◌, None, Some, Err, IfOk, IfErr, MatchResult};
+ghost use Rattle.std.specs.Prelude.{◌≡◌, ℕ, ◌≤◌, None, Some, Err, IfOk, IfErr};
 ghost use Rattle.std.specs.Arc.{arc_value};
 ghost use Rattle.dc_cert.specs.NamedRows.{named_rows};
 ghost use Rattle.dc_check.specs.Certified.{KeepsItsClaims};
 ghost use Rattle.dc_check.specs.Lent.{tables_of, certificate_of};
 ghost use Rattle.dc_check.specs.Placed.{IsPlaced};
-ghost use Rattle.dc_check.specs.Verdict.{job_count, verdict_of};
-ghost use Rattle.dc_checkpar.specs.Faults.{IsOfVerdict, halt_fault};
+ghost use Rattle.dc_check.specs.Verdict.{job_count};
+ghost use Rattle.dc_checkpar.specs.Faults.{IsParVerdict, halt_fault};
 ghost use Rattle.dc_checkpar.specs.Reports.{MayStick};
 ghost use Rattle.dc_checkpar.specs.declared.fault.ParFault.TheVariants.{GateStuck};
 ghost use Rattle.dc_checkpar.specs.declared.limits.TheConstants.{MOST_WORKERS};
@@ -42,7 +42,7 @@ pub fn check_par<G: Gate, R: Threads + Wait + Sync>(
     requires { (1 ≤ workers) × (workers ≤ MOST_WORKERS) }
     ensures claims { IfOk result (λ _. KeepsItsClaims (arc_value tables) (named_rows certificate)) }
     ensures lends { IfOk result (λ c. (tables_of c ≡ arc_value tables) × (certificate_of c ≡ certificate)) }
-    ensures exact { MatchResult result (λ _. verdict_of (arc_value tables) (named_rows certificate) ≡ None) (λ fault. IsOfVerdict (arc_value tables) (named_rows certificate) fault) }
+    ensures exact { IsParVerdict (arc_value tables) (named_rows certificate) result }
     ensures stuck { IfErr result (λ fault. fault ≡ GateStuck → MayStick (job_count (arc_value tables)) (G.may_stick gate.now)) }
 {
     match verdict_by(rt, alloc, &tables, &certificate, workers, gate) {
@@ -65,7 +65,7 @@ fn verdict_by<G: Gate, R: Threads + Wait + Sync>(
     gate: &G,
 ) -> Result<(), ParFault>
     requires { (1 ≤ workers) × (workers ≤ MOST_WORKERS) }
-    ensures exact { MatchResult result (λ _. verdict_of tables.now (named_rows certificate.now) ≡ None) (λ fault. IsOfVerdict tables.now (named_rows certificate.now) fault) }
+    ensures exact { IsParVerdict tables.now (named_rows certificate.now) result }
     ensures stuck { IfErr result (λ fault. fault ≡ GateStuck → MayStick (job_count tables.now) (G.may_stick gate.now)) }
 {
     tables.valid();

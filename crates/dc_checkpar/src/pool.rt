@@ -94,7 +94,8 @@ fn start_all<'s, E, J: Jobs + 's, G: Gate + 's>(
 
 /// Puts what was judged beside its jobs.
 fn note(known: &mut Vec<Option<Option<CheckFault>>>, judged: &Vec<Judged>)
-    ensures known { (verdict : ℕ → Option CheckFault) → AreJudged verdict judged.now.items → AreKnown verdict known.old.items → AreKnown verdict known.new.items }
+    ensures known { (verdict : ℕ → Option CheckFault) → AreJudged verdict judged.now.items
+        → AreKnown verdict known.old.items → AreKnown verdict known.new.items }
 {
     for one in judged {
         if one.job >= known.len() {
