@@ -2,6 +2,7 @@
 use Rattle.std.specs.Prelude.{◌≡◌, ℕ, ◌<◌, Option, Some, None, List, [], ◌∷◌, ◌++◌, map, filter, reverse, drop, length, slice_get, slice_index_or, All}
 use Rattle.atomic_table.specs.Seated.{TableId}
 use Rattle.dc_board.specs.Marks.{IsSeatOf}
+use Rattle.dc_drive.specs.declared.driving.Counts.{Counts}
 use Rattle.dc_script.specs.Script.{ScriptView}
 use Rattle.dc_script.specs.declared.script.Timed.{Timed}
 use Rattle.dc_event.specs.Steady.{steady}
@@ -12,6 +13,7 @@ use Rattle.dc_event.specs.declared.event.Event.TheVariants.{Arrive}
 use Rattle.dc_hub.specs.Closing.{is_by, actor_at, actor_count}
 use Rattle.dc_hub.specs.Views.{SeatView, WireView}
 use Rattle.dc_hub.specs.declared.entry.Receipt.{Receipt}
+use Rattle.dc_hub.specs.declared.seats.Seats.{Seats}
 use Rattle.dc_tables.specs.TableRows.{TableRows}
 
 -- the same seat, with more receipts behind its own
@@ -91,6 +93,18 @@ pub record AllPlayed (t : TableRows) (s : ScriptView) (wires wires' : List WireV
   pub by_routers : HavePlayed itself t s (counts itself routers) routers'
   pub by_outputs : HavePlayed itself t s (counts itself outputs) outputs'
   pub by_clock : HasTicked t s (count_of clock) clock'
+
+-- every actor of a hub has played its role, between its seats before and after
+abbrev pub PlayedBetween : {L : Type 0} → TableRows → ScriptView → (before after : Seats L) → Type 0
+PlayedBetween t s before after = AllPlayed t s before.wires.items after.wires.items before.routers.items after.routers.items before.outputs.items after.outputs.items before.clock after.clock
+
+-- every actor of a hub has played its role, since its seats had so many receipts
+abbrev pub PlayedSince : {L : Type 0} → TableRows → ScriptView → Counts → Seats L → Type 0
+PlayedSince t s before seats =
+    HavePlayed seat_of_wire t s before.wires.items seats.wires.items
+    × HavePlayed itself t s before.routers.items seats.routers.items
+    × HavePlayed itself t s before.outputs.items seats.outputs.items
+    × HasTicked t s before.clock seats.clock
 
 -- each seat's receipts are its actor's role
 abbrev pub HaveRoles : TableRows → ScriptView → List SeatView → Type 0

@@ -1,5 +1,6 @@
 -- Why a drive gives up.
-use Rattle.std.specs.Prelude.{ℕ, ⊤, Option}
+use Rattle.std.specs.Prelude.{ℕ, ⊤, Option, IfErr}
+use Rattle.std.specs.declared.result.Result.{Result}
 use Rattle.dc_check.specs.declared.certified.Certified.{Certified}
 use Rattle.dc_drive.specs.declared.fault.DriveFault.{DriveFault}
 use Rattle.dc_drive.specs.declared.fault.DriveFault.TheVariants.{Spawn, Memory, GateStuck, Hub}
@@ -21,3 +22,7 @@ HaltsAs certified limit stuck (Hub fault) = IsRefused certified limit fault
 -- the gate may be stuck at some number
 abbrev pub MayStickAt : (ℕ → Type 0) → Type 0
 MayStickAt may_stick = (number : ℕ) × may_stick number
+
+-- what has ended so gave up, where it did, only as a call is refused, or where the gate may be stuck
+abbrev pub EndsAs : {T : Type 0} → Option Certified → ℕ → (may_stick : ℕ → Type 0) → Result T DriveFault → Type 0
+EndsAs certified limit may_stick end = IfErr end (HaltsAs certified limit (MayStickAt may_stick))

@@ -2,10 +2,11 @@
 
 ghost use Rattle.std.specs.Prelude.{◌≡◌, ◌≢◌, ◌≤◌, true, false, Err, IfErr, IfOk, IsSome, OnOk, vec_len, vec_capacity};
 ghost use Rattle.dc_event.specs.Steady.{steady as steady_of};
-ghost use Rattle.dc_drive.specs.Played.{AllPlayed, AreOfHub, AreSame, HasTicked, HavePlayed, HaveRoles, IsSameClock, count_of, counts, itself, seat_of_wire};
-ghost use Rattle.dc_drive.specs.Refusals.{HaltsAs, MayStickAt};
+ghost use Rattle.dc_drive.specs.Played.{AreOfHub, AreSame, HavePlayed, HaveRoles, IsSameClock, PlayedBetween, PlayedSince};
+ghost use Rattle.dc_drive.specs.Played.{count_of, counts, itself, seat_of_wire};
+ghost use Rattle.dc_drive.specs.Refusals.{EndsAs, HaltsAs, MayStickAt};
 ghost use Rattle.dc_drive.specs.declared.fault.DriveFault.TheVariants.{Hub as Refused};
-ghost use Rattle.dc_hub.specs.Closing.{all_seats};
+ghost use Rattle.dc_hub.specs.Closing.{seats_in};
 ghost use Rattle.dc_hub.specs.Views.{AreTablesOf, receipts_in};
 ghost use Rattle.dc_hub.specs.declared.fault.HubFault.TheVariants.{Astray};
 
@@ -137,18 +138,15 @@ pub fn drive<L: Charter + Send + Sync, R: Threads + Wait + Sync, G: Gate>(
     ensures clock { IsSameClock seats.old.clock seats.new.clock }
     ensures of_hub { AreOfHub hub.now seats.new.wires.items }
     ensures watch { seats.new.watch ≡ seats.old.watch }
-    ensures played { OnOk result (AllPlayed tables.now script.now seats.old.wires.items seats.new.wires.items seats.old.routers.items seats.new.routers.items seats.old.outputs.items seats.new.outputs.items seats.old.clock seats.new.clock) }
-    ensures astray { result ≡ Err (Refused Astray) → ¬ AllPlayed tables.now script.now seats.old.wires.items seats.new.wires.items seats.old.routers.items seats.new.routers.items seats.old.outputs.items seats.new.outputs.items seats.old.clock seats.new.clock }
-    ensures fresh { receipts_in (all_seats seats.old.wires.items seats.old.routers.items seats.old.outputs.items seats.old.clock) ≡ 0 → OnOk result (HaveRoles tables.now script.now (all_seats seats.new.wires.items seats.new.routers.items seats.new.outputs.items seats.new.clock)) }
+    ensures played { OnOk result (PlayedBetween tables.now script.now seats.old seats.new) }
+    ensures astray { result ≡ Err (Refused Astray) → ¬ PlayedBetween tables.now script.now seats.old seats.new }
+    ensures fresh { receipts_in (seats_in seats.old) ≡ 0 → OnOk result (HaveRoles tables.now script.now (seats_in seats.new)) }
     ensures halts { IfErr result (λ fault. fault ≢ Refused Astray → HaltsAs L.certified L.limit (MayStickAt (G.may_stick gate.now)) fault) }
 {
-    let Ok(rooms) = rooms_for(alloc, seats) else {
-        return Err(DriveFault::Memory);
-    };
     let Ok(before) = before(alloc, seats) else {
         return Err(DriveFault::Memory);
     };
-    if let Err(fault) = play(rt, alloc, tables, hub, seats, script, gate, rooms) {
+    if let Err(fault) = play(rt, alloc, tables, hub, seats, script, gate) {
         return Err(fault);
     }
     let Ok(run) = steady(alloc, tables, script.ticks()) else {
@@ -162,6 +160,7 @@ pub fn drive<L: Charter + Send + Sync, R: Threads + Wait + Sync, G: Gate>(
 }
 
 /// Plays the script in threads. The seats are put back.
+#[tactic(auto, using(crate::proofs::Same::all_self))]
 fn play<L: Charter + Send + Sync, R: Threads + Wait + Sync, G: Gate>(
     rt: &R,
     alloc: Global,
@@ -170,21 +169,20 @@ fn play<L: Charter + Send + Sync, R: Threads + Wait + Sync, G: Gate>(
     seats: &mut Seats<L>,
     script: &Script,
     gate: &G,
-    rooms: Rooms<L, G>,
 ) -> Result<(), DriveFault>
     requires of_hub { AreOfHub hub.now seats.old.wires.items }
     requires clock { IsSome seats.old.clock }
-    requires room_wires { (vec_len rooms.wires ≡ 0) × (vec_len seats.old.wires ≤ vec_capacity rooms.wires) }
-    requires room_routers { (vec_len rooms.routers ≡ 0) × (vec_len seats.old.routers ≤ vec_capacity rooms.routers) }
-    requires room_outputs { (vec_len rooms.outputs ≡ 0) × (vec_len seats.old.outputs ≤ vec_capacity rooms.outputs) }
     ensures wires { AreSame seat_of_wire seats.old.wires.items seats.new.wires.items }
     ensures routers { AreSame itself seats.old.routers.items seats.new.routers.items }
     ensures outputs { AreSame itself seats.old.outputs.items seats.new.outputs.items }
     ensures clock { IsSameClock seats.old.clock seats.new.clock }
     ensures of_hub { AreOfHub hub.now seats.new.wires.items }
     ensures watch { seats.new.watch ≡ seats.old.watch }
-    ensures halts { IfErr result (HaltsAs L.certified L.limit (MayStickAt (G.may_stick gate.now))) }
+    ensures halts { EndsAs L.certified L.limit (G.may_stick gate.now) result }
 {
+    let Ok(rooms) = rooms_for(alloc, seats) else {
+        return Err(DriveFault::Memory);
+    };
     let Some(clock) = seats.clock.take() else {
         unreachable!()
     };
@@ -198,6 +196,7 @@ fn play<L: Charter + Send + Sync, R: Threads + Wait + Sync, G: Gate>(
     let actors = cast.wires.len() + cast.routers.len() + cast.outputs.len();
     let meter = Meter::new(actors as u64);
     let stage = Stage {
+        hub,
         tables,
         script,
         gate,
@@ -209,7 +208,7 @@ fn play<L: Charter + Send + Sync, R: Threads + Wait + Sync, G: Gate>(
         outputs,
         clock,
         end,
-    } = in_threads(rt, hub, &stage, cast, rooms);
+    } = in_threads(rt, &stage, cast, rooms);
     seats.wires = wires;
     seats.routers = routers;
     seats.outputs = outputs;
@@ -229,8 +228,8 @@ fn all_have_played<L: Charter>(
     requires wires { vec_len before.now.wires ≡ vec_len seats.now.wires }
     requires routers { vec_len before.now.routers ≡ vec_len seats.now.routers }
     requires outputs { vec_len before.now.outputs ≡ vec_len seats.now.outputs }
-    ensures yes { result ≡ true → HavePlayed seat_of_wire tables.now script.now before.now.wires.items seats.now.wires.items × HavePlayed itself tables.now script.now before.now.routers.items seats.now.routers.items × HavePlayed itself tables.now script.now before.now.outputs.items seats.now.outputs.items × HasTicked tables.now script.now before.now.clock seats.now.clock }
-    ensures no { result ≡ false → ¬ (HavePlayed seat_of_wire tables.now script.now before.now.wires.items seats.now.wires.items × HavePlayed itself tables.now script.now before.now.routers.items seats.now.routers.items × HavePlayed itself tables.now script.now before.now.outputs.items seats.now.outputs.items × HasTicked tables.now script.now before.now.clock seats.now.clock) }
+    ensures yes { result ≡ true → PlayedSince tables.now script.now before.now seats.now }
+    ensures no { result ≡ false → ¬ PlayedSince tables.now script.now before.now seats.now }
 {
     if !have_played(tables, script, run, &before.wires, &seats.wires) {
         return false;

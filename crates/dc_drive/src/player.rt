@@ -17,9 +17,10 @@ use dc_script::{Script, Timed};
 use dc_tables::Tables;
 use std::sync::Wait;
 
-/// What all threads of a drive are lent: the tables, the script, the gate and the pace.
+/// What all threads of a drive are lent: the hub, the tables, the script, the gate and the pace.
 #[derive(Drop)]
-pub(crate) struct Stage<'s, G> {
+pub(crate) struct Stage<'s, L: Charter, G> {
+    pub hub: &'s Hub<L>,
     pub tables: &'s Tables,
     pub script: &'s Script,
     pub gate: &'s G,
@@ -68,23 +69,22 @@ pub(crate) trait Player<L: Charter>: Sized {
 /// Makes the actor's steps of a tick, and enters the gate round each by this number.
 pub(crate) fn play<L: Charter, S: Player<L>, R: Wait, G: Gate>(
     rt: &R,
-    hub: &Hub<L>,
-    stage: &Stage<'_, G>,
+    stage: &Stage<'_, L, G>,
     number: u64,
     start: usize,
     tick: u64,
     seat: &mut S,
 ) -> Result<(), DriveFault>
-    requires { S.is_of_hub hub.now seat.old }
+    requires { S.is_of_hub stage.now.hub.now seat.old }
     ensures same { IsSameSeat (S.seat seat.old) (S.seat seat.new) }
-    ensures of_hub { S.is_of_hub hub.now seat.new }
+    ensures of_hub { S.is_of_hub stage.now.hub.now seat.new }
     ensures halts { IfErr result (HaltsAs L.certified L.limit (G.may_stick stage.now.gate.now number)) }
 {
     for _ in 0..seat.steps(stage.tables, stage.script, start, tick) {
         if stage.gate.enter(number).is_err() {
             return Err(DriveFault::GateStuck);
         }
-        let made = seat.step(rt, hub, stage.script, start);
+        let made = seat.step(rt, stage.hub, stage.script, start);
         stage.gate.leave(number);
         made?;
     }

@@ -2,7 +2,7 @@
 
 ghost use Rattle.std.specs.Prelude.{◌≡◌, ◌⊎◌, ◌+◌, ◌≤◌, ◌++◌, All, IfOk, IfErr, map, vec_len, vec_capacity};
 ghost use Rattle.dc_drive.specs.Played.{AreOfHub, AreSame, IsSameSeat, itself, out_with, seat_of_wire};
-ghost use Rattle.dc_drive.specs.Refusals.{HaltsAs, MayStickAt};
+ghost use Rattle.dc_drive.specs.Refusals.{EndsAs, HaltsAs};
 
 use crate::fault::DriveFault;
 use crate::player::{Player, Stage, play, tick};
@@ -30,7 +30,8 @@ pub(crate) struct Returns<L: Charter, S, G> {
 }
 
 impl<L: Charter, S: Player<L>, G: Gate> Promise<Done<S>> for Returns<L, S, G> {
-    ghost kept_by = { λ p r. IsSameSeat (S.seat p.seat.value) (S.seat r.seat) × S.is_of_hub p.hub.value r.seat × IfErr r.end (HaltsAs L.certified L.limit (MayStickAt (G.may_stick p.gate.value))) };
+    ghost kept_by = { λ p r. IsSameSeat (S.seat p.seat.value) (S.seat r.seat) × S.is_of_hub p.hub.value r.seat
+        × EndsAs L.certified L.limit (G.may_stick p.gate.value) r.end };
 }
 
 pub(crate) type Child<L, S, G> = PromisedHandle<Done<S>, Returns<L, S, G>>;
@@ -38,14 +39,13 @@ pub(crate) type Child<L, S, G> = PromisedHandle<Done<S>, Returns<L, S, G>>;
 /// Plays a seat's actor tick by tick. Where it gives up, all threads stop.
 fn run<L: Charter, S: Player<L> + Drop, R: Wait, G: Gate>(
     rt: &R,
-    hub: &Hub<L>,
-    stage: &Stage<'_, G>,
+    stage: &Stage<'_, L, G>,
     number: u64,
     mut seat: S,
 ) -> Done<S>
-    requires { S.is_of_hub hub.now seat }
+    requires { S.is_of_hub stage.now.hub.now seat }
     ensures same { IsSameSeat (S.seat seat) (S.seat result.seat) }
-    ensures of_hub { S.is_of_hub hub.now result.seat }
+    ensures of_hub { S.is_of_hub stage.now.hub.now result.seat }
     ensures halts { IfErr result.end (HaltsAs L.certified L.limit (G.may_stick stage.now.gate.now number)) }
 {
     let start = seat.plain().receipts().len();
@@ -53,7 +53,7 @@ fn run<L: Charter, S: Player<L> + Drop, R: Wait, G: Gate>(
         return Done { seat, end: Ok(()) };
     }
     for tick in 0..stage.script.ticks() {
-        let played = play(rt, hub, stage, number, start, tick, &mut seat);
+        let played = play(rt, stage, number, start, tick, &mut seat);
         if played.is_err() {
             stage.meter.stop(rt);
             return Done { seat, end: played };
@@ -69,14 +69,13 @@ fn run<L: Charter, S: Player<L> + Drop, R: Wait, G: Gate>(
 /// all threads stop.
 fn run_clock<L: Charter, R: Wait, G: Gate>(
     rt: &R,
-    hub: &Hub<L>,
-    stage: &Stage<'_, G>,
+    stage: &Stage<'_, L, G>,
     started: Result<(), DriveFault>,
     mut clock: ClockSeat<L>,
 ) -> Done<ClockSeat<L>>
-    requires { IfErr started (HaltsAs L.certified L.limit (MayStickAt (G.may_stick stage.now.gate.now))) }
+    requires { EndsAs L.certified L.limit (G.may_stick stage.now.gate.now) started }
     ensures same { IsSameSeat clock result.seat }
-    ensures halts { IfErr result.end (HaltsAs L.certified L.limit (MayStickAt (G.may_stick stage.now.gate.now))) }
+    ensures halts { EndsAs L.certified L.limit (G.may_stick stage.now.gate.now) result.end }
 {
     if started.is_err() {
         return Done {
@@ -88,7 +87,7 @@ fn run_clock<L: Charter, R: Wait, G: Gate>(
         let Some(done) = stage.meter.wait_for_all(rt) else {
             break;
         };
-        let ticked = tick(rt, hub, stage.gate, stage.meter.actors(), &mut clock);
+        let ticked = tick(rt, stage.hub, stage.gate, stage.meter.actors(), &mut clock);
         if ticked.is_err() {
             stage.meter.stop(rt);
             return Done {
@@ -115,26 +114,26 @@ fn start<
 >(
     scope: &Scope<'s, E>,
     rt: &'s R,
-    hub: &'s Hub<L>,
-    stage: &'s Stage<'s, G>,
+    stage: &'s Stage<'s, L, G>,
     number: u64,
     seat: S,
 ) -> Result<Child<L, S, G>, S>
-    requires { S.is_of_hub hub.now seat }
-    ensures ok { IfOk result (λ h. (h.promise.seat.value ≡ seat) × (h.promise.hub.value ≡ hub.now) × (h.promise.gate.value ≡ stage.now.gate.now)) }
-    ensures err { IfErr result (λ s. IsSameSeat (S.seat seat) (S.seat s) × S.is_of_hub hub.now s) }
+    requires { S.is_of_hub stage.now.hub.now seat }
+    ensures ok { IfOk result (λ h. (h.promise.seat.value ≡ seat) × (h.promise.hub.value ≡ stage.now.hub.now) × (h.promise.gate.value ≡ stage.now.gate.now)) }
+    ensures err { IfErr result (λ s. IsSameSeat (S.seat seat) (S.seat s) × S.is_of_hub stage.now.hub.now s) }
 {
     let promise = Returns {
         seat: Snapshot::of(&seat),
-        hub: Snapshot::of(hub),
+        hub: Snapshot::of(stage.hub),
         gate: Snapshot::of(stage.gate),
     };
     let spawned = scope.spawn_with(
         promise,
         move || -> Done<S>
-            requires { S.is_of_hub hub.now seat }
-            ensures { IsSameSeat (S.seat seat) (S.seat result.seat) × S.is_of_hub hub.entry.now result.seat × IfErr result.end (HaltsAs L.certified L.limit (MayStickAt (G.may_stick stage.entry.now.gate.now))) }
-        { run(rt, hub, stage, number, seat) },
+            requires { S.is_of_hub stage.now.hub.now seat }
+            ensures { IsSameSeat (S.seat seat) (S.seat result.seat) × S.is_of_hub stage.entry.now.hub.now result.seat
+                × EndsAs L.certified L.limit (G.may_stick stage.entry.now.gate.now) result.end }
+        { run(rt, stage, number, seat) },
     );
     match spawned {
         Ok(child) => Ok(child),
@@ -158,25 +157,24 @@ fn start_all<
 >(
     scope: &Scope<'s, E>,
     rt: &'s R,
-    hub: &'s Hub<L>,
-    stage: &'s Stage<'s, G>,
+    stage: &'s Stage<'s, L, G>,
     started: Result<(), DriveFault>,
     base: usize,
     seats: &mut Vec<S>,
     children: &mut Vec<Child<L, S, G>>,
 ) -> Result<(), DriveFault>
-    requires of_hub { All (S.is_of_hub hub.now) seats.old.items }
+    requires of_hub { All (S.is_of_hub stage.now.hub.now) seats.old.items }
     requires room { (vec_len children.old ≡ 0) × (vec_len seats.old ≤ vec_capacity children.old) }
     ensures same { AreSame S.seat seats.old.items (seats.new.items ++ out_with (λ h. h.promise.seat.value) children.new.items) }
-    ensures of_hub { All (S.is_of_hub hub.now) seats.new.items }
-    ensures hubs { All (λ h. (h.promise.hub.value ≡ hub.now) × (h.promise.gate.value ≡ stage.now.gate.now)) children.new.items }
-    ensures halts { IfErr started (HaltsAs L.certified L.limit (MayStickAt (G.may_stick stage.now.gate.now))) → IfErr result (HaltsAs L.certified L.limit (MayStickAt (G.may_stick stage.now.gate.now))) }
+    ensures of_hub { All (S.is_of_hub stage.now.hub.now) seats.new.items }
+    ensures hubs { All (λ h. (h.promise.hub.value ≡ stage.now.hub.now) × (h.promise.gate.value ≡ stage.now.gate.now)) children.new.items }
+    ensures halts { EndsAs L.certified L.limit (G.may_stick stage.now.gate.now) started → EndsAs L.certified L.limit (G.may_stick stage.now.gate.now) result }
     ensures room { (vec_capacity seats.new ≡ vec_capacity seats.old) × (vec_len seats.new + vec_len children.new ≡ vec_len seats.old) }
 {
     started?;
     while let Some(seat) = seats.pop() {
         let number = base.saturating_add(seats.len()) as u64;
-        match start(scope, rt, hub, stage, number, seat) {
+        match start(scope, rt, stage, number, seat) {
             Ok(child) => children.push_reserved(child),
             Err(seat) => {
                 seats.push_reserved(seat);
@@ -200,7 +198,7 @@ fn join_all<L: Charter, S: Player<L> + Drop, R: Threads, G: Gate>(
     requires room { vec_len seats.old + vec_len children.old ≤ vec_capacity seats.old }
     ensures same { AreSame S.seat (seats.old.items ++ out_with (λ h. h.promise.seat.value) children.old.items) seats.new.items }
     ensures of_hub { All (S.is_of_hub hub.now) seats.new.items }
-    ensures halts { IfErr result (HaltsAs L.certified L.limit (MayStickAt (G.may_stick gate.now))) }
+    ensures halts { EndsAs L.certified L.limit (G.may_stick gate.now) result }
 {
     let _hub = hub;
     let _gate = gate;
@@ -245,12 +243,11 @@ pub(crate) struct Rooms<L: Charter, G: Gate> {
 fn run_all<'s, E, L: Charter + Send + Sync + 's, R: Threads + Wait + Sync, G: Gate + 's>(
     scope: &Scope<'s, E>,
     rt: &'s R,
-    hub: &'s Hub<L>,
-    stage: &'s Stage<'s, G>,
+    stage: &'s Stage<'s, L, G>,
     cast: Cast<L>,
     rooms: Rooms<L, G>,
 ) -> Cast<L>
-    requires of_hub { AreOfHub hub.now cast.wires.items }
+    requires of_hub { AreOfHub stage.now.hub.now cast.wires.items }
     requires room_wires { (vec_len rooms.wires ≡ 0) × (vec_len cast.wires ≤ vec_capacity rooms.wires) }
     requires room_routers { (vec_len rooms.routers ≡ 0) × (vec_len cast.routers ≤ vec_capacity rooms.routers) }
     requires room_outputs { (vec_len rooms.outputs ≡ 0) × (vec_len cast.outputs ≤ vec_capacity rooms.outputs) }
@@ -259,8 +256,8 @@ fn run_all<'s, E, L: Charter + Send + Sync + 's, R: Threads + Wait + Sync, G: Ga
     ensures routers { AreSame itself cast.routers.items result.routers.items }
     ensures outputs { AreSame itself cast.outputs.items result.outputs.items }
     ensures clock { IsSameSeat cast.clock result.clock }
-    ensures of_hub { AreOfHub hub.now result.wires.items }
-    ensures halts { IfErr result.end (HaltsAs L.certified L.limit (MayStickAt (G.may_stick stage.now.gate.now))) }
+    ensures of_hub { AreOfHub stage.now.hub.now result.wires.items }
+    ensures halts { EndsAs L.certified L.limit (G.may_stick stage.now.gate.now) result.end }
 {
     let Cast {
         mut wires,
@@ -276,11 +273,10 @@ fn run_all<'s, E, L: Charter + Send + Sync + 's, R: Threads + Wait + Sync, G: Ga
     } = rooms;
     let buses = wires.len();
     let visitors = buses.saturating_add(routers.len());
-    let started = start_all(scope, rt, hub, stage, Ok(()), 0, &mut wires, &mut of_wires);
+    let started = start_all(scope, rt, stage, Ok(()), 0, &mut wires, &mut of_wires);
     let started = start_all(
         scope,
         rt,
-        hub,
         stage,
         started,
         buses,
@@ -290,24 +286,23 @@ fn run_all<'s, E, L: Charter + Send + Sync + 's, R: Threads + Wait + Sync, G: Ga
     let started = start_all(
         scope,
         rt,
-        hub,
         stage,
         started,
         visitors,
         &mut outputs,
         &mut of_outputs,
     );
-    let Done { seat: clock, end } = run_clock(rt, hub, stage, started, clock);
+    let Done { seat: clock, end } = run_clock(rt, stage, started, clock);
     let end = first(
-        join_all(rt, hub, stage.gate, &mut of_wires, &mut wires),
+        join_all(rt, stage.hub, stage.gate, &mut of_wires, &mut wires),
         end,
     );
     let end = first(
-        join_all(rt, hub, stage.gate, &mut of_routers, &mut routers),
+        join_all(rt, stage.hub, stage.gate, &mut of_routers, &mut routers),
         end,
     );
     let end = first(
-        join_all(rt, hub, stage.gate, &mut of_outputs, &mut outputs),
+        join_all(rt, stage.hub, stage.gate, &mut of_outputs, &mut outputs),
         end,
     );
     Cast {
@@ -322,12 +317,11 @@ fn run_all<'s, E, L: Charter + Send + Sync + 's, R: Threads + Wait + Sync, G: Ga
 /// Plays the script in a scope of threads.
 pub(crate) fn in_threads<L: Charter + Send + Sync, R: Threads + Wait + Sync, G: Gate>(
     rt: &R,
-    hub: &Hub<L>,
-    stage: &Stage<'_, G>,
+    stage: &Stage<'_, L, G>,
     cast: Cast<L>,
     rooms: Rooms<L, G>,
 ) -> Cast<L>
-    requires of_hub { AreOfHub hub.now cast.wires.items }
+    requires of_hub { AreOfHub stage.now.hub.now cast.wires.items }
     requires room_wires { (vec_len rooms.wires ≡ 0) × (vec_len cast.wires ≤ vec_capacity rooms.wires) }
     requires room_routers { (vec_len rooms.routers ≡ 0) × (vec_len cast.routers ≤ vec_capacity rooms.routers) }
     requires room_outputs { (vec_len rooms.outputs ≡ 0) × (vec_len cast.outputs ≤ vec_capacity rooms.outputs) }
@@ -336,14 +330,14 @@ pub(crate) fn in_threads<L: Charter + Send + Sync, R: Threads + Wait + Sync, G: 
     ensures routers { AreSame itself cast.routers.items result.routers.items }
     ensures outputs { AreSame itself cast.outputs.items result.outputs.items }
     ensures clock { IsSameSeat cast.clock result.clock }
-    ensures of_hub { AreOfHub hub.now result.wires.items }
-    ensures halts { IfErr result.end (HaltsAs L.certified L.limit (MayStickAt (G.may_stick stage.now.gate.now))) }
+    ensures of_hub { AreOfHub stage.now.hub.now result.wires.items }
+    ensures halts { EndsAs L.certified L.limit (G.may_stick stage.now.gate.now) result.end }
 {
     thread::scope(
         thread::scope_env(),
         rt,
         |scope| -> Cast<L>
-            requires of_hub { AreOfHub hub.now cast.wires.items }
+            requires of_hub { AreOfHub stage.now.hub.now cast.wires.items }
             requires room_wires { (vec_len rooms.wires ≡ 0) × (vec_len cast.wires ≤ vec_capacity rooms.wires) }
             requires room_routers { (vec_len rooms.routers ≡ 0) × (vec_len cast.routers ≤ vec_capacity rooms.routers) }
             requires room_outputs { (vec_len rooms.outputs ≡ 0) × (vec_len cast.outputs ≤ vec_capacity rooms.outputs) }
@@ -352,8 +346,8 @@ pub(crate) fn in_threads<L: Charter + Send + Sync, R: Threads + Wait + Sync, G: 
             ensures routers { AreSame itself cast.routers.items result.routers.items }
             ensures outputs { AreSame itself cast.outputs.items result.outputs.items }
             ensures clock { IsSameSeat cast.clock result.clock }
-            ensures of_hub { AreOfHub hub.entry.now result.wires.items }
-            ensures halts { IfErr result.end (HaltsAs L.certified L.limit (MayStickAt (G.may_stick stage.entry.now.gate.now))) }
-        { run_all(scope, rt, hub, stage, cast, rooms) },
+            ensures of_hub { AreOfHub stage.entry.now.hub.now result.wires.items }
+            ensures halts { EndsAs L.certified L.limit (G.may_stick stage.entry.now.gate.now) result.end }
+        { run_all(scope, rt, stage, cast, rooms) },
     )
 }

@@ -10,15 +10,15 @@ returns-in_err-started-clause-same g c =
 
 pub start-requires-after_bounds : goal.start-requires-after_bounds
 start-requires-after_bounds g c = λ κs bounds.
-    all-last (g.S.Player.is_of_hub c.args.hub.now) c.pop.new.self.items c.in-Some.seat (subst (All (g.S.Player.is_of_hub c.args.hub.now)) c.in-Some.ensures.items c.loop-seat.invariant.1)
+    all-last (g.S.Player.is_of_hub c.args.stage.now.hub.now) c.pop.new.self.items c.in-Some.seat (subst (All (g.S.Player.is_of_hub c.args.stage.now.hub.now)) c.in-Some.ensures.items c.loop-seat.invariant.1)
 
 pub loop-seat-preserved : goal.loop-seat-preserved
 loop-seat-preserved g c =
     let before = c.loop-seat.invariant in (
       handed c.loop-seat.children.items c.push_reserved.new.self.items c.in-Ok.child (λ h. h.promise.seat.value) c.args.seats.now.items c.loop-seat.seats.items c.pop.new.self.items c.in-Some.seat
           before.0 c.in-Some.ensures.items c.push_reserved.ensures.items c.in-Ok.ensures.ok.0,
-      all-before (g.S.Player.is_of_hub c.args.hub.now) c.pop.new.self.items c.in-Some.seat (subst (All (g.S.Player.is_of_hub c.args.hub.now)) c.in-Some.ensures.items before.1),
-      all-more (λ h. (h.promise.hub.value ≡ c.args.hub.now) × (h.promise.gate.value ≡ c.args.stage.now.gate.now)) c.loop-seat.children.items c.push_reserved.new.self.items c.in-Ok.child before.2 (c.in-Ok.ensures.ok.1, c.in-Ok.ensures.ok.2) c.push_reserved.ensures.items,
+      all-before (g.S.Player.is_of_hub c.args.stage.now.hub.now) c.pop.new.self.items c.in-Some.seat (subst (All (g.S.Player.is_of_hub c.args.stage.now.hub.now)) c.in-Some.ensures.items before.1),
+      all-more (λ h. (h.promise.hub.value ≡ c.args.stage.now.hub.now) × (h.promise.gate.value ≡ c.args.stage.now.gate.now)) c.loop-seat.children.items c.push_reserved.new.self.items c.in-Ok.child before.2 (c.in-Ok.ensures.ok.1, c.in-Ok.ensures.ok.2) c.push_reserved.ensures.items,
       omega (arith, before.3, c.in-Some.ensures.len, c.push_reserved.ensures.len),
       omega (arith, before.4, c.push_reserved.ensures.capacity),
       omega (arith, before.5, c.pop.ensures.capacity),
