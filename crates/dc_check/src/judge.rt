@@ -1,13 +1,13 @@
 //! Certificates that are judged to be accepted.
 
-ghost use Rattle.std.specs.Prelude.{◌≡◌, IfErr, IfOk};
+ghost use Rattle.std.specs.Prelude.{◌≡◌, None, Some, IfErr, IfOk, MatchResult};
 ghost use Rattle.std.specs.Arc.{arc_value};
 ghost use Rattle.dc_cert.specs.NamedRows.{named_rows};
 ghost use Rattle.dc_check.specs.Accepts.{Accepts};
 ghost use Rattle.dc_check.specs.Certified.{KeepsItsClaims};
 ghost use Rattle.dc_check.specs.Lent.{tables_of, certificate_of};
 ghost use Rattle.dc_check.specs.Placed.{IsPlaced};
-ghost use Rattle.dc_check.specs.Verdict.{IsVerdict};
+ghost use Rattle.dc_check.specs.Verdict.{verdict_of};
 
 use crate::certified::Certified;
 use crate::fault::CheckFault;
@@ -32,7 +32,8 @@ pub fn check(tables: Arc<Tables>, certificate: Certificate) -> Result<Certified,
     ensures claims { IfOk result (λ _. KeepsItsClaims (arc_value tables) (named_rows certificate)) }
     ensures lends { IfOk result (λ c. (tables_of c ≡ arc_value tables) × (certificate_of c ≡ certificate)) }
     ensures place { IfErr result (λ fault. IsPlaced (arc_value tables) fault) }
-    ensures exact { IsVerdict (arc_value tables) (named_rows certificate) result }
+    ensures exact { MatchResult result (λ _. verdict_of (arc_value tables) (named_rows certificate) ≡ None)
+        (λ fault. verdict_of (arc_value tables) (named_rows certificate) ≡ Some fault) }
 {
     match verdict(&tables, &certificate) {
         Err(fault) => Err(fault),

@@ -1,4 +1,5 @@
 pub mod Auditing
+pub mod ByWorkers
 pub mod Checking
 pub mod DecodeExits
 pub mod Finding
@@ -10,7 +11,6 @@ pub mod ReplayReports
 pub mod Reported
 pub mod Said
 pub mod Says
-pub mod Sharing
 pub mod Shown
 pub mod StepLemmas
 pub mod WordAhead

@@ -1,7 +1,7 @@
 use Rattle.std.proofs.Common.{◌≡◌, rules}
 use Rattle.std.specs.Arc.{arc_value}
 use Rattle.dc_cert.specs.NamedRows.{named_rows}
-use Rattle.dc_run.proofs.Sharing.{shared_accepted, shared_refused}
+use Rattle.dc_run.proofs.ByWorkers.{shared_accepted, shared_refused}
 use Rattle.dc_run.proofs.par.judge_by.Goals as goal
 
 pub returns-in-Ok-verdict_by-clause-answer : goal.returns-in-Ok-verdict_by-clause-answer
