@@ -9,3 +9,5 @@ pub mod TraceAnswers
 pub mod TraceSteps
 pub mod TraceNext
 mod HexValues
+mod FoundNames
+mod LinesAhead

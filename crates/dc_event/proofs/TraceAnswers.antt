@@ -80,7 +80,7 @@ trace_long t room number line b rest plain (inl h) = elim (eqb_tells b 10) [
 ]
 
 -- a reader that begins has the trace of the whole text ahead
-pub ahead_at_start : (t : TableRows) (limit : ℕ) (line : List ℕ) (held : Held) → line ≡ [] → held.bytes ≡ [] → held.room ≡ limit → (text : List ℕ)
-    → (let r : Reading = record { tables = t; line = line; held = held.bytes; room = held.room; number = 1; stopped = None } in ahead r (Some text)) ≡ Some (trace_of t limit text)
+pub ahead_at_start : (known t : TableRows) (limit : ℕ) (line : List ℕ) (held : Held) → known ≡ t → line ≡ [] → held.bytes ≡ [] → held.room ≡ limit → (text : List ℕ)
+    → (let r : Reading = record { tables = known; line = line; held = held.bytes; room = held.room; number = 1; stopped = None } in ahead r (Some text)) ≡ Some (trace_of t limit text)
 unfolding trace_of
-ahead_at_start t limit line held no_line none whole text = rw (no_line, none, whole, add-zero) refl
+ahead_at_start known t limit line held same no_line none whole text = rw (same, no_line, none, whole, add-zero) refl

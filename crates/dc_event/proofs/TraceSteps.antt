@@ -7,6 +7,7 @@ use Rattle.dc_device.specs.declared.reader.LineEnd.TheVariants.{Long, Whole}
 use Rattle.dc_device.specs.lemmas.LineLemmas.{NoFeed-append}
 use Rattle.dc_tables.specs.TableRows.{TableRows}
 use Rattle.dc_event.specs.TraceText.{Trace, ended_by, in_front, line_event}
+use Rattle.dc_event.specs.Ahead.{HoldsEvent}
 use Rattle.dc_event.specs.ReadingFits.{Fits}
 use Rattle.dc_event.specs.Reading.{IsOver, Reading, ReadsNext, Stays, StopsBehind, Tells, TellsEvent, ahead, no_more, stop_behind, reported_from, trace_from}
 use Rattle.dc_event.specs.declared.event.Event.{Event}
@@ -143,6 +144,12 @@ held_read t old new line whole read none (rest, e, plain, short, fits) passed ro
     let behind : drop (length whole + 1) (whole ++ 10 ∷ rest) ≡ rest = drop-append-add whole (10 ∷ rest) 1 in
     let left : new.bytes ≡ rest = passed ∙ ap (drop (length whole + 1)) e ∙ behind in
     inr (whole, (whole, e ∙ ap (λ (l : List ℕ). whole ++ 10 ∷ l) (sym left), ap (λ (l : List ℕ). l ++ whole) (sym none), plain, omega (arith, room)), short, says, none)
+
+-- the event of a line that stands whole among the held bytes
+pub event_read : (t : TableRows) (old new : Held) (line : List ℕ) (event : Event) (count : ℕ) → line ≡ [] → HoldsEvent t old event count
+    → new.bytes ≡ drop count old.bytes → count + new.room ≡ old.room → ReadsNext t old new line line (Some (Ok event))
+event_read t old new line event count none (whole, holds, long, says) passed room =
+    held_read t old new line whole (Ok event) none holds (passed ∙ ap (λ (n : ℕ). drop n old.bytes) (sym long)) (omega (arith, long)) (sym says)
 
 pub fits_more : (stopped : Option TraceStop) (line line' : List ℕ) (old new : Held) (number : ℕ) → stopped ≡ None → Fits stopped line old.room number
     → ReadsOn old new line line' None → Fits stopped line' new.room number

@@ -20,5 +20,7 @@ pub mod TraceFaults
 pub mod ReplyText
 pub mod Reading
 pub mod ReadingFits
+pub mod Names
+pub mod Ahead
 -- lemmas that laws and crates above cite
 pub mod lemmas

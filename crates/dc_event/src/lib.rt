@@ -1,10 +1,12 @@
 //! What a run of the concentrator means: its events and replies, and the definitions on which every theorem stands.
 #![tactic(auto)]
 
+mod ahead;
 mod event;
 mod fields;
 pub mod laws;
 mod line;
+mod names;
 mod trace;
 mod trace_lines;
 mod trace_reader;

@@ -84,7 +84,7 @@ fn is_letter(field: &[u8], letter: u8) -> bool
 }
 
 /// The number of the bus that a text names.
-fn bus_named(tables: &Tables, text: &[u8]) -> Option<usize>
+pub fn bus_named(tables: &Tables, text: &[u8]) -> Option<usize>
     ensures { result ≡ number_named tables.now.names.buses text.now }
 {
     let name = Name::new(text)?;
@@ -92,7 +92,7 @@ fn bus_named(tables: &Tables, text: &[u8]) -> Option<usize>
 }
 
 /// The number of the router that a text names.
-fn router_named(tables: &Tables, text: &[u8]) -> Option<usize>
+pub fn router_named(tables: &Tables, text: &[u8]) -> Option<usize>
     ensures { result ≡ number_named tables.now.names.routers text.now }
 {
     let name = Name::new(text)?;
@@ -100,7 +100,7 @@ fn router_named(tables: &Tables, text: &[u8]) -> Option<usize>
 }
 
 /// The number of the output that a text names.
-fn output_named(tables: &Tables, text: &[u8]) -> Option<usize>
+pub fn output_named(tables: &Tables, text: &[u8]) -> Option<usize>
     ensures { result ≡ number_named tables.now.names.outputs text.now }
 {
     let name = Name::new(text)?;

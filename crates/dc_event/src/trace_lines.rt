@@ -3,10 +3,13 @@ ghost use Rattle.std.specs.Prelude.{◌≡◌, ◌≢◌, ℕ, List, Option, [],
 ghost use Rattle.dc_device.specs.Device.{IsSnapshot};
 ghost use Rattle.dc_device.specs.States.{IsCountable};
 ghost use Rattle.dc_event.specs.TraceText.{trace_of};
+ghost use Rattle.dc_event.specs.Ahead.{HoldsEvent};
 ghost use Rattle.dc_event.specs.Reading.{AsksFor, IsOfLine, NeedsMore, ReadsNext, Stays, StopsBehind, Tells, ahead, at_start, failures_at, stop_behind, stop_of};
 
+use crate::ahead::event_ahead;
 use crate::event::Event;
 use crate::line::read_line;
+use crate::names::KnownNames;
 use crate::trace::{LineRule, TraceFault, TraceStop};
 use dc_device::{Line, LineEnd, LineReader, LineWriter, Sink, Source};
 use dc_tables::Tables;
@@ -29,10 +32,22 @@ fn end_inside(line: &[u8], number: u64) -> TraceStop
     }
 }
 
-/// The event of the next line, or its fault, as far as the held bytes go. A line is read where it stands if all of it
-/// is held; else its bytes are gathered.
+/// The event of the line that the held bytes begin with, and how many of them it takes, where that is told at once.
 #[inline(always)]
-fn read_next(
+fn event_held(names: &KnownNames, reader: &LineReader) -> Option<(Event, usize)>
+    ensures { IfSome result (λ held. HoldsEvent names.now reader.now held.0 held.1) }
+{
+    let (event, count) = event_ahead(names, reader.held())?;
+    if count as u64 > reader.room() {
+        return None;
+    }
+    Some((event, count))
+}
+
+/// The event of the next line, or its fault, as far as the held bytes go. A line is read where it stands if all of it
+/// is held; else its bytes are gathered. It serves the lines that are not told at once.
+#[inline(never)]
+fn read_any(
     tables: &Tables,
     reader: &mut LineReader,
     line: &mut Line,
@@ -57,11 +72,30 @@ fn read_next(
     }
 }
 
+/// The event of the next line, or its fault, as far as the held bytes go. An event that the held bytes tell at once is
+/// read where it stands.
+#[inline(always)]
+fn read_next(
+    names: &KnownNames,
+    reader: &mut LineReader,
+    line: &mut Line,
+) -> Option<Result<Event, LineRule>>
+    ensures { ReadsNext names.now reader.old reader.new line.old.items line.new.items result }
+{
+    if line.is_empty() {
+        if let Some((event, count)) = event_held(names, reader) {
+            reader.pass(count);
+            return Some(Ok(event));
+        }
+    }
+    read_any(names.tables(), reader, line)
+}
+
 /// Reads the lines of a trace in the bytes that it holds, and pulls where its owner says so: who knows when the source
 /// is asked, and can first show what was answered so far.
 #[derive(Drop)]
 pub struct TraceLines<'t> {
-    tables: &'t Tables,
+    names: KnownNames<'t>,
     reader: LineReader,
     line: Line,
     number: u64,
@@ -74,7 +108,7 @@ impl<'t> Model for TraceLines<'t> {
 
     ghost Value = { Reading };
 
-    ghost view = { λ r. record { tables = r.tables.now; line = r.line.items; held = r.reader.bytes; room = r.reader.room; number = r.number; stopped = r.stopped } };
+    ghost view = { λ r. record { tables = r.names; line = r.line.items; held = r.reader.bytes; room = r.reader.room; number = r.number; stopped = r.stopped } };
 
     ghost invariant = { λ r. Fits r.stopped r.line.items r.reader.room r.number };
 }
@@ -86,10 +120,11 @@ impl<'t> TraceLines<'t> {
         ensures start { result ≡ at_start tables.now limit }
         ensures whole { (text : List ℕ) → ahead result (Some text) ≡ Some (trace_of tables.now limit text) }
     {
+        let names = KnownNames::of(tables);
         let reader = LineReader::new(limit);
         let line = Line::new();
         TraceLines {
-            tables,
+            names,
             reader,
             line,
             number: 1,
@@ -112,7 +147,7 @@ impl<'t> TraceLines<'t> {
         if let Some(stop) = self.stopped {
             return Some(Err(stop));
         }
-        match read_next(self.tables, &mut self.reader, &mut self.line)? {
+        match read_next(&self.names, &mut self.reader, &mut self.line)? {
             Ok(event) => {
                 self.number += 1;
                 Some(Ok(event))

@@ -3,4 +3,4 @@ use Rattle.dc_event.proofs.trace_lines.TraceLines.new.Goals as goal
 
 pub returns-clause-whole : goal.returns-clause-whole
 returns-clause-whole c = λ text.
-    ahead_at_start c.args.tables.now c.args.limit c.new-line.result.items c.new-reader.result c.new-line.ensures c.new-reader.ensures.bytes c.new-reader.ensures.room text
+    ahead_at_start c.of-names.result c.args.tables.now c.args.limit c.new-line.result.items c.new-reader.result c.of-names.ensures c.new-line.ensures c.new-reader.ensures.bytes c.new-reader.ensures.room text
