@@ -21,7 +21,8 @@ fn broken_rule(tables: &Tables, certificate: &Certificate) -> Option<FindFault>
     requires inputs { AreInputRows tables.now (named_rows certificate.now).inputs }
     requires outputs { AreOutputRows tables.now (named_rows certificate.now).outputs }
     requires labels { AreLabelRows tables.now (named_rows certificate.now).inputs (named_rows certificate.now).labels }
-    ensures { MatchOption result ((x : ℕ) → x < length tables.now.labels → AcceptsLabel tables.now x (certificate_rows certificate.now)) (λ fault. IsFirstInTheWay tables.now fault) }
+    ensures { MatchOption result ((x : ℕ) → x < length tables.now.labels → AcceptsLabel tables.now x (certificate_rows certificate.now))
+        (λ fault. IsFirstInTheWay tables.now fault) }
 {
     tables.valid();
     let queues = tables.bus_count() + tables.output_count();

@@ -26,7 +26,8 @@ pub(crate) struct InputNumbers {
 
 /// The least window that closes, and the least delay; `None` where no window closes.
 fn least_times<A: ArrivalBound, S: ServiceBound>(arrivals: &A, service: &S) -> Option<Times>
-    ensures { MatchOption result (NeverCloses (A.cap arrivals.now) (S.floor service.now)) (λ t. AreLeastTimes (A.cap arrivals.now) (S.floor service.now) t.window t.delay) }
+    ensures { MatchOption result (NeverCloses (A.cap arrivals.now) (S.floor service.now))
+        (λ t. AreLeastTimes (A.cap arrivals.now) (S.floor service.now) t.window t.delay) }
 {
     let Some(window) = least_window(arrivals, service) else {
         return None;
@@ -46,7 +47,8 @@ pub(crate) fn least_input<A: ArrivalBound, S: ServiceBound>(
     requires there { bus < length tables.now.buses }
     requires arrivals { (d : ℕ) → A.cap arrivals.now d ≡ bus_cap tables.now bus d }
     requires service { (d : ℕ) → S.floor service.now d ≡ bus_floor tables.now bus d }
-    ensures { MatchOption result (NeverCloses (bus_cap tables.now bus) (bus_floor tables.now bus)) (λ n. AreLeastNumbers tables.now bus (record { window = n.times.window; backlog = n.backlog; delay = n.times.delay })) }
+    ensures { MatchOption result (NeverCloses (bus_cap tables.now bus) (bus_floor tables.now bus))
+        (λ n. AreLeastNumbers tables.now bus (record { window = n.times.window; backlog = n.backlog; delay = n.times.delay })) }
 {
     tables.valid();
     let Some(times) = least_times(arrivals, service) else {

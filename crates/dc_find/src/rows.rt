@@ -4,7 +4,8 @@ ghost use Rattle.std.specs.Prelude.{◌≡◌, ◌≢◌, ℕ, ◌+◌, ◌<◌,
 ghost use Rattle.dc_busy.specs.Least.{IsLeast};
 ghost use Rattle.dc_cert.specs.Bounds.{input_numbers, output_numbers};
 ghost use Rattle.dc_cert.specs.NamedRows.{named_input, named_output, named_label};
-ghost use Rattle.dc_find.specs.Rows.{IsInputRow, IsOutputRow, IsLabelRow, AreInputRows, AreOutputRows, AreLabelRows, HaveShortDelays, IsOldEnough, inputs_alone};
+ghost use Rattle.dc_find.specs.Rows.{IsInputRow, IsOutputRow, IsLabelRow, AreInputRows, AreOutputRows, AreLabelRows};
+ghost use Rattle.dc_find.specs.Rows.{HaveShortDelays, IsOldEnough, inputs_alone};
 ghost use Rattle.dc_find.specs.Ways.{IsFirstOfJob, IsFirstInTheWay, IsClearBelow};
 ghost use Rattle.dc_find.specs.declared.fault.FindFault.TheVariants.{Memory};
 ghost use Rattle.dc_document.specs.Names.{text_of};
