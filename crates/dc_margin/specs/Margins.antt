@@ -130,9 +130,21 @@ soon_margin_of gap minimum delay = margin_by (room gap (minimum + delay)) (Gap g
 abbrev pub late_margin_of : (gap maximum delay : ℕ) → Margin
 late_margin_of gap maximum delay = margin_by (room maximum (gap + delay)) (Gap gap)
 
+-- C08 of the label, where its output has this delay
+abbrev pub soon_margin : TableRows → (label delay : ℕ) → Option Margin
+soon_margin t x delay = told (is_delay delay) (soon_margin_of (least_label_gap (schedule_of t (label_row t x).output) x) (label_row t x).minimum delay)
+
+-- C09 of the label, where its output has this delay
+abbrev pub late_margin : TableRows → (label delay : ℕ) → Option Margin
+late_margin t x delay = told (is_delay delay) (late_margin_of (greatest_label_gap (schedule_of t (label_row t x).output) x) (label_row t x).maximum delay)
+
 -- C10: the age less the stale limit and the greatest delay of a source
 abbrev pub age_margin_of : (age stale delay source : ℕ) → Margin
 age_margin_of age stale delay source = margin_by (room age (stale + delay)) (Source source)
+
+-- C10 of the label, where it has this age
+abbrev pub age_margin : TableRows → CertificateRows → (label age : ℕ) → Option Margin
+age_margin t c x age = told (are_in_range t c x) (age_margin_of age (label_row t x).stale (source_delay t c (slowest_source t c x)) (slowest_source t c x))
 
 -- C11: the label's limit less the age
 abbrev pub age_limit_margin_of : (limit age : ℕ) → Margin
@@ -142,14 +154,18 @@ age_limit_margin_of limit age = margin_by (room limit age) Numbers
 abbrev pub fresh_margin_of : (stale silent source : ℕ) → Margin
 fresh_margin_of stale silent source = margin_by (room stale silent) (Source source)
 
+-- C12 of the label
+abbrev pub fresh_margin : TableRows → CertificateRows → (label : ℕ) → Option Margin
+fresh_margin t c x = told (are_in_range t c x) (fresh_margin_of (label_row t x).stale (silence t c (rarest_source t c x)) (rarest_source t c x))
+
 -- of the label of this number: its gaps with the delay of its output, its age and how fresh it is by the source that is worst for it
 abbrev pub label_margins_of : TableRows → ℕ → CertificateRows → LabelMargins
 label_margins_of t x c = record {
-  soon = told (is_delay (label_delay t c x)) (soon_margin_of (least_label_gap (schedule_of t (label_row t x).output) x) (label_row t x).minimum (label_delay t c x));
-  late = told (is_delay (label_delay t c x)) (late_margin_of (greatest_label_gap (schedule_of t (label_row t x).output) x) (label_row t x).maximum (label_delay t c x));
-  age = told (are_in_range t c x) (age_margin_of (slice_index c.ages x) (label_row t x).stale (source_delay t c (slowest_source t c x)) (slowest_source t c x));
+  soon = soon_margin t x (label_delay t c x);
+  late = late_margin t x (label_delay t c x);
+  age = age_margin t c x (slice_index c.ages x);
   age_limit = Some (age_limit_margin_of (label_row t x).age_limit (slice_index c.ages x));
-  fresh = told (are_in_range t c x) (fresh_margin_of (label_row t x).stale (silence t c (rarest_source t c x)) (rarest_source t c x));
+  fresh = fresh_margin t c x;
 }
 
 -- ---- which are negative

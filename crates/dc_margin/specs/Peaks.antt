@@ -1,6 +1,7 @@
 -- What may wait and what delay is needed, and where in a window it is greatest.
 use Rattle.std.specs.Prelude.{◌≡◌, ℕ, zero, suc, ◌+◌, ◌-◌, ◌≤◌, ◌<◌, Bool, if◌then◌else◌, nat_lt, nat_le}
 use Rattle.dc_busy.specs.declared.limits.TheConstants.{LONGEST_WINDOW}
+use Rattle.dc_margin.specs.declared.peaks.Peak.{Peak}
 
 -- h is the height of f at w, the first number from 1 to the window at which f is greatest
 pub record IsPeak (f : ℕ → ℕ) (window w h : ℕ) : Type 0 where
@@ -14,6 +15,10 @@ pub record IsPeak (f : ℕ → ℕ) (window w h : ℕ) : Type 0 where
 unfoldable pub peak : (ℕ → ℕ) → ℕ → ℕ
 peak f zero = 1
 peak f (suc n) = if nat_lt (f (peak f n)) (f (suc n)) then suc n else peak f n
+
+-- the peak so far; or this height at w, where it is above that
+abbrev pub higher : Peak → (w h : ℕ) → Peak
+higher peak w h = if nat_lt peak.height h then record { ticks = w; height = h } else peak
 
 -- how many more may come in w ticks than are taken in the whole ticks inside them, two less
 abbrev pub waiting : (cap floor : ℕ → ℕ) → ℕ → ℕ

@@ -3,11 +3,9 @@
 ghost use Rattle.std.specs.Prelude.{◌≡◌, ◌^◌, ◌≤◌, ◌<◌, length};
 ghost use Rattle.dc_cert.specs.Bounds.{certificate_rows};
 ghost use Rattle.dc_check.specs.Accepts.{source_delay};
-ghost use Rattle.dc_check.specs.Verdict.{is_delay};
-ghost use Rattle.dc_margin.specs.Margins.{told, margin_by, greater_of, slowest_source, rarest_source, silence, are_in_range, soon_margin_of, late_margin_of, age_margin_of, age_limit_margin_of, fresh_margin_of, label_margins_of};
+ghost use Rattle.dc_margin.specs.Margins.{margin_by, greater_of, slowest_source, rarest_source, silence, label_margins_of};
+ghost use Rattle.dc_margin.specs.Margins.{soon_margin, late_margin, age_margin, age_limit_margin_of, fresh_margin};
 ghost use Rattle.dc_margin.specs.declared.margin.Decider.TheVariants.{Gap, Source};
-ghost use Rattle.dc_tables.specs.TableRows.{label_row};
-ghost use Rattle.dc_transmit.specs.Schedule.{schedule_of, least_label_gap, greatest_label_gap};
 
 use crate::margin::{Decider, LabelMargins, Margin};
 use crate::queues::{difference, is_short, of_numbers};
@@ -62,7 +60,7 @@ fn source_margin(slack: i64, source: usize) -> Margin
 /// The margin of C08: the least gap less the least interval and the delay, in ticks.
 fn soon_margin(tables: &Tables, label: usize, delay: u32) -> Option<Margin>
     requires { label < length tables.now.labels }
-    ensures { result ≡ told (is_delay delay) (soon_margin_of (least_label_gap (schedule_of tables.now (label_row tables.now label).output) label) (label_row tables.now label).minimum delay) }
+    ensures { result ≡ soon_margin tables.now label delay }
 {
     if !is_short(delay) {
         return None;
@@ -78,7 +76,7 @@ fn soon_margin(tables: &Tables, label: usize, delay: u32) -> Option<Margin>
 /// The margin of C09: the greatest interval less the greatest gap and the delay, in ticks.
 fn late_margin(tables: &Tables, label: usize, delay: u32) -> Option<Margin>
     requires { label < length tables.now.labels }
-    ensures { result ≡ told (is_delay delay) (late_margin_of (greatest_label_gap (schedule_of tables.now (label_row tables.now label).output) label) (label_row tables.now label).maximum delay) }
+    ensures { result ≡ late_margin tables.now label delay }
 {
     if !is_short(delay) {
         return None;
@@ -94,9 +92,7 @@ fn late_margin(tables: &Tables, label: usize, delay: u32) -> Option<Margin>
 /// The margin of C10: the age less that of the oldest word from the slowest source, in ticks.
 fn age_margin(fitted: &Fitted<'_>, label: usize, age: u32) -> Option<Margin>
     requires there { label < length fitted.now.tables.now.labels }
-    ensures { let t = fitted.now.tables.now in
-        let c = certificate_rows fitted.now.certificate.now in
-        result ≡ told (are_in_range t c label) (age_margin_of age (label_row t label).stale (source_delay t c (slowest_source t c label)) (slowest_source t c label)) }
+    ensures { result ≡ age_margin fitted.now.tables.now (certificate_rows fitted.now.certificate.now) label age }
 {
     let source = slowest(fitted, label);
     let delay = delay_of(fitted, source);
@@ -110,9 +106,7 @@ fn age_margin(fitted: &Fitted<'_>, label: usize, age: u32) -> Option<Margin>
 /// The margin of C12: the stale limit less the longest time between two words of a source, in ticks.
 fn fresh_margin(fitted: &Fitted<'_>, label: usize) -> Option<Margin>
     requires there { label < length fitted.now.tables.now.labels }
-    ensures { let t = fitted.now.tables.now in
-        let c = certificate_rows fitted.now.certificate.now in
-        result ≡ told (are_in_range t c label) (fresh_margin_of (label_row t label).stale (silence t c (rarest_source t c label)) (rarest_source t c label)) }
+    ensures { result ≡ fresh_margin fitted.now.tables.now (certificate_rows fitted.now.certificate.now) label }
 {
     let delay = delay_of(fitted, slowest(fitted, label));
     if !is_short(delay) {

@@ -1,8 +1,8 @@
 //! Where in a window most may wait, and where the longest delay is needed.
 
-ghost use Rattle.std.specs.Prelude.{◌≡◌, ◌+◌, ◌-◌, ◌<◌, ◌≤◌, if◌then◌else◌, nat_lt};
+ghost use Rattle.std.specs.Prelude.{◌≡◌, ◌+◌, ◌-◌, ◌<◌, ◌≤◌};
 ghost use Rattle.dc_busy.specs.declared.limits.TheConstants.{LONGEST_WINDOW};
-ghost use Rattle.dc_margin.specs.Peaks.{IsPeak, waiting, needed};
+ghost use Rattle.dc_margin.specs.Peaks.{IsPeak, higher, needed, waiting};
 
 use dc_bound::{ArrivalBound, ServiceBound};
 use dc_busy::LONGEST_WINDOW;
@@ -51,7 +51,7 @@ pub fn peaks_of<A: ArrivalBound, S: ServiceBound>(arrivals: &A, service: &S, win
 
 /// The peak with this height at so many ticks, where it is above that so far.
 fn higher(peak: Peak, ticks: u32, height: u64) -> Peak
-    ensures { result ≡ (if nat_lt peak.height height then record { ticks = ticks; height = height } else peak) }
+    ensures { result ≡ higher peak ticks height }
 {
     if peak.height < height {
         Peak { ticks, height }
@@ -65,7 +65,7 @@ fn later<S: ServiceBound>(service: &S, peak: Peak, ticks: u32, most: u64) -> Pea
     requires some { 1 ≤ ticks }
     requires short { ticks ≤ LONGEST_WINDOW }
     requires low { peak.height ≤ LONGEST_WINDOW + 1 }
-    ensures { result ≡ (if nat_lt peak.height (needed (λ _. most) (S.floor service.now) ticks) then record { ticks = ticks; height = needed (λ _. most) (S.floor service.now) ticks } else peak) }
+    ensures { result ≡ higher peak ticks (needed (λ _. most) (S.floor service.now) ticks) }
 {
     if peak.height > u64::from(LONGEST_WINDOW) {
         return peak;

@@ -5,7 +5,8 @@ ghost use Rattle.dc_bound.specs.declared.limits.TheConstants.{GREATEST_CAP};
 ghost use Rattle.dc_busy.specs.declared.limits.TheConstants.{LONGEST_WINDOW};
 ghost use Rattle.dc_cert.specs.Bounds.{certificate_rows, input_bound, output_bound};
 ghost use Rattle.dc_check.specs.Verdict.{is_window, is_delay};
-ghost use Rattle.dc_margin.specs.Margins.{room, told, margin_by, by_window, window_margin_of, closing_margin_of, backlog_margin_of, queue_margin_of, delay_margin_of, delay_limit_margin_of, input_margins_of, output_margins_of};
+ghost use Rattle.dc_margin.specs.Margins.{room, told, margin_by, by_window, window_margin_of, closing_margin_of, backlog_margin_of, queue_margin_of};
+ghost use Rattle.dc_margin.specs.Margins.{delay_margin_of, delay_limit_margin_of, input_margins_of, output_margins_of};
 ghost use Rattle.dc_margin.specs.Margins.{input_margins_given, output_margins_given};
 ghost use Rattle.dc_margin.specs.declared.margin.Decider.TheVariants.{Numbers, Window};
 
