@@ -5,6 +5,7 @@ pub mod DecodeExits
 pub mod Finding
 pub mod LineAnswers
 pub mod Numbers
+pub mod Printed
 pub mod Recorded
 pub mod ReplayExits
 pub mod ReplayReports

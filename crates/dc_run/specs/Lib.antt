@@ -5,4 +5,5 @@ pub mod Find
 pub mod Refusals
 pub mod Replay
 pub mod Steps
+pub mod Printing
 pub mod Stages

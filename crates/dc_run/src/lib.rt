@@ -7,6 +7,7 @@ mod decode;
 mod find;
 mod obstacles;
 mod par;
+mod printer;
 mod recording;
 mod replay;
 mod replies;

@@ -16,7 +16,8 @@ ghost use Rattle.dc_run.specs.Refusals.{StopsBy, refused, stop_end};
 ghost use Rattle.dc_run.specs.Replay.{IsPrompt, ReportsReplay, ShowsTrace, WritesReplay, WritesTrace};
 ghost use Rattle.dc_run.specs.Steps.{StandsAt};
 
-use crate::replies::{is_printed, print_refused, print_step};
+use crate::printer::{NameTexts, Printer};
+use crate::replies::{is_printed, print_refused};
 use crate::steps::{Progress, Refusal, Step};
 use dc_answer::{Exit, Failure, Outcome, Unloaded, end_at, end_with, load, report};
 use dc_core::Core;
@@ -37,6 +38,7 @@ pub fn code_of(rule: LineRule) -> &'static [u8]
 }
 
 /// Pushes what waits, where the trace tells no more events.
+#[inline(never)]
 fn end_by<K: Sink>(
     stop: TraceStop,
     writer: &mut LineWriter,
@@ -63,6 +65,7 @@ fn end_by<K: Sink>(
 }
 
 /// Ends with the refusal of an event.
+#[inline(never)]
 fn end_refused<K: Sink>(
     tables: &Tables,
     refusal: Refusal,
@@ -86,6 +89,7 @@ fn end_refused<K: Sink>(
 }
 
 /// Ends with the first fault of the tables' text.
+#[inline(never)]
 fn end_unloaded<K: Sink>(
     fault: TableFault,
     writer: &mut LineWriter,
@@ -107,16 +111,18 @@ fn end_unloaded<K: Sink>(
 }
 
 /// Writes the line of a step, if it is printed.
+#[inline(always)]
 fn say<K: Sink>(
     writer: &mut LineWriter,
     sink: &mut K,
-    tables: &Tables,
+    names: &NameTexts,
+    printer: &mut Printer,
     all: bool,
     step: Step,
 ) -> Result<(), Failure>
     requires { CanFail (K.state sink.old) }
     ensures bytes { Gathers (K.state sink.old).contents writer.old (K.state sink.new).contents writer.new
-        (spelled (cond (all || is_reported step.reply) (reply_line tables.now step.tick step.event step.reply ∷ []) [])) result }
+        (spelled (cond (all || is_reported step.reply) (reply_line names.now step.tick step.event step.reply ∷ []) [])) result }
     ensures count { (K.state sink.new).failed ≡ (K.state sink.old).failed + failures_of result }
     ensures sink { IfErr result (λ e. e ≡ Failure.Sink) }
     ensures last { IfErr result (λ e. (K.state sink.new).last_failed ≡ true) }
@@ -125,9 +131,8 @@ fn say<K: Sink>(
     if !is_printed(all, step.reply) {
         return Ok(());
     }
-    let mut text = Text::new();
-    print_step(&mut text, tables, step);
-    match writer.line(sink, text.as_slice()) {
+    printer.print(names, step);
+    match writer.line_by(sink, &printer.line) {
         Ok(()) => Ok(()),
         Err(_) => Err(Failure::Sink),
     }
@@ -160,6 +165,8 @@ fn answer<S: Source, K: Sink>(
     ensures sink { (K.state sink.new).failed ≡ (K.state sink.old).failed + sink_failures_of result }
 {
     let mut lines = TraceLines::new(tables, TRACE_LIMIT);
+    let names = NameTexts::of(tables);
+    let mut printer = Printer::new();
     loop {
         match lines.advance() {
             None => match writer.flush(sink) {
@@ -169,7 +176,7 @@ fn answer<S: Source, K: Sink>(
             Some(Err(stop)) => return end_by(stop, writer, sink),
             Some(Ok(event)) => match progress.step(event) {
                 Err(refusal) => return end_refused(tables, refusal, writer, sink),
-                Ok(step) => match say(writer, sink, tables, all, step) {
+                Ok(step) => match say(writer, sink, &names, &mut printer, all, step) {
                     Err(failure) => return Err(failure),
                     Ok(()) => {}
                 },

@@ -1,31 +1,16 @@
-//! The printed lines of replies and of refusals.
+//! The printed lines of refusals, and which replies are printed.
 ghost use Rattle.std.specs.Prelude.{◌≡◌, ◌++◌, ◌+◌, ◌≤◌, ◌||◌, length, codes, decimal};
 ghost use Rattle.arrayvec.specs.ArrayVec.{array_vec_len};
-ghost use Rattle.dc_event.specs.ReplyText.{arrival_text, is_reported as is_reported_reply, name_at, reply_line, routing_text, sending_text};
-ghost use Rattle.dc_event.specs.WordText.{eight_hex};
+ghost use Rattle.dc_event.specs.ReplyText.{is_reported as is_reported_reply, name_at};
 ghost use Rattle.dc_run.specs.Refusals.{actor_name, cause_text, culprit_text, refused_text};
 ghost use Rattle.dc_document.specs.declared.limits.TheConstants.{NAME_LIMIT};
 ghost use Rattle.dc_print.specs.declared.text.TheConstants.{TEXT_CAPACITY};
 
-use crate::steps::{Refusal, Step};
+use crate::steps::Refusal;
 use dc_core::StepFault;
 use dc_event::{Actor, Event, Reply};
-use dc_print::{Text, append, append_number, hex_8};
+use dc_print::{Text, append, append_number};
 use dc_tables::Tables;
-use dc_word::Word;
-
-/// The text of a bus's name.
-fn bus_text(tables: &Tables, bus: usize) -> &[u8]
-    ensures text { result.now ≡ name_at tables.now.names.buses bus }
-    ensures short { length result.now ≤ NAME_LIMIT }
-{
-    tables.named();
-    if bus < tables.bus_count() {
-        tables.bus_name(bus).text()
-    } else {
-        b""
-    }
-}
 
 /// The text of a router's name.
 fn router_text(tables: &Tables, router: usize) -> &[u8]
@@ -50,93 +35,6 @@ fn output_text(tables: &Tables, output: usize) -> &[u8]
         tables.output_name(output).text()
     } else {
         b""
-    }
-}
-
-/// Puts words and an ARINC word at the end.
-fn append_word(text: &mut Text, words: &[u8], word: Word)
-    requires { array_vec_len text.old + length words.now + 8 ≤ TEXT_CAPACITY }
-    ensures { text.new.items ≡ text.old.items ++ words.now ++ eight_hex word }
-{
-    append(text, words);
-    append(text, &hex_8(word.bits()));
-}
-
-/// Puts an arrival's reply at the end.
-fn append_arrival(text: &mut Text, word: Word, reply: Reply)
-    requires { array_vec_len text.old + 30 ≤ TEXT_CAPACITY }
-    ensures { text.new.items ≡ text.old.items ++ arrival_text word reply }
-{
-    match reply {
-        Reply::Queued(backlog) => {
-            append(text, b" queued ");
-            append_number(text, u64::from(backlog));
-        }
-        Reply::BadParity => append_word(text, b" parity ", word),
-        Reply::Undeclared => append_word(text, b" undeclared ", word),
-        Reply::TooEarly => append_word(text, b" early ", word),
-        Reply::Overrun => append_word(text, b" overrun ", word),
-        Reply::Latched => append_word(text, b" latched ", word),
-        _ => {}
-    }
-}
-
-/// Puts a routing step's reply at the end.
-fn append_routing(text: &mut Text, tables: &Tables, reply: Reply)
-    requires { array_vec_len text.old + 40 ≤ TEXT_CAPACITY }
-    ensures { text.new.items ≡ text.old.items ++ routing_text tables.now reply }
-{
-    match reply {
-        Reply::Took(word, bus) => {
-            append(text, b" took ");
-            append(text, bus_text(tables, bus));
-            append_word(text, b" ", word);
-        }
-        Reply::Empty(bus) => {
-            append(text, b" empty ");
-            append(text, bus_text(tables, bus));
-        }
-        _ => {}
-    }
-}
-
-/// Puts a send's reply at the end.
-fn append_sending(text: &mut Text, reply: Reply)
-    requires { array_vec_len text.old + 30 ≤ TEXT_CAPACITY }
-    ensures { text.new.items ≡ text.old.items ++ sending_text reply }
-{
-    match reply {
-        Reply::Sent(_, word) => append_word(text, b" ", word),
-        Reply::Idle => append(text, b" idle"),
-        _ => {}
-    }
-}
-
-/// The line of a step.
-#[tactic(auto, unfolding(dc_event::specs::ReplyText::reply_line))]
-pub fn print_step(text: &mut Text, tables: &Tables, step: Step)
-    ensures { text.new.items ≡ reply_line tables.now step.tick step.event step.reply }
-{
-    let Step { tick, event, reply } = step;
-    text.clear();
-    append_number(text, tick);
-    match event {
-        Event::Tick => append(text, b" tick"),
-        Event::Arrive(word, bus) => {
-            append(text, b" ");
-            append(text, bus_text(tables, bus));
-            append_arrival(text, word, reply);
-        }
-        Event::Route(router) => {
-            append(text, b" ");
-            append(text, router_text(tables, router));
-            append_routing(text, tables, reply);
-        }
-        Event::Send(output) => {
-            append(text, b" ");
-            append(text, output_text(tables, output));
-            append_sending(text, reply);
-        }
     }
 }
 

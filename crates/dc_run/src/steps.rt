@@ -43,6 +43,7 @@ pub struct Refusal {
 }
 
 /// The tick after an event.
+#[inline(always)]
 fn tick_behind(tick: u64, event: &Event) -> u64
     requires { tick + 1 < 2 ^ 64 }
     ensures { result ≡ tick + ends event.now }
@@ -58,6 +59,7 @@ impl Progress {
     ///
     /// # Errors
     /// Exactly where it may not follow the events before it.
+    #[inline(always)]
     pub fn step(&mut self, event: Event) -> Result<Step, Refusal>
         requires early { self.old.tick ≤ LAST_TICK }
         requires number { self.old.number + 1 < 2 ^ 64 }

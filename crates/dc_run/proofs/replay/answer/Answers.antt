@@ -63,8 +63,9 @@ returns-in-Err-step-clause-answer g c =
 pub returns-in-Err-say-clause-answer : goal.returns-in-Err-say-clause-answer
 returns-in-Err-say-clause-answer g c =
     let reported = rw c.in-Some-Ok.field-0-is at (c.in-Some-Ok.ensures.reported (g.S.Source.state c.loop-writer.trace).remaining) in
+    let bytes = rw c.of-names.ensures at c.in-Err-say.ensures.bytes in
     say_ends _ _ _ _ _ _ _ c.step.new.self _ _ _ _ c.say.new.writer c.in-Some-Ok.event c.in-Ok-step.step c.in-Err-say.failure
-    c.loop-writer.invariant.rows c.loop-writer.invariant.said reported c.in-Ok-step.ensures.step c.in-Err-say.ensures.bytes.0 c.in-Err-say.ensures.sink
+    c.loop-writer.invariant.rows c.loop-writer.invariant.said reported c.in-Ok-step.ensures.step bytes.0 c.in-Err-say.ensures.sink
 
 pub loop-writer-preserved : goal.loop-writer-preserved
 loop-writer-preserved g c =
@@ -74,8 +75,9 @@ loop-writer-preserved g c =
     let shorter = rw c.in-Some-Ok.field-0-is at c.in-Some-Ok.ensures.shorter in
     let ran = not_stopped _ _ c.in-Some-Ok.event _ _ c.in-Some-Ok.field-0-is c.in-Some-Ok.ensures.again in
     let steps = c.in-Ok-step.ensures.step before.said.done before.said.at in
+    let bytes = rw c.of-names.ensures at c.in-Ok-say.ensures.bytes in
     record {
-      said = said_next _ _ _ _ _ _ _ _ _ _ _ _ _ c.in-Some-Ok.event c.in-Ok-step.step before.rows before.said reported c.in-Ok-step.ensures.step c.in-Ok-say.ensures.bytes;
+      said = said_next _ _ _ _ _ _ _ _ _ _ _ _ _ c.in-Some-Ok.event c.in-Ok-step.step before.rows before.said reported c.in-Ok-step.ensures.step bytes;
       rows = c.in-Ok-step.ensures.rows ∙ before.rows;
       early = step_early _ _ _ _ _ steps;
       within = omega (arith, before.within, shorter, step_count _ _ _ _ _ _ before.said.at steps);
