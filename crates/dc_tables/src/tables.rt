@@ -6,7 +6,7 @@ ghost use Rattle.dc_tables.specs.Declares.{declares, stream_of, fits};
 
 use crate::alike::BusBounds;
 use crate::bounds::{FrameOffsets, piece, wire_of};
-use crate::index::{NameIndex, Names};
+use crate::index::Names;
 use crate::made::{Rows, make_kept};
 use crate::rows::{Bus, Output, OutputLabel, Router, Stream};
 use dc_bound::{Alike, ArrivalBound, Capped, Cyclic, Paced, ServiceBound, SumOf, Visits};
@@ -19,31 +19,24 @@ use std::marker::Model;
 #[derive(Drop)]
 pub struct Tables {
     tick_us: u32,
-    buses: Vec<Bus>,
-    streams: Vec<Stream>,
-    routers: Vec<Router>,
-    outputs: Vec<Output>,
-    labels: Vec<OutputLabel>,
+    rows: Rows,
+    names: Names,
     bounds: Vec<BusBounds>,
     offsets: Vec<FrameOffsets>,
-    bus_names: NameIndex,
-    stream_names: NameIndex,
-    router_names: NameIndex,
-    output_names: NameIndex,
-    label_names: NameIndex,
 }
 
 impl Model for Tables {
     ghost use Rattle.std.specs.Prelude.{◌≡◌};
     ghost use Rattle.dc_tables.specs.TableRows.{TableRows};
-    ghost use Rattle.dc_tables.specs.Bounds.{AreBounds, frame_offsets};
+    ghost use Rattle.dc_tables.specs.Bounds.{AreBounds, frame_offsets, table_names, table_rows};
     ghost use Rattle.dc_tables.specs.Named.{AreSound};
 
     ghost Value = { TableRows };
 
-    ghost view = { λ t. record { tick_us = t.tick_us; buses = t.buses.items; streams = t.streams.items; routers = t.routers.items; outputs = t.outputs.items; labels = t.labels.items; names = record { buses = t.bus_names; streams = t.stream_names; routers = t.router_names; outputs = t.output_names; labels = t.label_names } } };
+    ghost view = { λ t. table_rows t.tick_us (table_names t.names) t.rows };
 
-    ghost invariant = { λ t. AreBounds t.bounds.items t.buses.items t.streams.items × (t.offsets.items ≡ frame_offsets t.outputs.items) × AreSound (record { tick_us = t.tick_us; buses = t.buses.items; streams = t.streams.items; routers = t.routers.items; outputs = t.outputs.items; labels = t.labels.items; names = record { buses = t.bus_names; streams = t.stream_names; routers = t.router_names; outputs = t.output_names; labels = t.label_names } }) };
+    ghost invariant = { λ t. AreBounds t.bounds.items t.rows.buses.items t.rows.streams.items × (t.offsets.items ≡ frame_offsets t.rows.outputs.items)
+        × AreSound (table_rows t.tick_us (table_names t.names) t.rows) };
 }
 
 impl Tables {
@@ -61,18 +54,10 @@ impl Tables {
         let kept = make_kept(alloc, &rows)?;
         Ok(Tables {
             tick_us,
-            buses: rows.buses,
-            streams: rows.streams,
-            routers: rows.routers,
-            outputs: rows.outputs,
-            labels: rows.labels,
+            rows,
+            names,
             bounds: kept.bounds,
             offsets: kept.offsets,
-            bus_names: names.buses,
-            stream_names: names.streams,
-            router_names: names.routers,
-            output_names: names.outputs,
-            label_names: names.labels,
         })
     }
 
@@ -80,35 +65,35 @@ impl Tables {
     pub fn bus_named(&self, name: &Name) -> Option<usize>
         ensures { result ≡ number_of self.now.names.buses name.now }
     {
-        self.bus_names.number_of(name)
+        self.names.buses.number_of(name)
     }
 
     /// The number of the router of this name, from 0, where it is there.
     pub fn router_named(&self, name: &Name) -> Option<usize>
         ensures { result ≡ number_of self.now.names.routers name.now }
     {
-        self.router_names.number_of(name)
+        self.names.routers.number_of(name)
     }
 
     /// The number of the output of this name, from 0, where it is there.
     pub fn output_named(&self, name: &Name) -> Option<usize>
         ensures { result ≡ number_of self.now.names.outputs name.now }
     {
-        self.output_names.number_of(name)
+        self.names.outputs.number_of(name)
     }
 
     /// The number of the stream of this name among the streams of all buses, from 0, where it is there.
     pub fn stream_named(&self, name: &Name) -> Option<usize>
         ensures { result ≡ number_of self.now.names.streams name.now }
     {
-        self.stream_names.number_of(name)
+        self.names.streams.number_of(name)
     }
 
     /// The number of the label of this name among the labels of all outputs, from 0, where it is there.
     pub fn label_named(&self, name: &Name) -> Option<usize>
         ensures { result ≡ number_of self.now.names.labels name.now }
     {
-        self.label_names.number_of(name)
+        self.names.labels.number_of(name)
     }
 
     /// The name of a bus.
@@ -116,7 +101,7 @@ impl Tables {
         requires { bus < length self.now.buses }
         ensures { result.now ≡ slice_index_or self.now.names.buses bus [] }
     {
-        self.bus_names.name(bus)
+        self.names.buses.name(bus)
     }
 
     /// The name of a stream.
@@ -124,7 +109,7 @@ impl Tables {
         requires { stream < length self.now.streams }
         ensures { result.now ≡ slice_index_or self.now.names.streams stream [] }
     {
-        self.stream_names.name(stream)
+        self.names.streams.name(stream)
     }
 
     /// The name of a router.
@@ -132,7 +117,7 @@ impl Tables {
         requires { router < length self.now.routers }
         ensures { result.now ≡ slice_index_or self.now.names.routers router [] }
     {
-        self.router_names.name(router)
+        self.names.routers.name(router)
     }
 
     /// The name of an output.
@@ -140,7 +125,7 @@ impl Tables {
         requires { output < length self.now.outputs }
         ensures { result.now ≡ slice_index_or self.now.names.outputs output [] }
     {
-        self.output_names.name(output)
+        self.names.outputs.name(output)
     }
 
     /// The name of a label, of its number among the labels of all outputs.
@@ -148,7 +133,7 @@ impl Tables {
         requires { label < length self.now.labels }
         ensures { result.now ≡ slice_index_or self.now.names.labels label [] }
     {
-        self.label_names.name(label)
+        self.names.labels.name(label)
     }
 
     /// Each row has its name, and the names of a kind differ. The call does nothing.
@@ -178,35 +163,35 @@ impl Tables {
     pub fn bus_count(&self) -> usize
         ensures { result ≡ length self.now.buses }
     {
-        self.buses.len()
+        self.rows.buses.len()
     }
 
     /// How many streams all buses have, at most [`MOST_STREAMS`](dc_document::MOST_STREAMS).
     pub fn stream_count(&self) -> usize
         ensures { result ≡ length self.now.streams }
     {
-        self.streams.len()
+        self.rows.streams.len()
     }
 
     /// How many routers there are, at most [`MOST_ROUTERS`](dc_document::MOST_ROUTERS).
     pub fn router_count(&self) -> usize
         ensures { result ≡ length self.now.routers }
     {
-        self.routers.len()
+        self.rows.routers.len()
     }
 
     /// How many outputs there are, at most [`MOST_OUTPUTS`](dc_document::MOST_OUTPUTS).
     pub fn output_count(&self) -> usize
         ensures { result ≡ length self.now.outputs }
     {
-        self.outputs.len()
+        self.rows.outputs.len()
     }
 
     /// How many labels all outputs have, at most [`MOST_LABELS`](dc_document::MOST_LABELS).
     pub fn label_count(&self) -> usize
         ensures { result ≡ length self.now.labels }
     {
-        self.labels.len()
+        self.rows.labels.len()
     }
 
     /// The row of a bus.
@@ -214,7 +199,7 @@ impl Tables {
         requires { bus < length self.now.buses }
         ensures { result.now ≡ bus_row self.now bus }
     {
-        let Tables { buses, .. } = self;
+        let Rows { buses, .. } = &self.rows;
         &buses[bus]
     }
 
@@ -223,7 +208,7 @@ impl Tables {
         requires { stream < length self.now.streams }
         ensures { result.now ≡ stream_row self.now stream }
     {
-        &self.streams[stream]
+        &self.rows.streams[stream]
     }
 
     /// The row of a router.
@@ -231,7 +216,7 @@ impl Tables {
         requires { router < length self.now.routers }
         ensures { result.now ≡ router_row self.now router }
     {
-        let Tables { routers, .. } = self;
+        let Rows { routers, .. } = &self.rows;
         &routers[router]
     }
 
@@ -240,7 +225,7 @@ impl Tables {
         requires { output < length self.now.outputs }
         ensures { result.now ≡ output_row self.now output }
     {
-        let Tables { outputs, .. } = self;
+        let Rows { outputs, .. } = &self.rows;
         &outputs[output]
     }
 
@@ -249,7 +234,7 @@ impl Tables {
         requires { label < length self.now.labels }
         ensures { result.now ≡ label_row self.now label }
     {
-        &self.labels[label]
+        &self.rows.labels[label]
     }
 
     /// The capacity of a bus's queue in words, 1 to [`GREATEST_QUEUE`](dc_bound::GREATEST_QUEUE).
@@ -257,7 +242,7 @@ impl Tables {
         requires { bus < length self.now.buses }
         ensures { result ≡ (bus_row self.now bus).queue }
     {
-        self.buses[bus].queue
+        self.rows.buses[bus].queue
     }
 
     /// The number of a stream's bus.
@@ -266,7 +251,7 @@ impl Tables {
         ensures bus { result ≡ (stream_row self.now stream).bus }
         ensures there { result < length self.now.buses }
     {
-        self.streams[stream].bus
+        self.rows.streams[stream].bus
     }
 
     /// What a bus may bring in so many ticks, in words: the lesser of its streams' sum and its wire's, or its streams'
@@ -275,7 +260,7 @@ impl Tables {
         requires { bus < length self.now.buses }
         ensures { (d : ℕ) → ⟦<Capped<SumOf<'static, Alike>> as ArrivalBound>⟧.cap result d ≡ bus_cap self.now bus d }
     {
-        let row = &self.buses[bus];
+        let row = &self.rows.buses[bus];
         let streams = SumOf::new(0, self.bounds[bus].as_slice());
         Capped::new(streams, wire_of(self.tick_us, row))
     }
@@ -285,7 +270,7 @@ impl Tables {
         requires { bus < length self.now.buses }
         ensures { (d : ℕ) → ⟦<Visits<'static> as ServiceBound>⟧.floor result d ≡ bus_floor self.now bus d }
     {
-        let row = &self.routers[self.buses[bus].router];
+        let row = &self.rows.routers[self.rows.buses[bus].router];
         let pace = Paced::new(row.steps, row.within);
         Visits::new(pace, row.visits.as_slice(), bus)
     }
@@ -295,7 +280,7 @@ impl Tables {
         requires { output < length self.now.outputs }
         ensures { (d : ℕ) → ⟦<Cyclic<'static> as ArrivalBound>⟧.cap result d ≡ output_cap self.now output d }
     {
-        let row = &self.outputs[output];
+        let row = &self.rows.outputs[output];
         let own = &self.offsets[output];
         Cyclic::new(row.frame, own.as_slice())
     }
@@ -305,7 +290,7 @@ impl Tables {
         requires { output < length self.now.outputs }
         ensures { (d : ℕ) → ⟦<Paced as ServiceBound>⟧.floor result d ≡ output_floor self.now output d }
     {
-        let own = &self.outputs[output];
+        let own = &self.rows.outputs[output];
         Paced::new(own.steps, own.within)
     }
 
@@ -317,7 +302,7 @@ impl Tables {
         ensures there { result.0 < length self.now.buses }
         ensures next { result.1 ≡ (cursor % length (router_row self.now router).visits + 1) % length (router_row self.now router).visits }
     {
-        let row = &self.routers[router];
+        let row = &self.rows.routers[router];
         let visits = row.visits.as_slice();
         let len = visits.len();
         let at = cursor % len;
@@ -330,8 +315,8 @@ impl Tables {
         requires { bus < length self.now.buses }
         ensures { result.now ≡ bus_streams self.now bus }
     {
-        let row = &self.buses[bus];
-        piece(&self.streams, row.first, row.streams)
+        let row = &self.rows.buses[bus];
+        piece(&self.rows.streams, row.first, row.streams)
     }
 
     /// The number of the stream of the bus that declares the word; a bus that is not there has none.

@@ -10,7 +10,7 @@ use Rattle.dc_tables.proofs.tables.Tables.bus_bound.Goals as goal
 
 pub index-requires : goal.index-requires
 index-requires c =
-    omega (arith, ap (λ (t : TableRows). length t.buses) c.self.view_is, c.requires, bounds_length c.self.inside.bounds.items c.self.inside.buses.items c.self.inside.streams.items c.self.invariant.0)
+    omega (arith, ap (λ (t : TableRows). length t.buses) c.self.view_is, c.requires, bounds_length c.self.inside.bounds.items c.self.inside.rows.buses.items c.self.inside.rows.streams.items c.self.invariant.0)
 
 pub new-streams-requires : goal.new-streams-requires
 new-streams-requires c =
