@@ -127,7 +127,8 @@ pub fn report<K: Sink>(
     ensures answered { (K.state sink.new).answered ≡ (K.state sink.old).answered }
     ensures quiet { IfOk ended (λ outcome. (K.state sink.new).failed ≡ (K.state sink.old).failed) }
     ensures silent { ended ≡ Err Failure.Sink → sink.new ≡ sink.old }
-    ensures left { (before : ℕ) → (K.state sink.old).failed ≡ before + sink_failures_of ended → SettlesBy ended (K.state sink.old).last_failed (K.state sink.old).hidden
+    ensures left { (before : ℕ) → (K.state sink.old).failed ≡ before + sink_failures_of ended
+        → SettlesBy ended (K.state sink.old).last_failed (K.state sink.old).hidden
         → LeavesSink before (K.state sink.new).failed (K.state sink.new).last_failed (K.state sink.new).hidden }
 {
     match ended {

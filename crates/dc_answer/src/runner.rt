@@ -95,13 +95,15 @@ pub fn run<H, G: Given, J: Judge<H, (), G>, K: Sink>(
     requires may { J.may_judge engine.now }
     requires sources { AreCountable (G.states given.old) }
     requires sink { CanFail (K.state sink.old) }
-    ensures reports { (texts : List (List ℕ)) → AreTexts (G.states given.old) texts → ReportsJudged (J.answers engine.now tt texts) (J.starts_threads engine.now)
+    ensures reports { (texts : List (List ℕ)) → AreTexts (G.states given.old) texts
+        → ReportsJudged (J.answers engine.now tt texts) (J.starts_threads engine.now)
         (G.states given.old) (G.states given.new) (K.state sink.old) (K.state sink.new) result }
     ensures reported { ReportsSome Any (J.starts_threads engine.now) (G.states given.old) (G.states given.new) (K.state sink.old) (K.state sink.new) result }
     ensures asks { AskUpTo (J.limits engine.now) (G.states given.old) (G.states given.new) }
     ensures order { OnlyAfter (J.goes_on engine.now tt) (G.states given.old) (λ k. G.kept k given.old given.new) }
     ensures left { Leaves (K.state sink.old) (K.state sink.new) }
-    ensures quiet { result ≢ Exit.Failed → failures (G.states given.new) + (K.state sink.new).failed ≡ failures (G.states given.old) + (K.state sink.old).failed }
+    ensures quiet { result ≢ Exit.Failed → failures (G.states given.new) + (K.state sink.new).failed
+        ≡ failures (G.states given.old) + (K.state sink.old).failed }
     ensures lent { G.lent given.new ≡ G.lent given.old }
 {
     let mut page = Page::new(alloc);

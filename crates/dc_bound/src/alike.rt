@@ -28,7 +28,8 @@ impl Alike {
         ensures sources { result.sources ≡ sources }
         ensures each { result.each ≡ each }
         ensures cap { (d : ℕ) → ⟦<Alike as ArrivalBound>⟧.cap result d ≡ sources * jitter_cap each.minimum each.jitter d }
-        ensures allows { (xs : List (ℕ × ℕ)) → ⟦<Alike as ArrivalBound>⟧.allows result xs ↔ HoldsCap (λ d. sources * jitter_cap each.minimum each.jitter d) (ticks_of xs) }
+        ensures allows { (xs : List (ℕ × ℕ)) → ⟦<Alike as ArrivalBound>⟧.allows result xs
+            ↔ HoldsCap (λ d. sources * jitter_cap each.minimum each.jitter d) (ticks_of xs) }
     {
         Alike { sources, each }
     }
@@ -50,7 +51,8 @@ impl ArrivalBound for Alike {
 
     ghost cap_zero = { λ x. multiple_zero x.sources 0 refl };
 
-    ghost cap_monotone = { λ x d e h. multiple_mono x.sources (jitter_cap x.each.minimum x.each.jitter d) (jitter_cap x.each.minimum x.each.jitter e) (jitter_cap-mono x.each.minimum x.each.jitter d e x.each.positive h) };
+    ghost cap_monotone = { λ x d e h. multiple_mono x.sources (jitter_cap x.each.minimum x.each.jitter d) (jitter_cap x.each.minimum x.each.jitter e)
+        (jitter_cap-mono x.each.minimum x.each.jitter d e x.each.positive h) };
 
     ghost cap_bounded = { λ x d h. multiple_bounded x.sources x.each.minimum x.each.jitter d x.few x.each.positive x.each.small h };
 

@@ -183,7 +183,8 @@ impl<'a, B: ArrivalBound> SumOf<'a, B> {
     pub fn new(first: usize, members: &'a [B]) -> SumOf<'a, B>
         requires { sum_by (λ (b : B). B.cap b LONGEST_SPAN) members.now ≤ GREATEST_CAP }
         ensures cap { (d : ℕ) → ⟦<SumOf<'a, B> as ArrivalBound>⟧.cap result d ≡ sum_by (λ (b : B). B.cap b d) members.now }
-        ensures allows { (xs : List (ℕ × ℕ)) → ⟦<SumOf<'a, B> as ArrivalBound>⟧.allows result xs ↔ SumAllows (λ (b : B) ys. B.allows b ys) first members.now xs }
+        ensures allows { (xs : List (ℕ × ℕ)) → ⟦<SumOf<'a, B> as ArrivalBound>⟧.allows result xs
+            ↔ SumAllows (λ (b : B) ys. B.allows b ys) first members.now xs }
     {
         SumOf { first, members }
     }
@@ -219,9 +220,11 @@ impl<'a, B: ArrivalBound> ArrivalBound for SumOf<'a, B> {
 
     ghost cap_bounded = { λ x d h. sum_bounded (λ (b : B) (n : ℕ). B.cap b n) (λ b m n k. B.cap_monotone b m n k) x.members.now x.small d h };
 
-    ghost cap_holds = { λ x xs u d h. SumAllows-count (λ (b : B) ys. B.allows b ys) u d (λ (b : B). B.cap b d) (λ b ys k. B.cap_holds b ys u d k) x.first x.members.now xs h };
+    ghost cap_holds = { λ x xs u d h. SumAllows-count (λ (b : B) ys. B.allows b ys) u d (λ (b : B). B.cap b d) (λ b ys k. B.cap_holds b ys u d k)
+        x.first x.members.now xs h };
 
-    ghost allows_prefix = { λ x xs ys h. SumAllows-prefix (λ (b : B) zs. B.allows b zs) (λ b zs ws k. B.allows_prefix b zs ws k) x.first x.members.now xs ys h };
+    ghost allows_prefix = { λ x xs ys h. SumAllows-prefix (λ (b : B) zs. B.allows b zs) (λ b zs ws k. B.allows_prefix b zs ws k)
+        x.first x.members.now xs ys h };
 }
 
 /// Both of two bounds: the lesser of their caps.
@@ -264,11 +267,13 @@ impl<A: ArrivalBound, B: ArrivalBound> ArrivalBound for Both<A, B> {
 
     ghost cap_zero = { λ x. both_zero (A.cap x.first 0) (B.cap x.second 0) (A.cap_zero x.first) };
 
-    ghost cap_monotone = { λ x d e h. both_mono (A.cap x.first d) (B.cap x.second d) (A.cap x.first e) (B.cap x.second e) (A.cap_monotone x.first d e h) (B.cap_monotone x.second d e h) };
+    ghost cap_monotone = { λ x d e h. both_mono (A.cap x.first d) (B.cap x.second d) (A.cap x.first e) (B.cap x.second e) (A.cap_monotone x.first d e h)
+        (B.cap_monotone x.second d e h) };
 
     ghost cap_bounded = { λ x d h. both_bounded (A.cap x.first d) (B.cap x.second d) (A.cap_bounded x.first d h) };
 
-    ghost cap_holds = { λ x xs u d h. both_holds (A.cap x.first d) (B.cap x.second d) (count_in u d (ticks_of xs)) (A.cap_holds x.first xs u d h.0) (B.cap_holds x.second xs u d h.1) };
+    ghost cap_holds = { λ x xs u d h. both_holds (A.cap x.first d) (B.cap x.second d) (count_in u d (ticks_of xs)) (A.cap_holds x.first xs u d h.0)
+        (B.cap_holds x.second xs u d h.1) };
 
     ghost allows_prefix = { λ x xs ys h. (A.allows_prefix x.first xs ys h.0, B.allows_prefix x.second xs ys h.1) };
 }

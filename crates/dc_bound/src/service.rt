@@ -89,7 +89,8 @@ impl<'a> Visits<'a> {
         requires some { 1 ≤ length visits.now }
         requires few { length visits.now ≤ MOST_PLACES }
         ensures floor { (d : ℕ) → ⟦<Visits<'a> as ServiceBound>⟧.floor result d ≡ fewest_visits visits.now bus (pace.steps * (d / pace.within)) }
-        ensures serves { (whole : ℕ) (ts : List ℕ) → ⟦<Visits<'a> as ServiceBound>⟧.serves result whole ts ↔ VisitsInTurn visits.now bus pace.steps pace.within whole ts }
+        ensures serves { (whole : ℕ) (ts : List ℕ) → ⟦<Visits<'a> as ServiceBound>⟧.serves result whole ts
+            ↔ VisitsInTurn visits.now bus pace.steps pace.within whole ts }
     {
         Visits { pace, visits, bus }
     }

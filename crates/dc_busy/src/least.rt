@@ -80,7 +80,8 @@ pub fn least_window<A: ArrivalBound, S: ServiceBound>(arrivals: &A, service: &S)
 fn first_served<S: ServiceBound>(service: &S, count: u64, from: u32, to: u32) -> Option<u32>
     requires order { from ≤ to }
     requires far { to ≤ LONGEST_SPAN }
-    ensures { MatchOption result (S.floor service.now to < count) (λ d. (from ≤ d) × (d ≤ to) × (count ≤ S.floor service.now d) × ((e : ℕ) → from ≤ e → e < d → S.floor service.now e < count)) }
+    ensures { MatchOption result (S.floor service.now to < count) (λ d. (from ≤ d) × (d ≤ to) × (count ≤ S.floor service.now d)
+        × ((e : ℕ) → from ≤ e → e < d → S.floor service.now e < count)) }
 {
     if service.at_least(from) >= count {
         return Some(from);
@@ -93,7 +94,8 @@ fn first_served<S: ServiceBound>(service: &S, count: u64, from: u32, to: u32) ->
 fn least_ticks<S: ServiceBound>(service: &S, count: u64, from: u32, to: u32) -> Option<u32>
     requires order { from ≤ to }
     requires far { to ≤ LONGEST_SPAN }
-    ensures { MatchOption result (S.floor service.now to < count) (λ d. (from ≤ d) × (d ≤ to) × (count ≤ S.floor service.now d) × ((e : ℕ) → from ≤ e → e < d → S.floor service.now e < count)) }
+    ensures { MatchOption result (S.floor service.now to < count) (λ d. (from ≤ d) × (d ≤ to) × (count ≤ S.floor service.now d)
+        × ((e : ℕ) → from ≤ e → e < d → S.floor service.now e < count)) }
 {
     if service.at_least(to) < count {
         return None;

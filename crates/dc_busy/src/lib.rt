@@ -39,7 +39,8 @@ pub fn backlog_fails<A: ArrivalBound, S: ServiceBound>(
 ) -> Option<u32>
     requires least { 1 ≤ window }
     requires most { window ≤ LONGEST_WINDOW }
-    ensures { MatchOption result (BacklogBounded (A.cap arrivals.now) (S.floor service.now) window backlog) (λ w. IsLeastFailing (BacklogAt (A.cap arrivals.now) (S.floor service.now) backlog) window w) }
+    ensures { MatchOption result (BacklogBounded (A.cap arrivals.now) (S.floor service.now) window backlog)
+        (λ w. IsLeastFailing (BacklogAt (A.cap arrivals.now) (S.floor service.now) backlog) window w) }
 {
     let mut ticks = 1;
     while ticks <= window {
@@ -66,7 +67,8 @@ pub fn delay_fails<A: ArrivalBound, S: ServiceBound>(
     requires least { 1 ≤ window }
     requires most { window ≤ LONGEST_WINDOW }
     requires short { delay ≤ LONGEST_WINDOW }
-    ensures { MatchOption result (DelayBounded (A.cap arrivals.now) (S.floor service.now) window delay) (λ w. IsLeastFailing (DelayAt (A.cap arrivals.now) (S.floor service.now) delay) window w) }
+    ensures { MatchOption result (DelayBounded (A.cap arrivals.now) (S.floor service.now) window delay)
+        (λ w. IsLeastFailing (DelayAt (A.cap arrivals.now) (S.floor service.now) delay) window w) }
 {
     let mut ticks = 1;
     while ticks <= window {
@@ -94,8 +96,10 @@ pub fn first_failures<A: ArrivalBound, S: ServiceBound>(
     requires least { 1 ≤ window }
     requires most { window ≤ LONGEST_WINDOW }
     requires short { delay ≤ LONGEST_WINDOW }
-    ensures backlog { MatchOption result.0 (BacklogBounded (A.cap arrivals.now) (S.floor service.now) window backlog) (λ w. IsLeastFailing (BacklogAt (A.cap arrivals.now) (S.floor service.now) backlog) window w) }
-    ensures delay { MatchOption result.1 (DelayBounded (A.cap arrivals.now) (S.floor service.now) window delay) (λ w. IsLeastFailing (DelayAt (A.cap arrivals.now) (S.floor service.now) delay) window w) }
+    ensures backlog { MatchOption result.0 (BacklogBounded (A.cap arrivals.now) (S.floor service.now) window backlog)
+        (λ w. IsLeastFailing (BacklogAt (A.cap arrivals.now) (S.floor service.now) backlog) window w) }
+    ensures delay { MatchOption result.1 (DelayBounded (A.cap arrivals.now) (S.floor service.now) window delay)
+        (λ w. IsLeastFailing (DelayAt (A.cap arrivals.now) (S.floor service.now) delay) window w) }
 {
     failures_between(arrivals, service, 1, window, backlog, delay)
 }

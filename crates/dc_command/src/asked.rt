@@ -95,7 +95,8 @@ fn tick_count_of(text: &str) -> Result<u16, OutOfRange>
 
 /// The number of ticks that the matches of `bench` say, `USUAL_TICKS` where they say none.
 fn ticks_in(matches: &ArgMatches<'_>) -> Result<u16, OutOfRange>
-    ensures { MatchResult result (TicksAre (first_value (found_of matches.now) (codes "ticks"))) (λ _. IfSome (first_value (found_of matches.now) (codes "ticks")) IsNoTickCount) }
+    ensures { MatchResult result (TicksAre (first_value (found_of matches.now) (codes "ticks")))
+        (λ _. IfSome (first_value (found_of matches.now) (codes "ticks")) IsNoTickCount) }
 {
     match matches.get_str("ticks") {
         Some(text) => tick_count_of(text),
@@ -105,7 +106,8 @@ fn ticks_in(matches: &ArgMatches<'_>) -> Result<u16, OutOfRange>
 
 /// The number of workers that the matches of `check` say.
 fn workers_in(matches: &ArgMatches<'_>) -> Result<Option<u8>, OutOfRange>
-    ensures { MatchResult result (AreGiven (first_value (found_of matches.now) (codes "workers"))) (λ _. IfSome (first_value (found_of matches.now) (codes "workers")) IsNoCount) }
+    ensures { MatchResult result (AreGiven (first_value (found_of matches.now) (codes "workers")))
+        (λ _. IfSome (first_value (found_of matches.now) (codes "workers")) IsNoCount) }
 {
     match matches.get_str("workers") {
         Some(text) => match count_of(text) {

@@ -172,9 +172,27 @@ impl Model for Parts {
 
     ghost Value = { Document };
 
-    ghost view = { λ p. record { version = p.version; tick_us = p.tick_us; parameters = p.parameters.items; buses = p.buses.items; streams = p.streams.items; routers = p.routers.items; outputs = p.outputs.items; labels = p.labels.items } };
+    ghost view = { λ p. record {
+      version = p.version;
+      tick_us = p.tick_us;
+      parameters = p.parameters.items;
+      buses = p.buses.items;
+      streams = p.streams.items;
+      routers = p.routers.items;
+      outputs = p.outputs.items;
+      labels = p.labels.items;
+    } };
 
-    ghost invariant = { λ p. IsInOrder (record { version = p.version; tick_us = p.tick_us; parameters = p.parameters.items; buses = p.buses.items; streams = p.streams.items; routers = p.routers.items; outputs = p.outputs.items; labels = p.labels.items }) };
+    ghost invariant = { λ p. IsInOrder (record {
+      version = p.version;
+      tick_us = p.tick_us;
+      parameters = p.parameters.items;
+      buses = p.buses.items;
+      streams = p.streams.items;
+      routers = p.routers.items;
+      outputs = p.outputs.items;
+      labels = p.labels.items;
+    }) };
 }
 
 impl Parts {

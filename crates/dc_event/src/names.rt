@@ -199,7 +199,8 @@ impl<'t> Model for KnownNames<'t> {
 
     ghost view = { λ k. k.tables.now };
 
-    ghost invariant = { λ k. AreFound k.tables.now.names.buses k.buses.places × AreFound k.tables.now.names.routers k.routers.places × AreFound k.tables.now.names.outputs k.outputs.places };
+    ghost invariant = { λ k. AreFound k.tables.now.names.buses k.buses.places × AreFound k.tables.now.names.routers k.routers.places
+        × AreFound k.tables.now.names.outputs k.outputs.places };
 }
 
 impl<'t> KnownNames<'t> {

@@ -137,7 +137,8 @@ impl<'t> TraceLines<'t> {
     #[inline(always)]
     pub fn advance(&mut self) -> Option<Result<Event, TraceStop>>
         ensures reported { (coming : Option (List ℕ)) →
-            MatchOption result (Stays (ahead self.old coming) (ahead self.new coming)) (λ reported. Tells (ahead self.old coming) (ahead self.new coming) reported) }
+            MatchOption result (Stays (ahead self.old coming) (ahead self.new coming))
+            (λ reported. Tells (ahead self.old coming) (ahead self.new coming) reported) }
         ensures more { MatchOption result (NeedsMore self.old self.new) (λ reported. self.new.stopped ≡ stop_of reported) }
         ensures again { IfSome self.old.stopped (λ stop. (result ≡ Some (Err stop)) × (self.new ≡ self.old)) }
         ensures shorter { IfSome result (λ reported. IfOk reported (λ e. self.new.room < self.old.room)) }

@@ -27,7 +27,13 @@ impl<'t, S: Source + Drop> Model for TraceReader<'t, S> {
 
     ghost Value = { Reader };
 
-    ghost view = { λ r. record { lines = r.lines; coming = (S.state r.source).remaining; failed = (S.state r.source).failed; asked = (S.state r.source).asked; dry = (S.state r.source).dry } };
+    ghost view = { λ r. record {
+      lines = r.lines;
+      coming = (S.state r.source).remaining;
+      failed = (S.state r.source).failed;
+      asked = (S.state r.source).asked;
+      dry = (S.state r.source).dry;
+    } };
 }
 
 /// Pulls for a reader whose owner writes nothing.

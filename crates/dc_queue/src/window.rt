@@ -38,7 +38,8 @@ impl Model for StepWindow {
 
     ghost view = { λ w. record { width = w.past.capacity + 1; room = w.room; past = w.past.items; count = w.count } };
 
-    ghost invariant = { λ w. (w.total ≡ sum w.past.items + w.count) × All (λ n. n ≤ w.room) w.past.items × (w.count ≤ w.room) × (length w.past.items ≤ w.past.capacity) × (w.past.capacity < GREATEST_WIDTH) × (w.room ≤ GREATEST_ROOM) };
+    ghost invariant = { λ w. (w.total ≡ sum w.past.items + w.count) × All (λ n. n ≤ w.room) w.past.items × (w.count ≤ w.room)
+        × (length w.past.items ≤ w.past.capacity) × (w.past.capacity < GREATEST_WIDTH) × (w.room ≤ GREATEST_ROOM) };
 }
 
 impl StepWindow {

@@ -179,7 +179,9 @@ fn first_overfull(counts: &[usize]) -> Option<usize>
 fn check_intervals(parts: &Parts, parameters: &Parameters) -> Result<(), BuildError>
     requires tick { 1 ≤ parts.now.tick_us }
     requires same { parameters.now ≡ parts.now.parameters }
-    ensures { result ≡ then_reported (reported TableRule.MinimumBelowOneTick Section.Stream (first_quick parts.now.tick_us parts.now.parameters parts.now.streams)) (reported TableRule.NoOutputInterval Section.Label (first_narrow parts.now.tick_us parts.now.parameters parts.now.labels)) }
+    ensures { result ≡ then_reported (reported TableRule.MinimumBelowOneTick Section.Stream
+        (first_quick parts.now.tick_us parts.now.parameters parts.now.streams))
+        (reported TableRule.NoOutputInterval Section.Label (first_narrow parts.now.tick_us parts.now.parameters parts.now.labels)) }
 {
     refuse(
         TableRule::MinimumBelowOneTick,
@@ -299,7 +301,9 @@ fn keep_parameters(alloc: Global, parts: &Parts) -> Result<Parameters, BuildErro
     requires shape { shape parts.now ≡ Ok tt }
     requires once { doubled same_parameter (map parameter_key parts.now.parameters) ≡ None }
     requires ordered { first_inverted parts.now.parameters ≡ None }
-    ensures rule { Tells (then_reported (reported TableRule.MinimumBelowOneTick Section.Stream (first_quick parts.now.tick_us parts.now.parameters parts.now.streams)) (reported TableRule.NoOutputInterval Section.Label (first_narrow parts.now.tick_us parts.now.parameters parts.now.labels))) result }
+    ensures rule { Tells (then_reported (reported TableRule.MinimumBelowOneTick Section.Stream
+        (first_quick parts.now.tick_us parts.now.parameters parts.now.streams))
+        (reported TableRule.NoOutputInterval Section.Label (first_narrow parts.now.tick_us parts.now.parameters parts.now.labels))) result }
     ensures parameters { IfOk result (λ p. p ≡ parts.now.parameters) }
 {
     let parameters = Parameters::of(alloc, parts.parameters()).map_err(BuildError::Memory)?;

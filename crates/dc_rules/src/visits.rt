@@ -57,7 +57,8 @@ impl Visits {
 
     /// Adds all visits of this router.
     fn add_all(&mut self, router: usize, names: &[Name]) -> Result<(), AllocError>
-        ensures { OnOk result ((n : List ℕ) → get bytes_eq self.new.known n ≡ with_router (list_any (bytes_eq n) names.now) (get bytes_eq self.old.known n) router) }
+        ensures { OnOk result ((n : List ℕ) → get bytes_eq self.new.known n
+            ≡ with_router (list_any (bytes_eq n) names.now) (get bytes_eq self.old.known n) router) }
     {
         for name in names {
             self.add(router, name)?;

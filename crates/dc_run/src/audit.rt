@@ -176,20 +176,25 @@ pub fn run_audit<T: Source, C: Source, S: Source, K: Sink>(
     requires certificate { IsCountable (C.state certificate.old) }
     requires trace { IsCountable (S.state trace.old) }
     requires sink { CanFail (K.state sink.old) }
-    ensures reports { (rows claims events : List ℕ) → (T.state tables.old).remaining ≡ Some rows → (C.state certificate.old).remaining ≡ Some claims → (S.state trace.old).remaining ≡ Some events
+    ensures reports { (rows claims events : List ℕ) → (T.state tables.old).remaining ≡ Some rows → (C.state certificate.old).remaining ≡ Some claims
+        → (S.state trace.old).remaining ≡ Some events
         → ReportsAudit rows claims events (K.state sink.old).contents (K.state sink.new).contents
-        ((T.state tables.old).failed + ((C.state certificate.old).failed + (S.state trace.old).failed)) ((T.state tables.new).failed + ((C.state certificate.new).failed + (S.state trace.new).failed))
+        ((T.state tables.old).failed + ((C.state certificate.old).failed + (S.state trace.old).failed))
+        ((T.state tables.new).failed + ((C.state certificate.new).failed + (S.state trace.new).failed))
         (K.state sink.old).failed (K.state sink.new).failed result }
     ensures reported { Reported Any (K.state sink.old).contents (K.state sink.new).contents
-        ((T.state tables.old).failed + ((C.state certificate.old).failed + (S.state trace.old).failed)) ((T.state tables.new).failed + ((C.state certificate.new).failed + (S.state trace.new).failed))
+        ((T.state tables.old).failed + ((C.state certificate.old).failed + (S.state trace.old).failed))
+        ((T.state tables.new).failed + ((C.state certificate.new).failed + (S.state trace.new).failed))
         (K.state sink.old).failed (K.state sink.new).failed result }
     ensures asks_tables { AsksUpTo TEXT_LIMIT (T.state tables.old) (T.state tables.new) }
     ensures asks_certificate { AsksUpTo TEXT_LIMIT (C.state certificate.old) (C.state certificate.new) }
     ensures asks_trace { AsksUpTo TRACE_LIMIT (S.state trace.old) (S.state trace.new) }
     ensures order_certificate { IfSome (T.state tables.old).remaining (λ rows. OnlyBehind (tables_of rows) (certificate.new ≡ certificate.old)) }
-    ensures order_trace { IfSome (T.state tables.old).remaining (λ rows. IfSome (C.state certificate.old).remaining (λ claims. OnlyCertified rows claims (trace.new ≡ trace.old))) }
+    ensures order_trace { IfSome (T.state tables.old).remaining (λ rows. IfSome (C.state certificate.old).remaining
+        (λ claims. OnlyCertified rows claims (trace.new ≡ trace.old))) }
     ensures left { LeavesSink (K.state sink.old).failed (K.state sink.new).failed (K.state sink.new).last_failed (K.state sink.new).hidden }
-    ensures quiet { result ≢ Exit.Failed → ((T.state tables.new).failed + ((C.state certificate.new).failed + (S.state trace.new).failed)) + (K.state sink.new).failed
+    ensures quiet { result ≢ Exit.Failed → ((T.state tables.new).failed + ((C.state certificate.new).failed + (S.state trace.new).failed))
+        + (K.state sink.new).failed
         ≡ ((T.state tables.old).failed + ((C.state certificate.old).failed + (S.state trace.old).failed)) + (K.state sink.old).failed }
 {
     let mut given = With {

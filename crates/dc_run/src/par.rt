@@ -38,7 +38,8 @@ fn verdict_by<R: Threads + Wait + Sync>(
 ) -> Result<(), ParFault>
     requires { (1 ≤ workers) × (workers ≤ MOST_WORKERS) }
     ensures claims { IfOk result (λ _. KeepsItsClaims (arc_value tables) (named_rows certificate)) }
-    ensures exact { MatchResult result (λ _. verdict_of (arc_value tables) (named_rows certificate) ≡ None) (λ fault. IsOfVerdict (arc_value tables) (named_rows certificate) fault) }
+    ensures exact { MatchResult result (λ _. verdict_of (arc_value tables) (named_rows certificate) ≡ None)
+        (λ fault. IsOfVerdict (arc_value tables) (named_rows certificate) fault) }
     ensures unstuck { IfErr result (λ fault. fault ≢ ParFault.GateStuck) }
 {
     match check_par(rt, alloc, tables, certificate, usize::from(workers), &Open) {

@@ -105,7 +105,9 @@ impl<'t> Model for NameTexts<'t> {
 
     ghost view = { λ t. t.tables.now };
 
-    ghost invariant = { λ t. KeepsFirst t.buses t.tables.now.names.buses (length t.tables.now.buses) × KeepsFirst t.routers t.tables.now.names.routers (length t.tables.now.routers) × KeepsFirst t.outputs t.tables.now.names.outputs (length t.tables.now.outputs) };
+    ghost invariant = { λ t. KeepsFirst t.buses t.tables.now.names.buses (length t.tables.now.buses)
+        × KeepsFirst t.routers t.tables.now.names.routers (length t.tables.now.routers)
+        × KeepsFirst t.outputs t.tables.now.names.outputs (length t.tables.now.outputs) };
 }
 
 /// Puts a name's text at the end.

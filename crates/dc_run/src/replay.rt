@@ -73,7 +73,8 @@ fn end_refused<K: Sink>(
     sink: &mut K,
 ) -> Result<Outcome, Failure>
     requires { CanFail (K.state sink.old) }
-    ensures bytes { Ends (K.state sink.old).contents writer.old (K.state sink.new).contents (refused tables.now refusal.event refusal.fault refusal.number) result }
+    ensures bytes { Ends (K.state sink.old).contents writer.old (K.state sink.new).contents
+        (refused tables.now refusal.event refusal.fault refusal.number) result }
     ensures empty { writer.new ≡ [] }
     ensures count { (K.state sink.new).failed ≡ (K.state sink.old).failed + failures_of result }
     ensures sink { IfErr result (λ e. e ≡ Failure.Sink) }

@@ -157,7 +157,8 @@ fn close_hub<L: Charter>(
     text: &mut Text,
 ) -> Result<Outcome, Unjudged>
     requires limit { L.limit ≡ LONGEST_TRACE }
-    requires roles { IfSome L.certified (λ c. HaveRoles (tables_of c) (bench_script (tables_of c) ticks) (all_seats seats.wires.items seats.routers.items seats.outputs.items seats.clock)) }
+    requires roles { IfSome L.certified (λ c. HaveRoles (tables_of c) (bench_script (tables_of c) ticks)
+        (all_seats seats.wires.items seats.routers.items seats.outputs.items seats.clock)) }
     ensures answer { IfSome L.certified (λ c. Keeps (AnswersRun c ticks) text.new.items result) }
     ensures memory { IfErr result (λ e. e ≡ Unjudged.Memory) }
 {
@@ -193,7 +194,8 @@ fn end_of<L: Charter>(fault: DriveFault, ticks: u64, text: &mut Text) -> Result<
     requires halts { fault ≢ Refused Astray → HaltsAs L.certified L.limit ⊥ fault }
     requires astray { fault ≡ Refused Astray → IfSome L.certified (λ c. WentAstray (tables_of c) (bench_script (tables_of c) ticks)) }
     ensures answer { IfSome L.certified (λ c. Keeps (AnswersRun c ticks) text.new.items result) }
-    ensures cause { IfErr result (λ e. ((e ≡ Unjudged.Memory) × ((fault ≡ DriveMemory) ⊎ (fault ≡ Refused HubMemory))) ⊎ ((e ≡ Unjudged.Threads) × (fault ≡ Spawn))) }
+    ensures cause { IfErr result (λ e. ((e ≡ Unjudged.Memory) × ((fault ≡ DriveMemory) ⊎ (fault ≡ Refused HubMemory)))
+        ⊎ ((e ≡ Unjudged.Threads) × (fault ≡ Spawn))) }
 {
     match fault {
         DriveFault::Memory => Err(Unjudged::Memory),

@@ -101,7 +101,8 @@ fn end_of_run(bounds: &[Jittered], first: &Jittered, from: usize) -> usize
     requires { from ≤ length bounds.now }
     ensures order { from ≤ result }
     ensures inside { result ≤ length bounds.now }
-    ensures sum { (d : ℕ) → sum_by (jittered_cap d) (take result bounds.now) ≡ sum_by (jittered_cap d) (take from bounds.now) + (result - from) * jittered_cap d first.now }
+    ensures sum { (d : ℕ) → sum_by (jittered_cap d) (take result bounds.now)
+        ≡ sum_by (jittered_cap d) (take from bounds.now) + (result - from) * jittered_cap d first.now }
 {
     let mut end = from;
     while end < bounds.len() && are_same(&bounds[end], first) {

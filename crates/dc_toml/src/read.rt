@@ -44,7 +44,12 @@ struct TopLists<'a> {
 /// The four lists of tables at the top, before their members are looked at.
 #[tactic(auto, unfolding(crate::specs::Reading::lists_of))]
 fn lists<'a>(document: &'a Table, top: TablePlace) -> Result<TopLists<'a>, TableFault>
-    ensures { seen (λ l. record { parameters = items_view l.parameters.now; buses = items_view l.buses.now; routers = items_view l.routers.now; outputs = items_view l.outputs.now }) result ≡ lists_of top (table_view document.now) }
+    ensures { seen (λ l. record {
+      parameters = items_view l.parameters.now;
+      buses = items_view l.buses.now;
+      routers = items_view l.routers.now;
+      outputs = items_view l.outputs.now;
+    }) result ≡ lists_of top (table_view document.now) }
 {
     let parameters = optional_tables(document, "parameter", MOST_PARAMETERS, top)?;
     let buses = optional_tables(document, "bus", MOST_BUSES, top)?;
@@ -68,7 +73,8 @@ fn members(
     routers: &[Value],
     outputs: &[Value],
 ) -> Result<(), BuildError>
-    ensures { Leaves (written parts.new) result (members_of (written parts.old) (record { parameters = items_view parameters.now; buses = items_view buses.now; routers = items_view routers.now; outputs = items_view outputs.now })) }
+    ensures { Leaves (written parts.new) result (members_of (written parts.old)
+        (record { parameters = items_view parameters.now; buses = items_view buses.now; routers = items_view routers.now; outputs = items_view outputs.now })) }
 {
     read_tables_of::<Parameter>(alloc, parts, parameters)?;
     read_tables_of::<BusPart>(alloc, parts, buses)?;
