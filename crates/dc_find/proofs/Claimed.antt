@@ -72,10 +72,10 @@ delay-read rows b row there is =
     ∙ ap input_numbers (get_or-map named_input rows b row (named_input row) there)
     ∙ ap (λ (r : InputRow). input_numbers (named_input r)) (sym is))
 
--- it is in range, where each is
-pub delay-short : (rows : List InputRow) (b : ℕ) (row : InputRow) → b < length rows → row ≡ get_or rows b row → EachAt (λ k claim. claim.delay ≤ LONGEST_WINDOW) (map named_input rows) → row.delay ≤ LONGEST_WINDOW
+-- it is at most the one that stands for none, where each is
+pub delay-short : (rows : List InputRow) (b : ℕ) (row : InputRow) → b < length rows → row ≡ get_or rows b row → EachAt (λ k claim. claim.delay ≤ LONGEST_WINDOW + 1) (map named_input rows) → row.delay ≤ LONGEST_WINDOW + 1
 delay-short rows b row there is short =
-    subst (λ n. n ≤ LONGEST_WINDOW) (ap (λ (r : NamedInput). r.delay) (get_or-map named_input rows b row (named_input row) there) ∙ ap (λ (r : InputRow). r.delay) (sym is))
+    subst (λ n. n ≤ LONGEST_WINDOW + 1) (ap (λ (r : NamedInput). r.delay) (get_or-map named_input rows b row (named_input row) there) ∙ ap (λ (r : InputRow). r.delay) (sym is))
     (short b (named_input row) (omega (arith, length-map rows named_input, there)))
 
 -- the stale limit and the greatest delay of a source are the least age

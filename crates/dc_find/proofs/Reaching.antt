@@ -1,12 +1,13 @@
 -- What is reached before a fault.
-use Rattle.std.proofs.Common.{ℕ, ◌+◌, ◌<◌, length, sym, subst, arith, inl, inr}
+use Rattle.std.proofs.Common.{ℕ, ◌+◌, ◌<◌, ◌⊎◌, length, sym, subst, arith, inl, inr}
 use Rattle.std.proofs.lemmas.Bool.{cases_lt}
 use Rattle.std.proofs.lemmas.List.{get_or-map}
 use Rattle.dc_cert.specs.Bounds.{input_numbers, output_numbers}
 use Rattle.dc_cert.specs.NamedRows.{NamedRows}
 use Rattle.dc_find.proofs.Claimed.{no_input, no_output, are-named, label-row}
-use Rattle.dc_find.specs.Reached.{jobs_reached, CloseBelow, IsReached, AreInputsReached, AreOutputsReached}
-use Rattle.dc_find.specs.Rows.{AreLeastNumbers, IsLeastOutput, AreLabelRows}
+use Rattle.dc_find.specs.Found.{IsFound, AreFoundInputs, AreFoundOutputs, IsInputFound, IsOutputFound}
+use Rattle.dc_find.specs.Reached.{jobs_reached, CloseBelow, IsReached}
+use Rattle.dc_find.specs.Rows.{AreLabelRows}
 use Rattle.dc_find.specs.Ways.{NeverCloses, IsFirstInTheWay}
 use Rattle.dc_find.specs.declared.fault.FindFault.{FindFault}
 use Rattle.dc_find.specs.declared.fault.FindFault.TheVariants.{WindowNeverCloses, QueueTooShort, LabelRule, Memory}
@@ -37,15 +38,29 @@ module _ (t : TableRows) where
   pub close-below : (fault : FindFault) → IsFirstInTheWay t fault → CloseBelow t (jobs_reached t fault)
   close-below fault f = record { inputs = inputs-close fault f; outputs = outputs-close fault f }
 
-  -- the rows that were reached, as a certificate
-  pub reached : (jobs : ℕ) (claims : NamedRows) → HaveNames t → AreInputsReached t jobs claims.inputs → AreOutputsReached t jobs claims.outputs → AreLabelRows t claims.inputs claims.labels → IsReached t jobs claims
-  reached jobs claims has_names inputs outputs labels = record {
+  -- the rows of what is found, as a certificate
+  pub found : (claims : NamedRows) → HaveNames t → AreFoundInputs t claims.inputs → AreFoundOutputs t claims.outputs → AreLabelRows t claims.inputs claims.labels → IsFound t claims
+  found claims has_names inputs outputs labels = record {
     named = are-named t claims has_names inputs.count (λ k d l. (inputs.each k d l).named) outputs.count (λ k d l. (outputs.each k d l).named) labels.count (λ k d l. (labels.each k d l).named);
-    inputs = λ b there below.
+    inputs = λ b there.
         let inside : b < length claims.inputs = omega (arith, inputs.count, there) in
-        subst (AreLeastNumbers t b) (sym (get_or-map input_numbers claims.inputs b no_input (record { window = 0; backlog = 0; delay = 0 }) inside)) ((inputs.each b no_input inside).least below);
-    outputs = λ o there below.
+        subst (IsInputFound t b) (sym (get_or-map input_numbers claims.inputs b no_input (record { window = 0; backlog = 0; delay = 0 }) inside)) (inputs.each b no_input inside).found;
+    outputs = λ o there.
         let inside : o < length claims.outputs = omega (arith, outputs.count, there) in
-        subst (IsLeastOutput t o) (sym (get_or-map output_numbers claims.outputs o no_output (record { window = 0; delay = 0 }) inside)) ((outputs.each o no_output inside).least below);
+        subst (IsOutputFound t o) (sym (get_or-map output_numbers claims.outputs o no_output (record { window = 0; delay = 0 }) inside)) (outputs.each o no_output inside).found;
     labels = label-row t claims labels;
+  }
+
+  -- what is found where a window closes
+  only : {P Q R : Type 0} → P ⊎ (Q × R) → ¬ Q → P
+  only (inl p) not = p
+  only (inr both) not = absurd (not both.0)
+
+  -- the first jobs, in each of which a window closes, have their least numbers
+  pub reached : (jobs : ℕ) (claims : NamedRows) → CloseBelow t jobs → IsFound t claims → IsReached t jobs claims
+  reached jobs claims closes f = record {
+    named = f.named;
+    inputs = λ b there below. only (f.inputs b there) (closes.inputs b there below);
+    outputs = λ o there below. only (f.outputs o there) (closes.outputs o there below);
+    labels = f.labels;
   }

@@ -1,17 +1,15 @@
 -- What the finder gets to where something stands in the way.
-use Rattle.std.specs.Prelude.{◌≡◌, ℕ, ◌+◌, ◌≤◌, ◌<◌, List, [], length, slice_index, slice_index_or}
+use Rattle.std.specs.Prelude.{ℕ, ◌+◌, ◌<◌, length, slice_index}
 use Rattle.dc_busy.specs.Least.{IsLeast}
-use Rattle.dc_busy.specs.declared.limits.TheConstants.{LONGEST_WINDOW}
-use Rattle.dc_cert.specs.Bounds.{input_bound, output_bound, input_numbers, output_numbers, numbers_of}
-use Rattle.dc_cert.specs.NamedRows.{NamedInput, NamedOutput, NamedRows}
+use Rattle.dc_cert.specs.Bounds.{input_bound, output_bound, numbers_of}
+use Rattle.dc_cert.specs.NamedRows.{NamedRows}
 use Rattle.dc_check.specs.Accepts.{AreNamed}
 use Rattle.dc_check.specs.Verdict.{job_count}
-use Rattle.dc_find.specs.Rows.{EachAt, AreLeastNumbers, IsLeastOutput, IsOldEnough}
+use Rattle.dc_find.specs.Rows.{AreLeastNumbers, IsLeastOutput, IsOldEnough}
 use Rattle.dc_find.specs.Ways.{NeverCloses}
 use Rattle.dc_find.specs.declared.fault.FindFault.{FindFault}
 use Rattle.dc_find.specs.declared.fault.FindFault.TheVariants.{WindowNeverCloses, QueueTooShort, LabelRule, Memory}
 use Rattle.dc_find.specs.declared.fault.Queue.TheVariants.{Input, Output}
-use Rattle.dc_document.specs.Names.{text_of}
 use Rattle.dc_tables.specs.TableRows.{TableRows, bus_cap, bus_floor, output_cap, output_floor}
 
 -- how many jobs are reached, the inputs, the outputs and the labels in one row: those before the fault; where the queue of an
@@ -30,30 +28,7 @@ pub record IsReached (t : TableRows) (jobs : ℕ) (claims : NamedRows) : Type 0 
   pub outputs : (o : ℕ) → o < length t.outputs → length t.buses + o < jobs → IsLeastOutput t o (output_bound (numbers_of claims) o)
   pub labels : (x : ℕ) → x < length t.labels → IsLeast (IsOldEnough t x (numbers_of claims)) (slice_index (numbers_of claims).ages x)
 
--- ---- row by row
-
 -- in each of the first jobs a window closes
 pub record CloseBelow (t : TableRows) (jobs : ℕ) : Type 0 where
   pub inputs : (b : ℕ) → b < length t.buses → b < jobs → ¬ NeverCloses (bus_cap t b) (bus_floor t b)
   pub outputs : (o : ℕ) → o < length t.outputs → length t.buses + o < jobs → ¬ NeverCloses (output_cap t o) (output_floor t o)
-
--- the bus's name, and its least numbers where it is one of the first jobs
-pub record IsInputReached (t : TableRows) (jobs : ℕ) (b : ℕ) (claim : NamedInput) : Type 0 where
-  pub named : claim.bus ≡ text_of (slice_index_or t.names.buses b [])
-  pub least : b < jobs → AreLeastNumbers t b (input_numbers claim)
-  pub short : claim.delay ≤ LONGEST_WINDOW
-
--- the row of an output: its name, and below the obstacle the least window and delay that are accepted
-pub record IsOutputReached (t : TableRows) (jobs : ℕ) (o : ℕ) (claim : NamedOutput) : Type 0 where
-  pub named : claim.output ≡ text_of (slice_index_or t.names.outputs o [])
-  pub least : length t.buses + o < jobs → IsLeastOutput t o (output_numbers claim)
-
--- a row for each
-pub record AreInputsReached (t : TableRows) (jobs : ℕ) (inputs : List NamedInput) : Type 0 where
-  pub count : length inputs ≡ length t.buses
-  pub each : EachAt (IsInputReached t jobs) inputs
-
--- a row for each output
-pub record AreOutputsReached (t : TableRows) (jobs : ℕ) (outputs : List NamedOutput) : Type 0 where
-  pub count : length outputs ≡ length t.outputs
-  pub each : EachAt (IsOutputReached t jobs) outputs

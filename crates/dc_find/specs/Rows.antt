@@ -60,10 +60,10 @@ pub record IsLabelRow (t : TableRows) (inputs : List NamedInput) (x : ℕ) (clai
   pub named : claim.label ≡ text_of (slice_index_or t.names.labels x [])
   pub least : IsLeast (IsOldEnough t x (inputs_alone inputs)) claim.age
 
--- a row for each, with no delay out of range
+-- a row for each, with no delay above the one that stands for none
 pub record HaveShortDelays (t : TableRows) (inputs : List NamedInput) : Type 0 where
   pub count : length inputs ≡ length t.buses
-  pub each : EachAt (λ b claim. claim.delay ≤ LONGEST_WINDOW) inputs
+  pub each : EachAt (λ b claim. claim.delay ≤ LONGEST_WINDOW + 1) inputs
 
 -- a row for each bus
 pub record AreInputRows (t : TableRows) (inputs : List NamedInput) : Type 0 where

@@ -80,6 +80,24 @@ pub(crate) fn input_numbers<A: ArrivalBound, S: ServiceBound>(
     Ok(numbers)
 }
 
+/// The least numbers of an output, given its bounds; `None` where no window closes.
+pub(crate) fn least_output<A: ArrivalBound, S: ServiceBound>(
+    tables: &Tables,
+    output: usize,
+    arrivals: &A,
+    service: &S,
+) -> Option<Times>
+    requires arrivals { (d : ℕ) → A.cap arrivals.now d ≡ output_cap tables.now output d }
+    requires service { (d : ℕ) → S.floor service.now d ≡ output_floor tables.now output d }
+    ensures { MatchOption result (NeverCloses (output_cap tables.now output) (output_floor tables.now output))
+        (λ n. IsLeastOutput tables.now output (record { window = n.window; delay = n.delay })) }
+{
+    let Some(times) = least_times(arrivals, service) else {
+        return None;
+    };
+    Some(times)
+}
+
 /// The least numbers of an output, given its bounds, or its fault.
 pub(crate) fn output_numbers<A: ArrivalBound, S: ServiceBound>(
     tables: &Tables,
@@ -94,7 +112,7 @@ pub(crate) fn output_numbers<A: ArrivalBound, S: ServiceBound>(
     ensures fault { IfErr result (λ fault. IsFirstOfJob tables.now (length tables.now.buses + output) fault) }
 {
     tables.valid();
-    match least_times(arrivals, service) {
+    match least_output(tables, output, arrivals, service) {
         None => Err(FindFault::WindowNeverCloses(Queue::Output(output))),
         Some(times) => Ok(times),
     }

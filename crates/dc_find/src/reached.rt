@@ -1,36 +1,40 @@
-//! What the finder gets to where something stands in the way.
+//! What the finder gets to where something stands in the way, and what is found behind it.
 
-ghost use Rattle.std.specs.Prelude.{◌≡◌, ℕ, ◌+◌, ◌<◌, ◌≤◌, length, map, IfOk};
+ghost use Rattle.std.specs.Prelude.{◌≡◌, ◌<◌, ◌≤◌, length, map, IfOk};
 ghost use Rattle.dc_cert.specs.Bounds.{certificate_rows};
 ghost use Rattle.dc_cert.specs.NamedRows.{named_input, named_output, named_rows};
 ghost use Rattle.dc_check.specs.Verdict.{IsSized, job_count};
-ghost use Rattle.dc_find.specs.Reached.{AreInputsReached, AreOutputsReached, CloseBelow, IsInputReached, IsOutputReached, IsReached, jobs_reached};
+ghost use Rattle.dc_find.specs.Found.{AreFoundInputs, AreFoundOutputs, IsFound, IsFoundInput, IsFoundOutput};
+ghost use Rattle.dc_find.specs.Reached.{IsReached, jobs_reached};
 ghost use Rattle.dc_find.specs.Ways.{IsFirstInTheWay, StandsInTheWay};
 
 use crate::fault::{FindFault, Queue};
-use crate::queues::{InputNumbers, Times, least_input, output_numbers};
+use crate::queues::{InputNumbers, Times, least_input, least_output};
 use crate::rows::{label_rows, named_input_row, named_output_row};
+use dc_busy::LONGEST_WINDOW;
 use dc_cert::{Certificate, InputRow, OutputRow};
 use dc_tables::Tables;
 use std::alloc::{AllocError, Global};
 
-/// What the finder reached before a fault.
+/// What the finder reached before a fault, and what is found behind it.
 #[derive(Debug, Drop)]
 pub struct Reached {
-    /// A row for each input, output and label of the tables, with its name.
+    /// A row for each input, output and label of the tables, with its name. An input and an output have their least
+    /// numbers; where no window closes the longest window, and a delay that is out of range stands for none. A label has
+    /// the least age for the delays that stand here.
     pub certificate: Certificate,
-    /// How many of the inputs, the outputs and the labels, in one row, were reached: the inputs and outputs among them
-    /// have their least numbers. A label has the least age for the delays that stand here.
+    /// How many of the inputs, the outputs and the labels, in one row, were reached: a window of each input and output
+    /// among them closes.
     pub jobs: usize,
 }
 
-/// What stands for the times that are not known.
+/// What stands for the times where no window closes: the longest window, and a delay that is out of range.
 const NO_TIMES: Times = Times {
-    window: 0,
-    delay: 0,
+    window: LONGEST_WINDOW,
+    delay: LONGEST_WINDOW + 1,
 };
 
-/// What stands for the numbers that are not known.
+/// What stands for the numbers where no window closes.
 const NO_NUMBERS: InputNumbers = InputNumbers {
     times: NO_TIMES,
     backlog: 0,
@@ -53,75 +57,65 @@ fn jobs_before(tables: &Tables, fault: FindFault) -> usize
     }
 }
 
-/// The row of an input, with its least numbers where it is one of the first jobs.
-fn reached_input(tables: &Tables, jobs: usize, bus: usize) -> InputRow
-    requires there { bus < length tables.now.buses }
-    requires closes { CloseBelow tables.now jobs }
-    ensures { IsInputReached tables.now jobs bus (named_input result) }
+/// The row of an input with what is found of it.
+fn found_input(tables: &Tables, bus: usize) -> InputRow
+    requires { bus < length tables.now.buses }
+    ensures { IsFoundInput tables.now bus (named_input result) }
 {
-    let mut numbers = NO_NUMBERS;
-    if bus < jobs {
-        let found = least_input(
-            tables,
-            bus,
-            &tables.bus_bound(bus),
-            &tables.bus_service(bus),
-        );
-        numbers = found.unwrap();
+    let found = least_input(
+        tables,
+        bus,
+        &tables.bus_bound(bus),
+        &tables.bus_service(bus),
+    );
+    match found {
+        None => named_input_row(tables, bus, NO_NUMBERS),
+        Some(numbers) => named_input_row(tables, bus, numbers),
     }
-    named_input_row(tables, bus, numbers)
 }
 
-/// The row of an output, with its least numbers where it is one of the first jobs.
-fn reached_output(tables: &Tables, jobs: usize, output: usize) -> OutputRow
-    requires there { output < length tables.now.outputs }
-    requires closes { CloseBelow tables.now jobs }
-    ensures { IsOutputReached tables.now jobs output (named_output result) }
+/// The row of an output with what is found of it.
+fn found_output(tables: &Tables, output: usize) -> OutputRow
+    requires { output < length tables.now.outputs }
+    ensures { IsFoundOutput tables.now output (named_output result) }
 {
-    tables.valid();
-    let mut times = NO_TIMES;
-    if tables.bus_count() + output < jobs {
-        let found = output_numbers(
-            tables,
-            output,
-            &tables.output_bound(output),
-            &tables.output_service(output),
-        );
-        times = found.unwrap();
+    let found = least_output(
+        tables,
+        output,
+        &tables.output_bound(output),
+        &tables.output_service(output),
+    );
+    match found {
+        None => named_output_row(tables, output, NO_TIMES),
+        Some(times) => named_output_row(tables, output, times),
     }
-    named_output_row(tables, output, times)
 }
 
-/// The rows of the inputs, those of the first jobs with their least numbers.
-fn reached_inputs(alloc: Global, tables: &Tables, jobs: usize) -> Result<Vec<InputRow>, AllocError>
-    requires { CloseBelow tables.now jobs }
-    ensures { IfOk result (λ v. AreInputsReached tables.now jobs (map named_input v.items)) }
+/// The rows of the inputs with what is found of them.
+fn found_inputs(alloc: Global, tables: &Tables) -> Result<Vec<InputRow>, AllocError>
+    ensures { IfOk result (λ v. AreFoundInputs tables.now (map named_input v.items)) }
 {
     let mut rows = Vec::new(alloc);
     for bus in 0..tables.bus_count() {
-        rows.push(reached_input(tables, jobs, bus))?;
+        rows.push(found_input(tables, bus))?;
     }
     Ok(rows)
 }
 
-/// The rows of the outputs, those of the first jobs with their least numbers.
-fn reached_outputs(
-    alloc: Global,
-    tables: &Tables,
-    jobs: usize,
-) -> Result<Vec<OutputRow>, AllocError>
-    requires { CloseBelow tables.now jobs }
-    ensures { IfOk result (λ v. AreOutputsReached tables.now jobs (map named_output v.items)) }
+/// The rows of the outputs with what is found of them.
+fn found_outputs(alloc: Global, tables: &Tables) -> Result<Vec<OutputRow>, AllocError>
+    ensures { IfOk result (λ v. AreFoundOutputs tables.now (map named_output v.items)) }
 {
     let mut rows = Vec::new(alloc);
     for output in 0..tables.output_count() {
-        rows.push(reached_output(tables, jobs, output))?;
+        rows.push(found_output(tables, output))?;
     }
     Ok(rows)
 }
 
 /// What [`find`](crate::find) reached before the fault with which it ended: the least numbers of the inputs and outputs
-/// before it; of its input too, where the queue is too short, and of all, where a rule on a label is broken.
+/// before it; of its input too, where the queue is too short, and of all, where a rule on a label is broken. It looks
+/// behind the fault too, so that each input and output of which a window closes has its least numbers.
 ///
 /// # Errors
 /// `AllocError` where an allocation failed.
@@ -130,12 +124,13 @@ pub fn reach(alloc: Global, tables: &Tables, fault: FindFault) -> Result<Reached
     ensures jobs { IfOk result (λ r. r.jobs ≡ jobs_reached tables.now fault) }
     ensures few { IfOk result (λ r. r.jobs ≤ job_count tables.now) }
     ensures reached { IfOk result (λ r. IsReached tables.now r.jobs (named_rows r.certificate)) }
+    ensures found { IfOk result (λ r. IsFound tables.now (named_rows r.certificate)) }
     ensures sized { IfOk result (λ r. IsSized tables.now (certificate_rows r.certificate)) }
 {
     tables.named();
     let jobs = jobs_before(tables, fault);
-    let inputs = reached_inputs(alloc, tables, jobs)?;
-    let outputs = reached_outputs(alloc, tables, jobs)?;
+    let inputs = found_inputs(alloc, tables)?;
+    let outputs = found_outputs(alloc, tables)?;
     let labels = label_rows(alloc, tables, inputs.as_slice())?;
     let certificate = Certificate {
         inputs,

@@ -7,7 +7,7 @@ use Rattle.dc_find.proofs.rows.least_age.Given as goal
 
 abbrev pub invariant-loop-stream : goal.invariant-loop-stream
 invariant-loop-stream l = record {
-  short : l.delay ≤ 100000;
+  short : l.delay ≤ 100001;
   covers : (k : ℕ) → k < l.stream-index → source_delay l.tables (inputs_alone (map named_input l.inputs)) (slice_index l.sources k) ≤ l.delay;
   least : (n : ℕ) → ((k : ℕ) → k < l.stream-index → source_delay l.tables (inputs_alone (map named_input l.inputs)) (slice_index l.sources k) ≤ n) → l.delay ≤ n;
 }

@@ -1,8 +1,0 @@
-use Rattle.std.proofs.Common.{map}
-use Rattle.dc_cert.specs.NamedRows.{named_output}
-use Rattle.dc_find.proofs.Lists.{AreRows}
-use Rattle.dc_find.specs.Reached.{IsOutputReached}
-use Rattle.dc_find.proofs.reached.reached_outputs.Given as goal
-
-abbrev pub invariant-loop-output : goal.invariant-loop-output
-invariant-loop-output l = AreRows (IsOutputReached l.tables l.jobs) l.output (map named_output l.rows.items)
