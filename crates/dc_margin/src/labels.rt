@@ -4,7 +4,7 @@ ghost use Rattle.std.specs.Prelude.{◌≡◌, ◌^◌, ◌≤◌, ◌<◌, leng
 ghost use Rattle.dc_cert.specs.Bounds.{certificate_rows};
 ghost use Rattle.dc_check.specs.Accepts.{source_delay};
 ghost use Rattle.dc_margin.specs.Margins.{margin_by, greater_of, slowest_source, rarest_source, silence, label_margins_of};
-ghost use Rattle.dc_margin.specs.Margins.{soon_margin, late_margin, age_margin, age_limit_margin_of, fresh_margin};
+ghost use Rattle.dc_margin.specs.Margins.{are_in_range, soon_margin, late_margin, age_margin, age_limit_margin_of, fresh_margin};
 ghost use Rattle.dc_margin.specs.declared.margin.Decider.TheVariants.{Gap, Source};
 
 use crate::margin::{Decider, LabelMargins, Margin};
@@ -108,14 +108,21 @@ fn fresh_margin(fitted: &Fitted<'_>, label: usize) -> Option<Margin>
     requires there { label < length fitted.now.tables.now.labels }
     ensures { result ≡ fresh_margin fitted.now.tables.now (certificate_rows fitted.now.certificate.now) label }
 {
-    let delay = delay_of(fitted, slowest(fitted, label));
-    if !is_short(delay) {
+    if !are_in_range(fitted, label) {
         return None;
     }
     let source = rarest(fitted, label);
     let silent = silence_of(fitted, source);
     let stale = u64::from(fitted.tables.label(label).stale);
     Some(source_margin(difference(stale, silent), source))
+}
+
+/// Whether the delay of each of the label's sources is in range.
+pub(crate) fn are_in_range(fitted: &Fitted<'_>, label: usize) -> bool
+    requires there { label < length fitted.now.tables.now.labels }
+    ensures { result ≡ are_in_range fitted.now.tables.now (certificate_rows fitted.now.certificate.now) label }
+{
+    is_short(delay_of(fitted, slowest(fitted, label)))
 }
 
 /// The first source of the label whose bus delays it longest.

@@ -1,6 +1,7 @@
 //! The margins of a certificate: how far each of its conditions is from failing, and what decides it.
 #![tactic(auto)]
 
+mod found;
 mod labels;
 pub mod laws;
 mod lines;
@@ -9,6 +10,7 @@ mod peaks;
 mod queues;
 mod verdict;
 
+pub use found::found_line;
 pub use labels::label_margins;
 pub use lines::{
     MarginLine, MarginLines, Measure, input_lines, job_lines, label_lines, line_jobs, margin_lines,

@@ -1,8 +1,6 @@
 use Rattle.std.proofs.Common.{Some, sym, ap, ◌∙◌, w64}
 use Rattle.std.proofs.lemmas.Int.{to_z-of_z}
 use Rattle.dc_cert.specs.Bounds.{certificate_rows}
-use Rattle.dc_check.specs.Accepts.{source_delay}
-use Rattle.dc_check.specs.Verdict.{is_delay}
 use Rattle.dc_margin.proofs.Told.{told-there}
 use Rattle.dc_margin.specs.Margins.{room, margin_by, silence, fresh_margin_of}
 use Rattle.dc_margin.specs.declared.margin.Decider.TheVariants.{Source}
@@ -19,4 +17,4 @@ returns c =
     ∙ ap (λ n. room n c.silence_of-silent.result) (c.from-stale.ensures ∙ ap (λ r. r.stale) c.label.ensures)
     ∙ ap (room stale) c.silence_of-silent.ensures.value)
     ∙ ap (λ s. fresh_margin_of stale (silence t rows s) s) c.rarest-source.ensures.source)
-    ∙ told-there _ _ (sym (c.if-not-is_short.ensures ∙ ap is_delay (c.delay_of-delay.ensures ∙ ap (source_delay t rows) c.slowest.ensures.source)))
+    ∙ told-there _ _ (sym c.if-not-are_in_range.ensures)
