@@ -10,6 +10,11 @@ fed-append : (xs ys : List (List ℕ)) → fed (xs ++ ys) ≡ fed xs ++ fed ys
 fed-append [] ys = refl
 fed-append (x ∷ xs) ys = ap (λ l. 10 ∷ x ++ l) (fed-append xs ys) ∙ ap (λ l. 10 ∷ l) (sym (append_assoc x (fed xs) (fed ys)))
 
+-- lines, and then others
+pub fed-both : (old text next : List ℕ) (xs ys : List (List ℕ)) → text ≡ old ++ fed xs → next ≡ text ++ fed ys → next ≡ old ++ fed (xs ++ ys)
+fed-both old text next xs ys is step =
+    step ∙ ap (λ l. l ++ fed ys) is ∙ append_assoc old (fed xs) (fed ys) ∙ ap (λ l. old ++ l) (sym (fed-append xs ys))
+
 -- the first line and those after line feeds, with a last one
 pub fed-spelled : (x : List ℕ) (xs : List (List ℕ)) → (x ++ fed xs) ++ 10 ∷ [] ≡ spelled (x ∷ xs)
 fed-spelled x [] = ap (λ l. l ++ 10 ∷ []) (append-nil x)

@@ -1,5 +1,5 @@
 -- What `margins` answers to the texts of tables and of a certificate.
-use Rattle.std.specs.Prelude.{◌≡◌, ◌⊎◌, ℕ, Option, Some, None, List, [], ◌∷◌, ◌++◌, map, Result, Ok, Err}
+use Rattle.std.specs.Prelude.{◌≡◌, ◌⊎◌, ℕ, ◌+◌, ◌-◌, Option, Some, None, List, [], ◌∷◌, ◌++◌, map, Result, Ok, Err}
 use Rattle.dc_answer.specs.Answer.{Answer, Reported, WholeOrNone, unreadable}
 use Rattle.dc_answer.specs.Exits.{is_answered}
 use Rattle.dc_answer.specs.Judging.{Keeps}
@@ -11,11 +11,14 @@ use Rattle.dc_cert.specs.Bounds.{CertificateRows, numbers_of}
 use Rattle.dc_cert.specs.Faults.{fault_text}
 use Rattle.dc_cert.specs.NamedRows.{NamedRows}
 use Rattle.dc_cert.specs.Reading.{Reading, certificate_of}
-use Rattle.dc_check.specs.Verdict.{misnaming, verdict_of}
+use Rattle.dc_check.specs.Verdict.{job_count, misnaming, verdict_of}
 use Rattle.dc_check.specs.declared.fault.CheckFault.{CheckFault}
 use Rattle.dc_find.specs.Least.{IsLeastAccepted}
+use Rattle.dc_find.specs.Found.{IsFound}
 use Rattle.dc_find.specs.Reached.{IsReached, jobs_reached}
+use Rattle.dc_margin.specs.Found.{found_line_of}
 use Rattle.dc_margin.specs.Lines.{lines_below, margin_lines_of, job_lines_of}
+use Rattle.dc_margin.specs.declared.lines.MarginLine.{MarginLine}
 use Rattle.dc_document.specs.FaultText.{table_fault_text}
 use Rattle.dc_document.specs.declared.fault.BuildError.{BuildError}
 use Rattle.dc_document.specs.declared.fault.BuildError.TheVariants.{Refused, Memory as NoMemory}
@@ -84,14 +87,27 @@ pub record AnswersLeast (t : TableRows) (answer : Answer) : Type 0 where
 abbrev pub lines_of_first : ℕ → TableRows → CertificateRows → List (List ℕ)
 lines_of_first jobs t c = map (margin_text t) (lines_below (job_lines_of t c) jobs)
 
--- to tables for which none is accepted: what `find` answers, the line of what stands first in the way of one, and then the
--- lines of the margins of the jobs that are reached, with their least numbers
+-- the line of a margin of what was found
+abbrev pub found_text : TableRows → CertificateRows → MarginLine → List ℕ
+found_text t c line = margin_text t (found_line_of t c line)
+
+-- the lines of the margins of the jobs behind the first ones, of what was found of them
+abbrev pub lines_behind : ℕ → TableRows → CertificateRows → List (List ℕ)
+lines_behind jobs t c = map (found_text t c) (lines_below (λ k. job_lines_of t c (jobs + k)) (job_count t - jobs))
+
+-- both: the lines of every job, those that are reached first
+abbrev pub lines_reached : ℕ → TableRows → CertificateRows → List (List ℕ)
+lines_reached jobs t c = lines_of_first jobs t c ++ lines_behind jobs t c
+
+-- to tables for which none is accepted: what `find` answers, the line of what stands first in the way of one, then the lines
+-- of the margins of the jobs that are reached, with their least numbers, and then those of the jobs behind, of what is found
 pub record AnswersReached (t : TableRows) (answer : Answer) : Type 0 where
   pub line : Answer
   pub obstacle : AnswersObstacle t line
   pub claims : NamedRows
   pub reached : IsReached t (jobs_reached t obstacle.fault) claims
-  pub told : answer ≡ record { lines = line.lines ++ lines_of_first (jobs_reached t obstacle.fault) t (numbers_of claims); outcome = line.outcome }
+  pub found : IsFound t claims
+  pub told : answer ≡ record { lines = line.lines ++ lines_reached (jobs_reached t obstacle.fault) t (numbers_of claims); outcome = line.outcome }
 
 -- one or the other
 abbrev pub AnswersRows : TableRows → Answer → Type 0

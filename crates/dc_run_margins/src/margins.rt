@@ -26,7 +26,11 @@ use dc_tables::Tables;
 use std::alloc::{AllocError, Global};
 
 /// Puts the line of a margin at the end, after a line feed.
-fn append_line(tables: &Tables, line: &MarginLine, page: &mut Page) -> Result<(), AllocError>
+pub(crate) fn append_line(
+    tables: &Tables,
+    line: &MarginLine,
+    page: &mut Page,
+) -> Result<(), AllocError>
     requires { IsLinePlaced tables.now line.now }
     ensures { IfOk result (λ _. page.new ≡ page.old ++ 10 ∷ margin_text tables.now line.now) }
 {

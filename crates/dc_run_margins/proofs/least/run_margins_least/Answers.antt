@@ -1,4 +1,4 @@
-use Rattle.std.proofs.Common.{◌≡◌, ◌+◌, [], ◌∷◌, ap, arith, rules, subst, sym}
+use Rattle.std.proofs.Common.{◌≡◌, [], ◌∷◌, ap, arith, rules, subst, sym}
 use Rattle.dc_answer.specs.Answer.{Any, Reported}
 use Rattle.dc_answer.specs.lemmas.Plain.{of_one, plain}
 use Rattle.dc_run_margins.specs.Margins.{ReportsLeast}

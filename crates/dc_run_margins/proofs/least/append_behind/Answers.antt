@@ -1,0 +1,16 @@
+use Rattle.std.proofs.Common.{◌+◌, append-nil, sym, ◌∙◌}
+use Rattle.dc_cert.specs.Bounds.{certificate_rows}
+use Rattle.dc_margin.specs.Lines.{lines_below, job_lines_of}
+use Rattle.dc_run_margins.proofs.Feeding.{job-more}
+use Rattle.dc_run_margins.specs.Margins.{found_text}
+use Rattle.dc_run_margins.proofs.least.append_behind.Goals as goal
+
+pub loop-behind-init : goal.loop-behind-init
+unfolding lines_below
+loop-behind-init c = sym (append-nil c.args.page.now)
+
+pub loop-behind-preserved : goal.loop-behind-preserved
+loop-behind-preserved c =
+    job-more (found_text c.args.tables.now (certificate_rows c.args.certificate.now)) (λ k. job_lines_of c.args.tables.now (certificate_rows c.args.certificate.now) (c.args.jobs + k))
+    c.loop-behind.behind c.args.page.now c.loop-behind.page c.append_found.new.page
+    c.as_slice.result.now c.loop-behind.invariant (c.as_slice.ensures ∙ c.job_lines-own.ensures.lines) c.in_ok-append_found.ensures
