@@ -9,6 +9,9 @@ from functools import cached_property, lru_cache
 from typing import NamedTuple
 
 LONGEST = 100_000
+# What stands for a least number where there is none, and for those of a queue of which no window closes.
+NONE = float("inf")
+NO_NUMBERS = {"window": LONGEST, "backlog": NONE, "delay": NONE}
 
 
 class Bound:
@@ -111,9 +114,19 @@ def told(in_range, condition):
     return condition if in_range else Condition(condition.part, condition.name, condition.code)
 
 
+def open_conditions(bound):
+    """C02 to C07 of an input or an output of which no window closes, with the longest: what rests on a delay or backlog is not told."""
+    told = {"C02": 0, "C03": bound.floor(LONGEST - 1) - bound.cap(LONGEST)}
+    codes = ("C02", "C07", "C03", "C04", "C05", "C06") if bound.part == "input" else ("C02", "C07", "C03", "C06")
+    return [Condition(bound.part, bound.name, code, margin=told.get(code)) for code in codes]
+
+
 def queue_conditions(bound, row):
     """C02 to C07 of an input or an output, in their order."""
     place, window, delay = (bound.part, bound.name), row["window"], row["delay"]
+    if delay == NONE:
+        yield from open_conditions(bound)
+        return
     in_range = 1 <= window <= LONGEST
     windows = range(1, window + 1) if in_range else [1]
     yield Condition(*place, "C02", in_range, min(window - 1, LONGEST - window))
@@ -144,7 +157,7 @@ def label_conditions(tables, label, certificate):
     in_range, slowest, rarest = max(delays.values()) <= LONGEST, max(delays, key=delays.get), max(silences, key=silences.get)
     yield told(in_range, Condition(*place, "C10", all(row.stale + delay <= age for delay in delays.values()),
                                    age - row.stale - delays[slowest], f"source={tables.streams[slowest].name}"))
-    yield Condition(*place, "C11", age <= row.limit, row.limit - age)
+    yield told(age != NONE, Condition(*place, "C11", age <= row.limit, row.limit - age))
     yield told(in_range, Condition(*place, "C12", all(silence <= row.stale for silence in silences.values()),
                                    row.stale - silences[rarest], f"source={tables.streams[rarest].name}"))
 
@@ -156,12 +169,12 @@ class Judge:
         self.tables = tables
         self.bounds = [*(input_bound(tables, bus) for bus in range(len(tables.buses))), *map(output_bound, tables.outputs)]
 
-    def conditions(self, certificate, parts=None):
-        """The conditions of the first so many parts, the inputs, the outputs and the labels in one row."""
+    def conditions(self, certificate):
+        """The conditions of the inputs, the outputs and the labels in one row."""
         rows = [*certificate["inputs"], *certificate["outputs"]]
         each = [queue_conditions(*it) for it in zip(self.bounds, rows)]
         each += [label_conditions(self.tables, label, certificate) for label in range(len(certificate["labels"]))]
-        return [condition for part in each[:parts] for condition in part]
+        return [condition for part in each for condition in part]
 
     def misnaming(self, certificate):
         """C01: the inputs are not the tables' buses, once each in their order; or the outputs, or the labels likewise."""
@@ -187,33 +200,37 @@ class Judge:
 
     @cached_property
     def least(self):
-        """The least numbers, as far as there are any; in how many parts, and what stands in the way of a certificate, or None."""
-        certificate, parts = {"inputs": [], "labels": [], "outputs": [], "version": 1}, 0
+        """The least numbers, NONE where there are none, and what stands first in the way of a certificate, or None."""
+        certificate = {"inputs": [], "labels": [], "outputs": [], "version": 1}
         for bound in self.bounds:
-            if bound.least is None:
-                return certificate, parts, f"refused F1 {bound.part} {bound.name}"
-            key = "bus" if bound.part == "input" else "output"
-            certificate[f"{bound.part}s"].append({key: bound.name, **bound.least})
-            parts += 1
-            if key == "output":
-                del certificate["outputs"][-1]["backlog"]
-            elif bound.least["backlog"] > bound.queue:
-                return certificate, parts, f"refused F2 input {bound.name}"
+            row = {"bus" if bound.part == "input" else "output": bound.name, **(bound.least or NO_NUMBERS)}
+            if bound.part == "output":
+                del row["backlog"]
+            certificate[f"{bound.part}s"].append(row)
         for row in self.tables.labels:
             delays = [certificate["inputs"][self.tables.streams[it].bus]["delay"] for it in row.sources]
             certificate["labels"].append({"age": row.stale + max(delays), "label": row.name})
-        broken = next((it for it in self.conditions(certificate) if not it.holds), None)
-        return certificate, parts + len(self.tables.labels), broken and f"refused F3 label {broken.name} {broken.code}"
+        return certificate, self.obstacle(certificate)
+
+    def obstacle(self, least):
+        """What stands first in the way of a certificate, given the least numbers, or None."""
+        for bound in self.bounds:
+            if bound.least is None:
+                return f"refused F1 {bound.part} {bound.name}"
+            if bound.part == "input" and bound.least["backlog"] > bound.queue:
+                return f"refused F2 input {bound.name}"
+        broken = next((it for it in self.conditions(least) if not it.holds), None)
+        return broken and f"refused F3 label {broken.name} {broken.code}"
 
     def found(self):
         """The line of `find`."""
-        certificate, _, obstacle = self.least
+        certificate, obstacle = self.least
         return obstacle or text_of(certificate)
 
     def least_margins(self):
         """The lines of `margins` without a certificate."""
-        certificate, parts, obstacle = self.least
-        return [obstacle, *(it.line for it in self.conditions(certificate, parts))] if obstacle else self.margins(certificate)
+        certificate, obstacle = self.least
+        return [obstacle, *(it.line for it in self.conditions(certificate))] if obstacle else self.margins(certificate)
 
 
 def text_of(certificate):

@@ -4,7 +4,7 @@ Each draw takes a source of chance, a Random of the standard library, and says t
 """
 import json
 
-from acceptance import Judge
+from acceptance import NONE, Judge
 from definitions import OUT_SPACING, USABLE, Budgets, Tables, composed, up
 
 LABELS = ["001", "203", "204", "205", "310", "377"]
@@ -198,13 +198,14 @@ def changes_of(certificate, change):
 
 
 def near(chance, judge):
-    """A certificate near the least one, or one of numbers by chance where there is none."""
-    tables, (least, _, _), to = judge.tables, judge.least, chance.randint
+    """A certificate near the least one, with numbers by chance where there are none."""
+    tables, (least, _), to = judge.tables, judge.least, chance.randint
     inputs = [{"bus": row.name, "window": to(0, 30), "backlog": to(0, 6), "delay": to(0, 9)} for row in tables.buses]
     outputs = [{"output": row.name, "window": to(0, 30), "delay": to(0, 9)} for row in tables.outputs]
     labels = [{"label": row.name, "age": row.limit + to(-9, 1)} for row in tables.labels]
     drawn = {"inputs": inputs, "labels": labels, "outputs": outputs}
-    certificate = {"version": 1, **{part: [*least[part], *rows[len(least[part]):]] for part, rows in drawn.items()}}
+    certificate = {"version": 1, **{part: [row if NONE in found.values() else found for found, row in zip(least[part], rows)]
+                                    for part, rows in drawn.items()}}
     far, steps = [0, 100_001, 4_294_967_295], [1, 1, 2, -1] if chance.randrange(3) else [1, 5, 9]
     for _ in range(chance.randint(0, 4)):
         *_, certificate = chance.choice(list(changes_of(certificate, lambda it: max(0, it + chance.choice(steps)))))
