@@ -1,0 +1,2 @@
+-- The codes and words that the program prints.
+pub mod Codes

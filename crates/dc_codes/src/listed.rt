@@ -1,0 +1,92 @@
+//! The codes and words that the program prints, in the order of docs/formats.md.
+ghost use Rattle.std.specs.Prelude.{◌≡◌, map, true};
+ghost use Rattle.dc_codes.specs.Codes.{listed, listed_once, names};
+
+use crate::kind::Kind;
+
+static LISTED: [(Kind, &str); 75] = [
+    (Kind::Decoded, "E1"),
+    (Kind::Decoded, "E6"),
+    (Kind::Decoded, "E5"),
+    (Kind::Failure, "device"),
+    (Kind::Failure, "memory"),
+    (Kind::Failure, "threads"),
+    (Kind::Table, "T01"),
+    (Kind::Table, "T02"),
+    (Kind::Table, "T03"),
+    (Kind::Table, "T04"),
+    (Kind::Table, "T05"),
+    (Kind::Table, "T06"),
+    (Kind::Table, "T07"),
+    (Kind::Table, "T08"),
+    (Kind::Table, "T09"),
+    (Kind::Table, "T10"),
+    (Kind::Table, "T11"),
+    (Kind::Table, "T12"),
+    (Kind::Table, "T13"),
+    (Kind::Table, "T14"),
+    (Kind::Table, "T15"),
+    (Kind::Table, "T16"),
+    (Kind::Table, "T17"),
+    (Kind::Table, "T18"),
+    (Kind::Table, "T19"),
+    (Kind::Table, "T20"),
+    (Kind::Table, "T21"),
+    (Kind::Table, "T22"),
+    (Kind::Table, "T23"),
+    (Kind::Table, "T24"),
+    (Kind::Certificate, "K1"),
+    (Kind::Certificate, "K2"),
+    (Kind::Certificate, "K3"),
+    (Kind::Certificate, "K4"),
+    (Kind::Certificate, "K5"),
+    (Kind::Certificate, "K6"),
+    (Kind::Condition, "C01"),
+    (Kind::Condition, "C02"),
+    (Kind::Condition, "C03"),
+    (Kind::Condition, "C04"),
+    (Kind::Condition, "C05"),
+    (Kind::Condition, "C06"),
+    (Kind::Condition, "C07"),
+    (Kind::Condition, "C08"),
+    (Kind::Condition, "C09"),
+    (Kind::Condition, "C10"),
+    (Kind::Condition, "C11"),
+    (Kind::Condition, "C12"),
+    (Kind::Finder, "F1"),
+    (Kind::Finder, "F2"),
+    (Kind::Finder, "F3"),
+    (Kind::Trace, "E1"),
+    (Kind::Trace, "E2"),
+    (Kind::Trace, "E3"),
+    (Kind::Trace, "E4"),
+    (Kind::Trace, "E5"),
+    (Kind::Trace, "E6"),
+    (Kind::Reply, "parity"),
+    (Kind::Reply, "undeclared"),
+    (Kind::Reply, "early"),
+    (Kind::Reply, "overrun"),
+    (Kind::Reply, "latched"),
+    (Kind::Reply, "queued"),
+    (Kind::Reply, "took"),
+    (Kind::Reply, "empty"),
+    (Kind::Reply, "idle"),
+    (Kind::Reply, "tick"),
+    (Kind::Step, "spent"),
+    (Kind::Step, "early"),
+    (Kind::Step, "owed"),
+    (Kind::Step, "ticks"),
+    (Kind::Audit, "budgets"),
+    (Kind::Audit, "sources"),
+    (Kind::Audit, "claim"),
+    (Kind::Bench, "hub"),
+];
+
+/// The codes that the program prints, in the order of docs/formats.md.
+pub fn all() -> &'static [(Kind, &'static str)]
+    ensures listed { map (λ p. (p.0, p.1.now)) result.now ≡ listed }
+    ensures once { listed_once listed ≡ true }
+    ensures names { map (λ p. p.1.now) result.now ≡ names }
+{
+    &LISTED
+}

@@ -1,0 +1,418 @@
+//! What the codes mean, in the words of the tables of docs/formats.md, which `scripts/codes` compares. Of each code there
+//! are four lines: the code, what it means, an example, and what to do; an empty line parts it from the next.
+
+use crate::kind::Kind;
+
+/// The texts of the codes of a kind.
+pub(crate) fn texts_of(kind: Kind) -> &'static str {
+    match kind {
+        Kind::Decoded => DECODED,
+        Kind::Failure => FAILURE,
+        Kind::Table => TABLE,
+        Kind::Certificate => CERTIFICATE,
+        Kind::Condition => CONDITION,
+        Kind::Finder => FINDER,
+        Kind::Trace => TRACE,
+        Kind::Reply => REPLY,
+        Kind::Step => STEP,
+        Kind::Audit => AUDIT,
+        Kind::Bench => BENCH,
+    }
+}
+
+/// Of the words that `decode` reads.
+const DECODED: &str = "\
+E1
+the line has over 64 bytes, its line feed not counted, or the text over 2^63 - 1
+65 letters `A`: E1 at line 1
+one word a line
+
+E6
+the input ends inside a line that has at least one byte
+`600000C1` without a line feed: E6 at line 1
+end the last line with a line feed
+
+E5
+the line is not eight hexadecimal digits (an empty line too)
+`600000C`: E5 at line 1
+write the word as eight hexadecimal digits and nothing else in its line: no `0x`, no blanks, no carriage return";
+
+/// Of what kept the program from its work.
+const FAILURE: &str = "\
+device
+a file cannot be opened, or a read, a write or a flush failed
+`dc429 find absent.toml`, where there is no such file
+mend the path, or what the input comes from or the output goes to; where lines were written before, they are whole and stand
+
+memory
+memory was refused
+`check` with a limit of memory that is too low for the tables
+give the process more memory
+
+threads
+a thread that `check --workers` or `bench` needs could not be started
+`check --workers 64` under a limit of ten processes
+fewer workers, or a higher limit of threads. Without `--workers` the verdict of `check` is the same and needs none";
+
+/// Of the faults of tables.
+const TABLE: &str = "\
+T01
+the text is over its limit, not UTF-8 or no TOML document
+`version = 1` twice: T01 at top
+mend the text
+
+T02
+`version` is absent or neither 1 nor 2
+`version = 3`: T02 at top
+write `version = 1`, or 2 with its two keys
+
+T03
+a wanted key is absent
+no `tick_us`: T03 at top; in policed.toml no `police`: T03 at bus 0
+add it
+
+T04
+a key is unknown
+`colour = 1` in the bus, or `police = true`: T04 at bus 0
+mend its spelling, take it out, or write `version = 2`
+
+T05
+a value is not of its key's kind
+`queue = 2.0`: T05 at bus 0; in policed.toml `police = 1`: T05 at bus 0
+write a number, a text, a list, true or false, as docs/formats.md says of the key under \"Tables\"
+
+T06
+a number is outside its range
+`tick_us = 10001`: T06 at top; in policed.toml `jitter_us = 60000001`: T06 at stream 0
+write a number within the range of the key: docs/formats.md, \"Tables\"
+
+T07
+a text is not in its spelling
+the first parameter's `label = \"380\"`: T07 at parameter 0
+write the text as its key is spelled: docs/formats.md, \"Tables\"
+
+T08
+a list, or a total over the tables, is outside its limits
+`visits = []`: T08 at router 0
+split the tables
+
+T09
+a parameter is doubled
+the second parameter's `label = \"203\"`: T09 at parameter 1
+one row for each label with equipment code
+
+T10
+`min_us` over `max_us`
+`min_us = 30000`: T10 at parameter 0
+exchange them
+
+T11
+a stream's parameter has an input minimum below one tick
+both `min_us = 999`: T11 at stream 0
+a shorter tick
+
+T12
+an output label's parameter leaves no output interval
+`tick_us = 10000`: T12 at label 0
+a shorter tick
+
+T13
+a name is doubled within its kind
+the second stream's `name = \"A-203\"`: T13 at stream 1
+rename the later one
+
+T14
+a stream or label names a parameter that is not there
+the second stream's `equipment = \"002\"`: T14 at stream 1
+add the parameter
+
+T15
+two streams of a bus have one label, and equal SDI or one of them \"any\"
+the second stream's `label = \"203\"`: T15 at stream 1
+part them by SDI
+
+T16
+`visits` or `sources` holds a name that is not there
+`visits = [\"A\", \"B\"]`: T16 at router 0
+mend the name
+
+T17
+a bus is in the visits of no router, or of two routers
+a second router that visits A: T17 at bus 0
+give it one router
+
+T18
+a source is doubled in a label
+`sources = [\"A-203\", \"A-203\"]`: T18 at label 0
+name it once
+
+T19
+a label's format is not that of each of its sources
+the label's parameter is `bnr`, a source's `bcd`: T19 at label 0
+sources of the label's format
+
+T20
+an offset is not below the frame
+`offsets = [15]`: T20 at label 0
+a longer frame
+
+T21
+two entries of an output have one offset
+`offsets = [0, 0]`: T21 at label 0
+move one
+
+T22
+two labels of an output have one label and SDI
+a second label 203 with SDI 0: T22 at label 1
+part them by SDI
+
+T23
+a router's steps > most x within
+R1 with `steps = 3`, `most = 1`: T23 at router 0
+the router could never keep its pace: lower `steps`, or raise `most` or `within`
+
+T24
+an output's steps x gap > within
+O with `steps = 3`: T24 at output 0
+the output could never keep its pace: lower `steps` or raise `within`";
+
+/// Of the faults of a certificate.
+const CERTIFICATE: &str = "\
+K1
+the text is over 1,048,576 bytes, not UTF-8 or no JSON text with nothing after it
+its last brace left out: K1 at top
+mend the text, or let `dc429 find` write one
+
+K2
+`version` is absent or not the number 1
+`\"version\":2`: K2 at top
+write `\"version\":1`
+
+K3
+a wanted key is absent
+no `delay` of A: K3 at inputs 0
+add it
+
+K4
+a key is unknown
+`\"remark\":0` beside `version`: K4 at top
+mend its spelling, or take it out
+
+K5
+a value is not of its kind; a number is negative, too large, or written with a fraction or exponent
+A's `\"window\":3.0`: K5 at inputs 0
+write a whole number from 0 to 4,294,967,295 in digits alone, a name in quotes, or a list
+
+K6
+a list has more than 1,024 members, or a name is not in its spelling
+`\"bus\":\"A B\"`: K6 at inputs 0
+the names as in the tables: 1 to 16 of `A-Z a-z 0-9 _ -`";
+
+/// Of the conditions of certificates.
+const CONDITION: &str = "\
+C01
+the inputs are not the tables' buses, once each in their order; or the outputs, or the labels likewise
+no inputs: `refused C01 inputs`
+list them as the tables do
+
+C02
+window outside 1 to 100,000 ticks
+A's window 0: `refused C02 input A`
+a window in the range
+
+C03
+`a(window) > s(window - 1)`: the window does not close
+A's window 2: `refused C03 input A`
+a longer window, or more steps
+
+C04
+for some w up to the window `a(w) - s(w - 2)` is over the backlog; the first w is named
+A's backlog 1: `refused C04 input A window 1`
+a greater backlog
+
+C05
+the backlog is over the queue's capacity
+`queue = 1` in the tables: `refused C05 input A`
+a longer queue, or more steps
+
+C06
+for some w up to the window `a(w) > s(w - 1 + delay)`; the first w is named
+A's delay 1: `refused C06 input A window 1`
+a greater delay
+
+C07
+the delay is over 100,000 ticks
+A's delay 100001: `refused C07 input A`
+a delay in the range
+
+C08
+the least gap of the label's entries is below its output minimum + the output's delay
+O's delay 5: `refused C08 label x`
+entries further apart
+
+C09
+the greatest gap of the label's entries + the output's delay is over its output maximum
+`frame = 18` in the tables: `refused C09 label x`
+entries nearer together
+
+C10
+the age is below stale + the greatest delay of its sources' buses
+age 23: `refused C10 label x`
+a greater age
+
+C11
+the age is over the label's limit
+age 31: `refused C11 label x`
+a smaller age, or a shorter stale
+
+C12
+stale is below the bus's delay + the input maximum of some source: a live source could be passed over
+`stale = 21` in the tables: `refused C12 label x`
+a longer stale";
+
+/// Of what stands in the way of each certificate.
+const FINDER: &str = "\
+F1
+no window of 1 to 100,000 ticks closes, as where in the long run as much may come as is surely taken, or more
+R1 with `within = 10`: `refused F1 input A`
+of an input: more `steps` of its router, a smaller `within`, more visits of the bus, or fewer streams on it; of an output: more `steps`, a smaller `within`, or fewer entries in its frame
+
+F2
+by the bounds more words may wait in the receive queue than it holds
+`queue = 1`: `refused F2 input A`
+a longer queue, a quicker router, or less jitter
+
+F3
+whatever is accepted of the inputs and outputs, a condition on the label fails: C08, C09 or C12, or C10 and C11 together, which is told as C11
+`stale = 21`: `refused F3 label x C12`
+what the condition's own code asks for, as C12. Of C11: a greater `age`, a shorter `stale`, or a quicker router of its sources' buses";
+
+/// Of the faults of a trace.
+const TRACE: &str = "\
+E1
+a line has over 64 bytes, or the trace passes its limit
+65 letters `A`: E1 at line 1
+one event a line; a shorter trace: 1,073,741,824 bytes for `replay`, and 100,000 events for `audit`
+
+E2
+the first field is not A, R, S or T (an empty line too)
+`t`: E2 at line 1
+begin the line with A, R, S or T in upper case; no empty lines and no comments
+
+E3
+the number of fields is not that of its kind
+`A A`: E3 at line 1
+`A <bus> <word>`, `R <router>`, `S <output>` or `T`, with one space between fields and none at the end
+
+E4
+the name is not in the tables
+`R R2`: E4 at line 1
+the name of a bus after A, of a router after R, of an output after S, as in the tables
+
+E5
+the word is not eight hexadecimal digits
+`A A 600000C`: E5 at line 1
+write the word as eight hexadecimal digits
+
+E6
+the input ends inside a line that has at least one byte
+`T` without a line feed: E6 at line 1
+end the last line with a line feed";
+
+/// Of the replies of `replay`.
+const REPLY: &str = "\
+parity
+the word that came has even parity: it is not queued, and it is lost
+`A A 200000C1`: `0 A parity 200000C1`
+mend the sender or the wire, or set the parity bit (bit 32) of the word in the trace so that it has an odd number of ones
+
+undeclared
+the word that came has a label and SDI of no stream of its bus: it is not queued, and it is lost
+`A A E0000081`: `0 A undeclared E0000081`
+declare a stream of this label and SDI on the bus, or leave it: no output copies such words
+
+early
+on a policed bus the word came sooner than the interval and the jitter of its stream let it: it is not queued, and it is lost
+in policed.toml `A A 600000C1`, `A A 600000C1`: `0 A early 600000C1`
+mend the source, or declare a smaller `min_us` or a greater `jitter_us` and judge a certificate for these tables
+
+overrun
+the receive queue of the bus is full: the word is lost, and after it the bus brings nothing more
+`A A 600000C1`, `A A E0000021`, `A A 600000C1`: `0 A overrun 600000C1`
+a longer `queue` or a quicker router, as an accepted certificate asks for; or mend the source that sends too soon
+
+latched
+the word came on a bus whose queue has overrun before: it is lost, and no output uses the bus as fresh
+after the three lines of `overrun` a fourth, `A A 600000C1`: `0 A latched 600000C1`
+find the first `overrun` of the bus, and mend that
+
+queued
+the word that came is in the receive queue, in which so many words wait now
+`A A 600000C1`: `0 A queued 1`
+nothing: this is as it should be
+
+took
+the router took this word from the queue of this bus
+`A A 600000C1`, `R R1`: `0 R1 took A 600000C1`
+nothing: this is as it should be
+
+empty
+the router came to this bus, and no word waited there
+`R R1`: `0 R1 empty A`
+nothing: this is as it should be
+
+idle
+no entry of the output was due that had not been sent
+`S O`, `R R1`, `T`, `R R1`, `T`, `R R1`, `S O`: `2 O idle`
+nothing: this is as it should be
+
+tick
+the tick ended, and this one began
+`R R1`, `T`: `1 tick`
+nothing: this is as it should be";
+
+/// Of the steps that may not follow those before them.
+const STEP: &str = "\
+spent
+the router has made its `most` steps in this tick
+`R R1`, `R R1`, `R R1`: `refused spent R1 at line 3`
+fewer steps a tick, or a greater `most`
+
+early
+the output's last send lies less than its gap back (its spacing in ticks, rounded up)
+`S O`, `S O`: `refused early O at line 2`
+sends further apart. This is no reply: no word is refused, but a step
+
+owed
+the tick cannot end: this router or output has made fewer than its `steps` in the last `within` ticks, the running one included. The first such one is reported, routers before outputs
+`T`: `refused owed R1 at line 1`
+more steps before the Tick, or smaller `steps` or a greater `within`
+
+ticks
+the tick would pass 2^40; reported before `owed`
+none that fits in a trace of 1,073,741,824 bytes
+a shorter trace";
+
+/// Of the lines of `audit`.
+const AUDIT: &str = "\
+budgets
+the event there is a step too many of a router in one tick, a send within the gap of its output, or a Tick before some router or output has made its `steps` in the last `within` ticks: an actor that runs ahead, or one that starves
+`T` 21 times: `budgets fail at 1`
+mend the schedule of that actor, or declare what it does (a greater `most` or `within`, smaller `steps`) and judge a certificate for these tables
+
+sources
+the word there comes sooner than the interval and jitter of its stream let it, or is more than the wire of its bus carries: a source that sends too soon
+`A A 600000C1`, `A A E0000021`, `A A 600000C1`: `sources fail at 3`
+mend the source, or declare what it does (a smaller `min_us`, a greater `jitter_us`, `speed`), or let the bus refuse such words (`police = true`), and judge a certificate for these tables
+
+claim
+the least claim that fails at the first event at which any does. 1: a receive queue overruns. 2: a word leaves that copies one older than the age of the certificate. 3: a live first source whose recent words are usable is left aside, or a word leaves that is not usable though the recent words of a live source are. 4: a label leaves too soon after its last time, or has not left for longer than its greatest interval
+`T` 21 times: `claim 4 fails at 21`
+see which of the two lines above fails, and mend that";
+
+/// Of the lines of `bench`.
+const BENCH: &str = "\
+hub
+with status 1, only where a step was refused, a seat's steps were not its actor's own, or a book of the hub did not close
+none: the tests never see it
+report it as a fault of the program, with the tables and the certificate";
