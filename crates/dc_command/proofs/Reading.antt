@@ -1,9 +1,11 @@
 -- What the matches of a command say, as rows.
-use Rattle.std.proofs.Common.{◌≡◌, ◌∙◌, ℕ, Bool, true, false, codes, sym, subst, Option, Some, None}
+use Rattle.std.proofs.Common.{◌≡◌, ◌∙◌, ℕ, Bool, true, false, codes, find, sym, subst, Option, Some, None}
 use Rattle.clap.specs.Words.{Text, first_of, first_value, one_of, one_text, rows_of}
 use Rattle.clap.specs.declared.parser.matches.Found.{Found}
 use Rattle.clap.proofs.WalkLemmas.{first_value-rows, one_text-rows}
-use Rattle.dc_command.specs.Asked.{AreGiven, IsSet, TicksAre}
+use Rattle.dc_codes.specs.Codes.{asks_for, names}
+use Rattle.dc_codes.specs.declared.code.Code.{Code}
+use Rattle.dc_command.specs.Asked.{AreGiven, CodesAre, IsSet, TicksAre}
 
 -- a text that is given
 pub text_given : (f : Found) (id text : Text) → Some text ≡ first_value f id → first_of id (rows_of f) ≡ Some text
@@ -21,3 +23,13 @@ ticks_given f id ticks given = subst (λ o. TicksAre o ticks) (first_value-rows 
 pub flag_given : (f : Found) (id : Text) (set : Bool) → (one_text f id ≡ None → set ≡ false) → (one_text f id ≡ Some (codes "true") → set ≡ true)
     → (one_text f id ≡ Some (codes "false") → set ≡ false) → IsSet (one_of id (rows_of f)) set
 flag_given f id set none on off = subst (λ o. IsSet o set) (one_text-rows f id) (none, on, off)
+
+-- one code, without the flag
+pub code_given : (f : Found) (id flag text : Text) (code : Code) → Some text ≡ first_value f id → IsSet (one_of flag (rows_of f)) false
+    → Some code.name.now ≡ find (asks_for text) names → CodesAre (first_of id (rows_of f)) (one_of flag (rows_of f)) (Some code)
+code_given f id flag text code is set asked = subst (λ o. CodesAre o (one_of flag (rows_of f)) (Some code)) (sym (text_given f id text is)) (set, asked)
+
+-- all codes, by the flag alone
+pub all_given : (f : Found) (id flag : Text) → None ≡ first_value f id → IsSet (one_of flag (rows_of f)) true
+    → CodesAre (first_of id (rows_of f)) (one_of flag (rows_of f)) None
+all_given f id flag none set = subst (λ o. CodesAre o (one_of flag (rows_of f)) None) (none ∙ first_value-rows f id) set

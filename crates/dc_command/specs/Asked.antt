@@ -1,14 +1,16 @@
 -- What a command line may ask.
-use Rattle.std.specs.Prelude.{◌≡◌, ◌≤◌, ℕ, Bool, true, false, List, Option, Some, None, IfSome, codes, option_map}
+use Rattle.std.specs.Prelude.{◌≡◌, ◌≤◌, ℕ, Bool, true, false, List, Option, Some, None, IfSome, codes, find, option_map}
 use Rattle.std.specs.Str.Parse.{IsNumeral, digits_value, without_leading_plus}
 use Rattle.clap.specs.Walk.{Row, Text, first_of, one_of}
 use Rattle.clap.specs.Simple.{subcommand_of}
 use Rattle.clap.specs.declared.builder.value_parser.ValueParser.{ValueParser}
+use Rattle.dc_codes.specs.Codes.{asks_for, names}
+use Rattle.dc_codes.specs.declared.code.Code.{Code}
 use Rattle.dc_word.specs.declared.format.Format.{Format}
 use Rattle.dc_word.specs.declared.format.Format.TheVariants.{Bnr, Bcd, Disc}
 use Rattle.dc_command.specs.Program.{program_app}
 use Rattle.dc_command.specs.declared.asked.Order.{Order}
-use Rattle.dc_command.specs.declared.asked.Order.TheVariants.{Decode, Check, Find, Report, Margins, Replay, Audit, Bench}
+use Rattle.dc_command.specs.declared.asked.Order.TheVariants.{Decode, Check, Find, Report, Margins, Replay, Audit, Bench, Explain}
 use Rattle.dc_command.specs.declared.limits.TheConstants.{MOST_TICKS, MOST_WORKERS, USUAL_TICKS}
 
 -- the text is this number of workers, in decimal
@@ -47,6 +49,13 @@ format_name Disc = codes "disc"
 abbrev pub IsSet : Option (List ℕ) → Bool → Type 0
 IsSet text set = (text ≡ None → set ≡ false) × (text ≡ Some (codes "true") → set ≡ true) × (text ≡ Some (codes "false") → set ≡ false)
 
+-- the code that a text asks for, where the flag is not set; all of them, where it is and there is no text
+abbrev pub CodesAre : Option (List ℕ) → Option (List ℕ) → Option Code → Type 0
+CodesAre (Some text) all (Some code) = IsSet all false × (Some code.name.now ≡ find (asks_for text) names)
+CodesAre (Some text) all None = ⊥
+CodesAre None all (Some code) = ⊥
+CodesAre None all None = IsSet all true
+
 -- what the matches of the command of this name ask
 abbrev pub AsksBy : Text → List Row → Order → Type 0
 AsksBy name rows (Decode format) = (name ≡ codes "decode") × (first_of (codes "format") rows ≡ Some (format_name format))
@@ -65,6 +74,7 @@ AsksBy name rows (Audit tables certificate) =
 AsksBy name rows (Bench tables certificate ticks) =
     (name ≡ codes "bench") × (first_of (codes "TABLES") rows ≡ Some tables.now) × (first_of (codes "CERT") rows ≡ Some certificate.now)
     × TicksAre (first_of (codes "ticks") rows) ticks
+AsksBy name rows (Explain code) = (name ≡ codes "explain") × CodesAre (first_of (codes "CODE") rows) (one_of (codes "all") rows) code
 
 -- what a command and its matches ask
 abbrev pub Asks : Option (Text × List Row) → Order → Type 0

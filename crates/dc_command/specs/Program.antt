@@ -65,6 +65,10 @@ optional_app name = with_rule (tables_app name) (new_rule (codes "CERT"))
 abbrev pub replay_app : App
 replay_app = with_rule (tables_app (codes "replay")) all_rule
 
+-- `explain`, which may be told a code, or to tell all
+abbrev pub explain_app : App
+explain_app = with_rule (with_rule (new_app (codes "explain")) (new_rule (codes "CODE"))) all_rule
+
 -- the program without its commands
 abbrev pub bare_app : App
 bare_app = on_top (λ s. record s { has_version = true; subcommand_required = true }) (new_app (codes "dc429"))
@@ -72,9 +76,9 @@ bare_app = on_top (λ s. record s { has_version = true; subcommand_required = tr
 -- the program, whose formats are read by this parser
 abbrev pub program_app : ValueParser → App
 program_app formats =
-    with_subcommand (with_subcommand (with_subcommand (with_subcommand (with_subcommand (with_subcommand (with_subcommand (with_subcommand bare_app (decode_app formats).top)
-    check_app.top) (tables_app (codes "find")).top) replay_app.top) (certificate_app (codes "audit")).top) bench_app.top)
-    (optional_app (codes "report")).top) (optional_app (codes "margins")).top
+    with_subcommand (with_subcommand (with_subcommand (with_subcommand (with_subcommand (with_subcommand (with_subcommand (with_subcommand (with_subcommand
+    bare_app (decode_app formats).top) check_app.top) (tables_app (codes "find")).top) replay_app.top) (certificate_app (codes "audit")).top) bench_app.top)
+    (optional_app (codes "report")).top) (optional_app (codes "margins")).top) explain_app.top
 
 -- clap reads this of a command, none of whose arguments is global
 abbrev pub IsRead : App → Command → Type 0

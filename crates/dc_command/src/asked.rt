@@ -8,6 +8,7 @@ use crate::known::program;
 use crate::limits::{MOST_TICKS, MOST_WORKERS, USUAL_TICKS};
 use clap::error::ErrorKind;
 use clap::{ArgMatches, Error};
+use dc_codes::Code;
 use dc_word::Format;
 use std::alloc::Global;
 
@@ -66,6 +67,11 @@ pub enum Order<'a> {
         certificate: &'a str,
         /// For how many ticks, 1 to [`MOST_TICKS`](crate::MOST_TICKS).
         ticks: u16,
+    },
+    /// Tell what a code means.
+    Explain {
+        /// The code, or every one where none is said.
+        code: Option<Code>,
     },
 }
 
@@ -215,6 +221,29 @@ fn bench_in<'a>(matches: &ArgMatches<'a>) -> Option<Order<'a>>
     }
 }
 
+/// What the matches of `explain` ask.
+fn explain_in<'a>(matches: &ArgMatches<'a>) -> Option<Order<'a>>
+    ensures { IfSome result (AsksBy (codes "explain") (rows_of (found_of matches.now))) }
+{
+    let all = matches.get_flag("all");
+    match matches.get_str("CODE") {
+        Some(text) => {
+            if all {
+                return None;
+            }
+            let code = Code::named(text)?;
+            Some(Order::Explain { code: Some(code) })
+        }
+        None => {
+            if all {
+                Some(Order::Explain { code: None })
+            } else {
+                None
+            }
+        }
+    }
+}
+
 /// What the matches of a command of this name ask, where they have what is required.
 fn order_by<'a>(name: &str, matches: &ArgMatches<'a>) -> Option<Order<'a>>
     ensures { IfSome result (AsksBy name.now (rows_of (found_of matches.now))) }
@@ -228,6 +257,7 @@ fn order_by<'a>(name: &str, matches: &ArgMatches<'a>) -> Option<Order<'a>>
         "replay" => replay_in(matches),
         "audit" => audit_in(matches),
         "bench" => bench_in(matches),
+        "explain" => explain_in(matches),
         _ => None,
     }
 }
@@ -238,6 +268,14 @@ fn order_in<'a>(matches: &ArgMatches<'a>) -> Option<Order<'a>>
 {
     let (name, matches) = matches.subcommand()?;
     order_by(name, matches)
+}
+
+/// What is said of a command line that asks for nothing which there is.
+fn fault_of(matches: &ArgMatches<'_>) -> &'static str {
+    match matches.subcommand() {
+        Some(("explain", _)) => "explain wants one code that is printed, as C06, or --all alone",
+        _ => "a value is out of its range",
+    }
 }
 
 /// What the words ask, of which the first is the program's name.
@@ -253,6 +291,6 @@ pub fn command<'a>(alloc: Global, words: &'a [String]) -> Result<Order<'a>, Erro
     let matches = program.try_get_matches_from_mut(words)?;
     match order_in(&matches) {
         Some(order) => Ok(order),
-        None => Err(program.error(ErrorKind::InvalidValue, "a value is out of its range")?),
+        None => Err(program.error(ErrorKind::InvalidValue, fault_of(&matches))?),
     }
 }

@@ -1,7 +1,7 @@
 //! The commands that there are, with their arguments and what is said of them.
 ghost use Rattle.std.specs.Prelude.{◌≡◌, false, codes, IfOk};
 ghost use Rattle.clap.specs.Words.{rule_of};
-ghost use Rattle.dc_command.specs.Program.{IsDecode, IsProgram, IsRead, bare_app, bench_app, certificate_app, check_app, file_rule, optional_app, replay_app, tables_app};
+ghost use Rattle.dc_command.specs.Program.{IsDecode, IsProgram, IsRead, bare_app, bench_app, certificate_app, check_app, explain_app, file_rule, optional_app, replay_app, tables_app};
 
 use crate::limits::{MOST_TICKS, MOST_WORKERS};
 use clap::{Arg, ArgAction, Command, Error, value_parser};
@@ -156,6 +156,27 @@ fn bench<'a>(alloc: Global) -> Result<Command<'a>, Error>
     Ok(bench.arg(ticks)?)
 }
 
+/// The command `explain`.
+fn explain<'a>(alloc: Global) -> Result<Command<'a>, Error>
+    ensures { IfOk result (IsRead explain_app) }
+{
+    let code = Arg::new(alloc, "CODE").help(
+        "A code or a word of refusal as it is printed, in upper or lower case: C06, t16, owed",
+    );
+    let all = Arg::new(alloc, "all")
+        .long("all")
+        .help("Tells every code")
+        .action(ArgAction::SetTrue);
+    Ok(
+        Command::new(alloc, "explain")
+            .about(
+                "Tells what a printed code means, with an example and what to do: dc429 explain C06",
+            )
+            .arg(code)?
+            .arg(all)?,
+    )
+}
+
 /// The program without its commands.
 fn bare<'a>(alloc: Global) -> Command<'a>
     ensures { IsRead bare_app result }
@@ -179,6 +200,7 @@ pub fn program<'a>(alloc: Global) -> Result<Command<'a>, Error>
             .subcommand(audit(alloc)?)?
             .subcommand(bench(alloc)?)?
             .subcommand(report(alloc)?)?
-            .subcommand(margins(alloc)?)?,
+            .subcommand(margins(alloc)?)?
+            .subcommand(explain(alloc)?)?,
     )
 }

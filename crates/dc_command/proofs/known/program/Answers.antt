@@ -11,4 +11,5 @@ returns c =
     let five = one_more _ _ _ _ _ four c.in_ok-audit.ensures c.in_ok-subcommand-5.ensures in
     let six = one_more _ _ _ _ _ five c.in_ok-bench.ensures c.in_ok-subcommand-6.ensures in
     let seven = one_more _ _ _ _ _ six c.in_ok-report.ensures c.in_ok-subcommand-7.ensures in
-    (decode.0, one_more _ _ _ _ _ seven c.in_ok-margins.ensures c.in_ok-subcommand-8.ensures)
+    let eight = one_more _ _ _ _ _ seven c.in_ok-margins.ensures c.in_ok-subcommand-8.ensures in
+    (decode.0, one_more _ _ _ _ _ eight c.in_ok-explain.ensures c.in_ok-subcommand-9.ensures)
