@@ -48,12 +48,12 @@ impl Kind {
     /// What its meaning begins with.
     pub fn heading(self) -> &'static str {
         match self {
-            Kind::Decoded
-            | Kind::Table
-            | Kind::Certificate
-            | Kind::Condition
-            | Kind::Finder
-            | Kind::Trace => "Refused where: ",
+            Kind::Decoded | Kind::Table | Kind::Certificate | Kind::Finder | Kind::Trace => {
+                "Refused where: "
+            }
+            Kind::Condition => {
+                "Refused where (`a` is the most that may come, `s` the least that is surely taken, in so many ticks): "
+            }
             Kind::Failure | Kind::Reply | Kind::Step | Kind::Audit | Kind::Bench => "Means: ",
         }
     }
