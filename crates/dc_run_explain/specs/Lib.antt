@@ -1,0 +1,2 @@
+-- What `explain` answers.
+pub mod Explain
