@@ -9,6 +9,7 @@ use dc_command::{Order, command};
 use dc_device::{ReadSource, WriteSink};
 use dc_run::{run_audit, run_check, run_check_par, run_decode, run_find, run_replay};
 use dc_run_bench::run_bench;
+use dc_run_explain::run_explain;
 use dc_run_margins::{run_margins, run_margins_least};
 use dc_run_report::{run_report, run_report_least};
 use std::alloc::AllocError;
@@ -145,6 +146,7 @@ fn carry_out<R: AllocGlobal + Files + Input + Print + Threads + Wait + Sync>(
             certificate,
             workers,
         } => check(rt, tables, certificate, workers),
+        Order::Explain { code } => Ok(run_explain(rt.alloc(), code, &mut sink)),
         Order::Find { tables } => {
             let mut tables = ReadSource::new(fs::open(rt, tables)?);
             Ok(run_find(rt.alloc(), &mut tables, &mut sink))
