@@ -1,0 +1,77 @@
+-- How an order was carried out, by what its files and its engine say.
+use Rattle.std.proofs.Common.{◌≡◌, ◌⊎◌, ℕ, ◌+◌, List, [], ◌∷◌, refl, sym, ◌∙◌, ap, subst, arith, Option, Some, None, IfSome, inl, inr}
+use Rattle.dc_answer.specs.declared.exit.Exit.{Exit}
+use Rattle.dc_command.specs.declared.asked.Order.{Order}
+use Rattle.dc_device.specs.States.{SinkState, SourceState}
+use Rattle.dc_program.specs.Carries.{Carries}
+use Rattle.dc_program.specs.Opening.{AreNotOpened, AreOpened, AreOpenedFor, TellsFailure, failure_of}
+use Rattle.dc_program.specs.Orders.{ReportsAny, ReportsOrder, crew_of, files_of}
+use Rattle.dc_program.specs.World.{IsNew, WorldState, new_source}
+use Rattle.dc_program.specs.declared.world.Crew.{Crew}
+use Rattle.dc_program.specs.declared.world.NotOpened.{NotOpened}
+
+-- ---- files that were just opened
+
+pub of_one : (P : ℕ → Type 0) (s : SourceState) (text : Option (List ℕ)) → s ≡ new_source text → P s.failed → P 0
+of_one P s text same h = subst (λ (x : SourceState). P x.failed) same h
+
+pub of_two : (P : ℕ → Type 0) (s t : SourceState) (text more : Option (List ℕ)) → s ≡ new_source text → t ≡ new_source more → P (s.failed + t.failed) → P 0
+of_two P s t text more same too h = subst (λ (x : SourceState). P (x.failed + 0)) same (subst (λ (y : SourceState). P (s.failed + y.failed)) too h)
+
+pub one_text : (P : List ℕ → ℕ → Type 0) (s : SourceState) (text : Option (List ℕ)) → s ≡ new_source text → ((rows : List ℕ) → s.remaining ≡ Some rows → P rows s.failed)
+    → (rows : List ℕ) → text ≡ Some rows → P rows 0
+one_text P s text same h = subst (λ (x : SourceState). (rows : List ℕ) → x.remaining ≡ Some rows → P rows x.failed) same h
+
+pub two_texts : (P : List ℕ → List ℕ → ℕ → Type 0) (s t : SourceState) (text more : Option (List ℕ)) → s ≡ new_source text → t ≡ new_source more
+    → ((rows claims : List ℕ) → s.remaining ≡ Some rows → t.remaining ≡ Some claims → P rows claims (s.failed + t.failed))
+    → (rows claims : List ℕ) → text ≡ Some rows → more ≡ Some claims → P rows claims 0
+two_texts P s t text more same too h =
+    subst (λ (x : SourceState). (rows claims : List ℕ) → x.remaining ≡ Some rows → more ≡ Some claims → P rows claims (x.failed + 0)) same
+    (subst (λ (y : SourceState). (rows claims : List ℕ) → s.remaining ≡ Some rows → y.remaining ≡ Some claims → P rows claims (s.failed + y.failed)) too h)
+
+-- ---- standard input beside them
+
+pub one_input : (P : List ℕ → Type 0) (more : Option (List ℕ)) → IfSome more P → (text : List ℕ) → more ≡ Some text → P text
+one_input P None h text e = absurd (cc)
+one_input P (Some given) h text e = let same : given ≡ text = cc in subst P same h
+
+pub text_and_input : (P : List ℕ → List ℕ → ℕ → Type 0) (s : SourceState) (text more : Option (List ℕ)) → s ≡ new_source text
+    → IfSome s.remaining (λ rows. IfSome more (λ trace. P rows trace s.failed)) → (rows trace : List ℕ) → text ≡ Some rows → more ≡ Some trace → P rows trace 0
+text_and_input P s text more same h rows trace e f =
+    let here = subst (λ (x : SourceState). IfSome x.remaining (λ rows. IfSome more (λ trace. P rows trace x.failed))) same h in
+    one_input (λ trace. P rows trace 0) more (one_input (λ rows. IfSome more (λ trace. P rows trace 0)) text here rows e) trace f
+
+-- calls that failed, of two files and then of standard input
+parted : (P : ℕ → ℕ → Type 0) (a b c d e : ℕ) → P (0 + (0 + a)) (b + (c + d)) → e ≡ b + c → P (0 + a) (e + d)
+parted P a b c d e h is = let m : 0 + (0 + a) ≡ 0 + a = omega arith in let n : b + (c + d) ≡ e + d = omega (arith, is) in subst (P (0 + a)) n (subst (λ x. P x (b + (c + d))) m h)
+
+pub texts_and_input : (P : List ℕ → List ℕ → List ℕ → ℕ → ℕ → Type 0) (s t : SourceState) (text more input : Option (List ℕ)) (a b c d : ℕ) → s ≡ new_source text → t ≡ new_source more
+    → ((rows claims trace : List ℕ) → s.remaining ≡ Some rows → t.remaining ≡ Some claims → input ≡ Some trace → P rows claims trace (s.failed + (t.failed + a)) (b + (c + d)))
+    → (rows claims trace : List ℕ) → text ≡ Some rows → more ≡ Some claims → input ≡ Some trace → P rows claims trace (0 + a) ((b + c) + d)
+texts_and_input P s t text more input a b c d same too h rows claims trace e f k =
+    let one = subst (λ (y : SourceState). y.remaining ≡ Some claims → P rows claims trace (s.failed + (y.failed + a)) (b + (c + d))) too (λ f. h rows claims trace (ap (λ (x : SourceState). x.remaining) same ∙ e) f k) f in
+    parted (P rows claims trace) a b c d (b + c) (subst (λ (x : SourceState). P rows claims trace (x.failed + (0 + a)) (b + (c + d))) same one) refl
+
+pub of_two_and_input : (P : ℕ → ℕ → Type 0) (s t : SourceState) (text more : Option (List ℕ)) (a b c d : ℕ) → s ≡ new_source text → t ≡ new_source more
+    → P (s.failed + (t.failed + a)) (b + (c + d)) → P (0 + a) ((b + c) + d)
+of_two_and_input P s t text more a b c d same too h =
+    parted P a b c d (b + c) (subst (λ (x : SourceState). P (x.failed + (0 + a)) (b + (c + d))) same (subst (λ (y : SourceState). P (s.failed + (y.failed + a)) (b + (c + d))) too h)) refl
+
+-- ---- an order
+
+module _ (order : Order) (w w' : WorldState) (sink sink' : SinkState) (exit : Exit) where
+  -- its files were opened
+  pub ran : (input input' : SourceState) (failed : ℕ) → AreOpened (files_of order) w' → crew_of order ≡ None
+      → ReportsOrder order w.holds failed input input' sink sink' exit → ReportsAny order failed input input' sink sink' exit → Carries order w w' input input' sink sink' exit
+  ran input input' failed opened none reports reported =
+      inl (record { opened = opened.opened; refused = opened.refused; crew = opened.crew ∙ sym none; failed = failed; reports = reports; reported = reported })
+
+  -- the same where threads were asked for then
+  pub ran_by : (crew : Crew) (input input' : SourceState) (failed : ℕ) → AreOpenedFor crew (files_of order) w' → crew_of order ≡ Some crew
+      → ReportsOrder order w.holds failed input input' sink sink' exit → ReportsAny order failed input input' sink sink' exit → Carries order w w' input input' sink sink' exit
+  ran_by crew input input' failed opened some reports reported =
+      inl (record { opened = opened.opened; refused = opened.refused; crew = opened.crew ∙ sym some; failed = failed; reports = reports; reported = reported })
+
+  -- one could not be opened
+  pub stopped : (why : NotOpened) (input : SourceState) → AreNotOpened (files_of order) why w' → TellsFailure (failure_of why) sink sink' exit → Carries order w w' input input sink sink' exit
+  stopped why input files tells = inr (record { why = why; files = files; unread = refl; tells = tells })

@@ -1,0 +1,16 @@
+use Rattle.std.proofs.Common.{◌≡◌, ◌⊎◌, ◌+◌, ℕ, refl, None, Some}
+use Rattle.dc_answer.specs.Answer.{Any, Reported}
+use Rattle.dc_answer.specs.Threads.{ReportsThreads}
+use Rattle.dc_command.specs.declared.asked.Order.TheVariants.{Check}
+use Rattle.dc_run.specs.Check.{ReportsCheck}
+use Rattle.dc_program.proofs.Running.{of_two, ran_by, two_texts}
+use Rattle.dc_program.proofs.engines.check_by.Goals as goal
+
+pub returns-in-Ok-clause-carries : goal.returns-in-Ok-clause-carries
+returns-in-Ok-clause-carries g c = λ input.
+    let sink = g.K.Sink.state c.args.sink.now in
+    let sink' = g.K.Sink.state c.check.new.sink in
+    let failed = (g.W.File.Source.state c.check.new.tables).failed + (g.W.File.Source.state c.check.new.certificate).failed in
+    ran_by (Check c.args.tables c.args.certificate (Some c.args.workers)) _ _ _ _ _ _ input input failed c.in-Ok.ensures.opened refl
+    (two_texts (λ rows claims n. ReportsCheck rows claims sink.contents sink'.contents n failed sink.failed sink'.failed c.check.result ⊎ ReportsThreads sink.contents sink'.contents n failed sink.failed sink'.failed c.check.result) (g.W.File.Source.state c.in-Ok.tables) (g.W.File.Source.state c.in-Ok.certificate) _ _ c.in-Ok.ensures.first c.in-Ok.ensures.second c.check.ensures.reports)
+    (of_two (λ n. Reported Any sink.contents sink'.contents n failed sink.failed sink'.failed c.check.result ⊎ ReportsThreads sink.contents sink'.contents n failed sink.failed sink'.failed c.check.result) (g.W.File.Source.state c.in-Ok.tables) (g.W.File.Source.state c.in-Ok.certificate) _ _ c.in-Ok.ensures.first c.in-Ok.ensures.second c.check.ensures.reported)

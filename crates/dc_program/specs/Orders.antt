@@ -1,0 +1,115 @@
+-- What an order names, and what its engine reports.
+use Rattle.std.specs.Prelude.{◌≡◌, ◌⊎◌, ◌-◌, ◌+◌, ◌^◌, ◌<◌, ℕ, List, [], ◌∷◌, Option, Some, None}
+use Rattle.dc_answer.specs.Answer.{Any, Reported, Reports}
+use Rattle.dc_answer.specs.Threads.{ReportsThreads}
+use Rattle.dc_answer.specs.declared.answer.Failure.TheVariants.{Source}
+use Rattle.dc_answer.specs.declared.exit.Exit.{Exit}
+use Rattle.dc_answer.specs.declared.exit.Exit.TheVariants.{Failed}
+use Rattle.dc_command.specs.declared.asked.Order.{Order}
+use Rattle.dc_command.specs.declared.asked.Order.TheVariants.{Decode, Check, Find, Report, Margins, Replay, Audit, Bench, Explain}
+use Rattle.dc_device.specs.States.{AsksUpTo, SinkState, SourceState}
+use Rattle.dc_event.specs.declared.trace_reader.TheConstants.{TRACE_LIMIT}
+use Rattle.dc_program.specs.declared.world.Crew.{Crew}
+use Rattle.dc_program.specs.declared.world.Crew.TheVariants.{Workers, Actors}
+use Rattle.dc_run.specs.Audit.{ReportsAudit}
+use Rattle.dc_run.specs.Check.{ReportsCheck}
+use Rattle.dc_run.specs.Decode.{decode_text}
+use Rattle.dc_run.specs.Find.{ReportsFind}
+use Rattle.dc_run.specs.Replay.{ReportsReplay}
+use Rattle.dc_run_bench.specs.Bench.{ReportsBench}
+use Rattle.dc_run_explain.specs.Explain.{ReportsExplain}
+use Rattle.dc_run_margins.specs.Margins.{ReportsMargins, ReportsLeast as ReportsMarginsLeast}
+use Rattle.dc_run_report.specs.Paper.{ReportsPage, ReportsLeast as ReportsPageLeast}
+
+-- ---- what is asked of the world
+
+-- the names of the files that an order names, in the order in which they are opened
+abbrev pub files_of : Order → List (List ℕ)
+files_of (Decode format) = []
+files_of (Check tables certificate workers) = tables.now ∷ certificate.now ∷ []
+files_of (Find tables) = tables.now ∷ []
+files_of (Report tables None) = tables.now ∷ []
+files_of (Report tables (Some certificate)) = tables.now ∷ certificate.now ∷ []
+files_of (Margins tables None) = tables.now ∷ []
+files_of (Margins tables (Some certificate)) = tables.now ∷ certificate.now ∷ []
+files_of (Replay tables all) = tables.now ∷ []
+files_of (Audit tables certificate) = tables.now ∷ certificate.now ∷ []
+files_of (Bench tables certificate ticks) = tables.now ∷ certificate.now ∷ []
+files_of (Explain code) = []
+
+-- as many workers as are said
+abbrev pub workers_of : Option ℕ → Option Crew
+workers_of None = None
+workers_of (Some count) = Some (Workers count)
+
+-- for whom threads are asked
+abbrev pub crew_of : Order → Option Crew
+crew_of (Check tables certificate workers) = workers_of workers
+crew_of (Bench tables certificate ticks) = Some Actors
+crew_of _ = None
+
+-- the most bytes that `decode` reads
+abbrev pub stream_limit : ℕ
+stream_limit = 2 ^ 63 - 1
+
+-- how far standard input is asked; where an order does not read it, it is what it was
+abbrev pub AsksInput : Order → SourceState → SourceState → Type 0
+AsksInput (Decode format) input input' = AsksUpTo stream_limit input input'
+AsksInput (Replay tables all) input input' = AsksUpTo TRACE_LIMIT input input'
+AsksInput (Audit tables certificate) input input' = AsksUpTo TRACE_LIMIT input input'
+AsksInput _ input input' = input' ≡ input
+
+-- how many calls of sources failed, where so many of the files' did: those of standard input are counted where it is read
+abbrev pub sources_in : Order → ℕ → SourceState → ℕ
+sources_in (Decode format) failed input = failed + input.failed
+sources_in (Replay tables all) failed input = failed + input.failed
+sources_in (Audit tables certificate) failed input = failed + input.failed
+sources_in _ failed input = failed
+
+-- ---- what is reported
+
+-- What the engine of an order reports of the texts that its files hold, in their order, and of standard input, with the
+-- order's flags and numbers; so many calls of the files' sources failed in it.
+abbrev pub ReportsOrder : Order → (List ℕ → Option (List ℕ)) → ℕ → SourceState → SourceState → SinkState → SinkState → Exit → Type 0
+ReportsOrder (Decode format) holds failed input input' sink sink' exit =
+    (text : List ℕ) → input.remaining ≡ Some text → Reports sink.contents sink'.contents Source (sink'.failed - sink.failed) (decode_text format text) exit
+ReportsOrder (Check tables certificate None) holds failed input input' sink sink' exit =
+    (rows claims : List ℕ) → holds tables.now ≡ Some rows → holds certificate.now ≡ Some claims
+    → ReportsCheck rows claims sink.contents sink'.contents 0 failed sink.failed sink'.failed exit
+ReportsOrder (Check tables certificate (Some count)) holds failed input input' sink sink' exit =
+    (rows claims : List ℕ) → holds tables.now ≡ Some rows → holds certificate.now ≡ Some claims
+    → ReportsCheck rows claims sink.contents sink'.contents 0 failed sink.failed sink'.failed exit
+    ⊎ ReportsThreads sink.contents sink'.contents 0 failed sink.failed sink'.failed exit
+ReportsOrder (Find tables) holds failed input input' sink sink' exit =
+    (rows : List ℕ) → holds tables.now ≡ Some rows → ReportsFind rows sink.contents sink'.contents 0 failed sink.failed sink'.failed exit
+ReportsOrder (Report tables None) holds failed input input' sink sink' exit =
+    (rows : List ℕ) → holds tables.now ≡ Some rows → ReportsPageLeast rows sink.contents sink'.contents 0 failed sink.failed sink'.failed exit
+ReportsOrder (Report tables (Some certificate)) holds failed input input' sink sink' exit =
+    (rows claims : List ℕ) → holds tables.now ≡ Some rows → holds certificate.now ≡ Some claims
+    → ReportsPage rows claims sink.contents sink'.contents 0 failed sink.failed sink'.failed exit
+ReportsOrder (Margins tables None) holds failed input input' sink sink' exit =
+    (rows : List ℕ) → holds tables.now ≡ Some rows → ReportsMarginsLeast rows sink.contents sink'.contents 0 failed sink.failed sink'.failed exit
+ReportsOrder (Margins tables (Some certificate)) holds failed input input' sink sink' exit =
+    (rows claims : List ℕ) → holds tables.now ≡ Some rows → holds certificate.now ≡ Some claims
+    → ReportsMargins rows claims sink.contents sink'.contents 0 failed sink.failed sink'.failed exit
+ReportsOrder (Replay tables all) holds failed input input' sink sink' exit =
+    (rows trace : List ℕ) → holds tables.now ≡ Some rows → input.remaining ≡ Some trace
+    → ReportsReplay all rows trace sink.contents sink'.contents (0 + input.failed) (failed + input'.failed) sink.failed sink'.failed exit
+ReportsOrder (Audit tables certificate) holds failed input input' sink sink' exit =
+    (rows claims trace : List ℕ) → holds tables.now ≡ Some rows → holds certificate.now ≡ Some claims → input.remaining ≡ Some trace
+    → ReportsAudit rows claims trace sink.contents sink'.contents (0 + input.failed) (failed + input'.failed) sink.failed sink'.failed exit
+ReportsOrder (Bench tables certificate ticks) holds failed input input' sink sink' exit =
+    (rows claims : List ℕ) → holds tables.now ≡ Some rows → holds certificate.now ≡ Some claims
+    → ReportsBench rows claims ticks sink.contents sink'.contents 0 failed sink.failed sink'.failed exit
+    ⊎ ReportsThreads sink.contents sink'.contents 0 failed sink.failed sink'.failed exit
+ReportsOrder (Explain code) holds failed input input' sink sink' exit = ReportsExplain sink.contents sink'.contents sink.failed sink'.failed exit
+
+-- What it reports whatever the texts are: what is told to have failed has failed.
+abbrev pub ReportsAny : Order → ℕ → SourceState → SourceState → SinkState → SinkState → Exit → Type 0
+ReportsAny (Decode format) failed input input' sink sink' exit = exit ≡ Failed → input.failed + sink.failed < input'.failed + sink'.failed
+ReportsAny (Check tables certificate (Some count)) failed input input' sink sink' exit =
+    Reported Any sink.contents sink'.contents 0 failed sink.failed sink'.failed exit ⊎ ReportsThreads sink.contents sink'.contents 0 failed sink.failed sink'.failed exit
+ReportsAny (Bench tables certificate ticks) failed input input' sink sink' exit =
+    Reported Any sink.contents sink'.contents 0 failed sink.failed sink'.failed exit ⊎ ReportsThreads sink.contents sink'.contents 0 failed sink.failed sink'.failed exit
+ReportsAny order failed input input' sink sink' exit =
+    Reported Any sink.contents sink'.contents (sources_in order 0 input) (sources_in order failed input') sink.failed sink'.failed exit

@@ -1,0 +1,105 @@
+//! An order is carried out.
+ghost use Rattle.std.specs.Prelude.{◌≡◌};
+ghost use Rattle.dc_answer.specs.Judging.{Leaves};
+ghost use Rattle.dc_command.specs.Asked.{IsInRange};
+ghost use Rattle.dc_device.specs.States.{CanFail, IsCountable};
+ghost use Rattle.dc_program.specs.Carries.{Carries};
+ghost use Rattle.dc_program.specs.Headline.{DecidesFiles};
+ghost use Rattle.dc_program.specs.Orders.{AsksInput};
+ghost use Rattle.dc_program.specs.World.{IsNew};
+
+use crate::crews::ByThreads;
+use crate::engines::{audit, bench, check, check_by, decode, explain, find, replay};
+use crate::optional::{margins, page};
+use crate::world::World;
+use dc_answer::Exit;
+use dc_command::Order;
+use dc_device::{Sink, Source};
+use std::alloc::Global;
+
+/// Opens the files that an order names, and runs its engine over them.
+fn obey<'a, W: World<'a>, S: Source, K: Sink, H: ByThreads>(
+    alloc: Global,
+    threads: &H,
+    world: &mut W,
+    input: &mut S,
+    sink: &mut K,
+    order: Order<'a>,
+) -> Exit
+    requires may { H.may_start threads.now }
+    requires range { IsInRange order }
+    requires new { IsNew (W.state world.old) }
+    requires input { IsCountable (S.state input.old) }
+    requires sink { CanFail (K.state sink.old) }
+    ensures carries { Carries order.entry (W.state world.old) (W.state world.new) (S.state input.old) (S.state input.new) (K.state sink.old)
+        (K.state sink.new) result }
+    ensures asks { AsksInput order.entry (S.state input.old) (S.state input.new) }
+    ensures left { Leaves (K.state sink.old) (K.state sink.new) }
+{
+    match order {
+        Order::Decode(format) => decode(world, input, sink, format),
+        Order::Check {
+            tables,
+            certificate,
+            workers: None,
+        } => check(alloc, world, sink, tables, certificate),
+        Order::Check {
+            tables,
+            certificate,
+            workers: Some(workers),
+        } => check_by(threads, world, sink, tables, certificate, workers),
+        Order::Explain { code } => explain(alloc, world, sink, code),
+        Order::Find { tables } => find(alloc, world, sink, tables),
+        Order::Report {
+            tables,
+            certificate,
+        } => page(alloc, world, sink, tables, certificate),
+        Order::Margins {
+            tables,
+            certificate,
+        } => margins(alloc, world, sink, tables, certificate),
+        Order::Replay { tables, all } => replay(alloc, world, input, sink, tables, all),
+        Order::Audit {
+            tables,
+            certificate,
+        } => audit(alloc, world, input, sink, tables, certificate),
+        Order::Bench {
+            tables,
+            certificate,
+            ticks,
+        } => bench(threads, world, sink, tables, certificate, ticks),
+    }
+}
+
+/// Carries an order out in a world that was asked for nothing yet.
+///
+/// Its files are opened in the order in which it names them, and no others; then its engine runs over what they hold,
+/// and over standard input where it reads that, with the order's flags and numbers, and threads are asked for where it
+/// says so. Where a file could not be opened, `failed device`, or `failed memory` where memory was refused, was written
+/// and nothing else, the exit is `Failed`, no file behind it was opened and standard input was not read. A push or flush
+/// that failed is the last call of the sink.
+///
+/// Of `check`: where the texts of both files are known it ends `Done` only where they are those of tables and of a
+/// certificate that is accepted for them, and then the line `accepted ..` alone was written and the certificate keeps
+/// its claims in every admissible run of the tables; and it ends neither `Done` nor `Failed` only where they are not.
+pub fn carry_out<'a, W: World<'a>, S: Source, K: Sink, H: ByThreads>(
+    alloc: Global,
+    threads: &H,
+    world: &mut W,
+    input: &mut S,
+    sink: &mut K,
+    order: Order<'a>,
+) -> Exit
+    requires may { H.may_start threads.now }
+    requires range { IsInRange order }
+    requires new { IsNew (W.state world.old) }
+    requires input { IsCountable (S.state input.old) }
+    requires sink { CanFail (K.state sink.old) }
+    ensures carries { Carries order.entry (W.state world.old) (W.state world.new) (S.state input.old) (S.state input.new) (K.state sink.old)
+        (K.state sink.new) result }
+    ensures decides { DecidesFiles order.entry (W.state world.old) (K.state sink.old) (K.state sink.new) result }
+    ensures asks { AsksInput order.entry (S.state input.old) (S.state input.new) }
+    ensures left { Leaves (K.state sink.old) (K.state sink.new) }
+{
+    obey(alloc, threads, world, input, sink, order)
+}

@@ -1,0 +1,192 @@
+//! The engines are run over the files of an order.
+ghost use Rattle.std.specs.Prelude.{◌≡◌, ◌≤◌, None, Some};
+ghost use Rattle.dc_answer.specs.Judging.{Leaves};
+ghost use Rattle.dc_device.specs.States.{AsksUpTo, CanFail, IsCountable, SourceState};
+ghost use Rattle.dc_event.specs.declared.trace_reader.TheConstants.{TRACE_LIMIT};
+ghost use Rattle.dc_command.specs.declared.asked.Order.TheVariants.{Audit, Bench, Check, Decode, Explain, Find, Replay};
+ghost use Rattle.dc_program.specs.Carries.{Carries};
+ghost use Rattle.dc_program.specs.Orders.{stream_limit};
+ghost use Rattle.dc_program.specs.World.{IsNew};
+
+use crate::crews::ByThreads;
+use crate::opening::{end_unopened, open_both, open_for, open_one};
+use crate::world::{Crew, World};
+use dc_answer::Exit;
+use dc_codes::Code;
+use dc_device::{Sink, Source};
+use dc_run::{run_audit, run_check, run_decode, run_find, run_replay};
+use dc_run_explain::run_explain;
+use dc_word::Format;
+use std::alloc::Global;
+
+/// Decodes the words on standard input.
+pub fn decode<'a, W: World<'a>, S: Source, K: Sink>(
+    world: &mut W,
+    input: &mut S,
+    sink: &mut K,
+    format: Format,
+) -> Exit
+    requires new { IsNew (W.state world.old) }
+    requires input { IsCountable (S.state input.old) }
+    requires sink { CanFail (K.state sink.old) }
+    ensures carries { Carries (Decode format) (W.state world.old) (W.state world.new) (S.state input.old) (S.state input.new) (K.state sink.old)
+        (K.state sink.new) result }
+    ensures asks { AsksUpTo stream_limit (S.state input.old) (S.state input.new) }
+    ensures left { Leaves (K.state sink.old) (K.state sink.new) }
+{
+    run_decode(format, input, sink)
+}
+
+/// Tells what a code means, or what all do.
+pub fn explain<'a, W: World<'a>, K: Sink>(
+    alloc: Global,
+    world: &mut W,
+    sink: &mut K,
+    code: Option<Code>,
+) -> Exit
+    requires new { IsNew (W.state world.old) }
+    requires sink { CanFail (K.state sink.old) }
+    ensures carries { (input : SourceState) → Carries (Explain code) (W.state world.old) (W.state world.new) input input
+        (K.state sink.old) (K.state sink.new) result }
+    ensures left { Leaves (K.state sink.old) (K.state sink.new) }
+{
+    let _ = &world;
+    run_explain(alloc, code, sink)
+}
+
+/// Judges a certificate by one thread.
+pub fn check<'a, W: World<'a>, K: Sink>(
+    alloc: Global,
+    world: &mut W,
+    sink: &mut K,
+    tables: &'a str,
+    certificate: &'a str,
+) -> Exit
+    requires new { IsNew (W.state world.old) }
+    requires sink { CanFail (K.state sink.old) }
+    ensures carries { (input : SourceState) → Carries (Check tables.entry certificate.entry None) (W.state world.old) (W.state world.new) input input
+        (K.state sink.old) (K.state sink.new) result }
+    ensures left { Leaves (K.state sink.old) (K.state sink.new) }
+{
+    match open_both(world, tables, certificate) {
+        Ok((mut tables, mut certificate)) => run_check(alloc, &mut tables, &mut certificate, sink),
+        Err(why) => end_unopened(why, sink),
+    }
+}
+
+/// Finds the least certificate for tables.
+pub fn find<'a, W: World<'a>, K: Sink>(
+    alloc: Global,
+    world: &mut W,
+    sink: &mut K,
+    tables: &'a str,
+) -> Exit
+    requires new { IsNew (W.state world.old) }
+    requires sink { CanFail (K.state sink.old) }
+    ensures carries { (input : SourceState) → Carries (Find tables.entry) (W.state world.old) (W.state world.new) input input (K.state sink.old)
+        (K.state sink.new) result }
+    ensures left { Leaves (K.state sink.old) (K.state sink.new) }
+{
+    match open_one(world, tables) {
+        Ok(mut tables) => run_find(alloc, &mut tables, sink),
+        Err(why) => end_unopened(why, sink),
+    }
+}
+
+/// Replays the trace on standard input.
+pub fn replay<'a, W: World<'a>, S: Source, K: Sink>(
+    alloc: Global,
+    world: &mut W,
+    input: &mut S,
+    sink: &mut K,
+    tables: &'a str,
+    all: bool,
+) -> Exit
+    requires new { IsNew (W.state world.old) }
+    requires input { IsCountable (S.state input.old) }
+    requires sink { CanFail (K.state sink.old) }
+    ensures carries { Carries (Replay tables.entry all) (W.state world.old) (W.state world.new) (S.state input.old) (S.state input.new) (K.state sink.old)
+        (K.state sink.new) result }
+    ensures asks { AsksUpTo TRACE_LIMIT (S.state input.old) (S.state input.new) }
+    ensures left { Leaves (K.state sink.old) (K.state sink.new) }
+{
+    match open_one(world, tables) {
+        Ok(mut tables) => run_replay(alloc, all, &mut tables, input, sink),
+        Err(why) => end_unopened(why, sink),
+    }
+}
+
+/// Audits the trace on standard input.
+pub fn audit<'a, W: World<'a>, S: Source, K: Sink>(
+    alloc: Global,
+    world: &mut W,
+    input: &mut S,
+    sink: &mut K,
+    tables: &'a str,
+    certificate: &'a str,
+) -> Exit
+    requires new { IsNew (W.state world.old) }
+    requires input { IsCountable (S.state input.old) }
+    requires sink { CanFail (K.state sink.old) }
+    ensures carries { Carries (Audit tables.entry certificate.entry) (W.state world.old) (W.state world.new) (S.state input.old) (S.state input.new)
+        (K.state sink.old) (K.state sink.new) result }
+    ensures asks { AsksUpTo TRACE_LIMIT (S.state input.old) (S.state input.new) }
+    ensures left { Leaves (K.state sink.old) (K.state sink.new) }
+{
+    match open_both(world, tables, certificate) {
+        Ok((mut tables, mut certificate)) => {
+            run_audit(alloc, &mut tables, &mut certificate, input, sink)
+        }
+        Err(why) => end_unopened(why, sink),
+    }
+}
+
+/// Judges a certificate by so many workers.
+pub fn check_by<'a, W: World<'a>, K: Sink, H: ByThreads>(
+    threads: &H,
+    world: &mut W,
+    sink: &mut K,
+    tables: &'a str,
+    certificate: &'a str,
+    workers: u8,
+) -> Exit
+    requires may { H.may_start threads.now }
+    requires range { (1 ≤ workers) × (workers ≤ 64) }
+    requires new { IsNew (W.state world.old) }
+    requires sink { CanFail (K.state sink.old) }
+    ensures carries { (input : SourceState) → Carries (Check tables.entry certificate.entry (Some workers)) (W.state world.old) (W.state world.new)
+        input input (K.state sink.old) (K.state sink.new) result }
+    ensures left { Leaves (K.state sink.old) (K.state sink.new) }
+{
+    match open_for(world, Crew::Workers(workers), tables, certificate) {
+        Ok((mut tables, mut certificate)) => {
+            threads.check(workers, &mut tables, &mut certificate, sink)
+        }
+        Err(why) => end_unopened(why, sink),
+    }
+}
+
+/// Runs a hub for so many ticks.
+pub fn bench<'a, W: World<'a>, K: Sink, H: ByThreads>(
+    threads: &H,
+    world: &mut W,
+    sink: &mut K,
+    tables: &'a str,
+    certificate: &'a str,
+    ticks: u16,
+) -> Exit
+    requires may { H.may_start threads.now }
+    requires range { (1 ≤ ticks) × (ticks ≤ 1000) }
+    requires new { IsNew (W.state world.old) }
+    requires sink { CanFail (K.state sink.old) }
+    ensures carries { (input : SourceState) → Carries (Bench tables.entry certificate.entry ticks) (W.state world.old) (W.state world.new)
+        input input (K.state sink.old) (K.state sink.new) result }
+    ensures left { Leaves (K.state sink.old) (K.state sink.new) }
+{
+    match open_for(world, Crew::Actors, tables, certificate) {
+        Ok((mut tables, mut certificate)) => {
+            threads.bench(ticks, &mut tables, &mut certificate, sink)
+        }
+        Err(why) => end_unopened(why, sink),
+    }
+}

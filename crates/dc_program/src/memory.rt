@@ -1,0 +1,117 @@
+//! A world in memory, for tests.
+ghost use Rattle.std.specs.Prelude.{◌≡◌, [], None, map, option_map};
+ghost use Rattle.dc_program.specs.Memory.{held_by};
+
+use crate::limits::MOST_FILES;
+use crate::world::{Crew, NotOpened, World};
+use arrayvec::ArrayVec;
+use dc_device::MemSource;
+
+/// How many bytes a file in memory gives at a pull.
+const PIECE: usize = 1000;
+
+/// A file in memory.
+#[derive(Clone, Copy, Debug)]
+pub struct MemFile<'a> {
+    /// Its name.
+    pub name: &'a str,
+    /// What it holds.
+    pub text: &'a str,
+}
+
+/// Two files in memory. The opening of a given number is refused, and so is that of a file that is not there.
+#[derive(Drop)]
+pub struct MemWorld<'a> {
+    first: MemFile<'a>,
+    second: MemFile<'a>,
+    fails_in: u64,
+    why: NotOpened,
+    opened: ArrayVec<&'a str, MOST_FILES>,
+    refused: Option<NotOpened>,
+    crew: Option<Crew>,
+}
+
+impl<'a> MemWorld<'a> {
+    /// These files. The opening of number `fails_at`, from 1 on, is refused for this reason; for 0 none is so.
+    pub fn new(first: MemFile<'a>, second: MemFile<'a>, fails_at: u64, why: NotOpened) -> Self
+        ensures first { result.first ≡ first.entry }
+        ensures second { result.second ≡ second.entry }
+        ensures fails { result.fails_in ≡ fails_at }
+        ensures why { result.why ≡ why }
+        ensures opened { result.opened.items ≡ [] }
+        ensures refused { result.refused ≡ None }
+        ensures crew { result.crew ≡ None }
+    {
+        MemWorld {
+            first,
+            second,
+            fails_in: fails_at,
+            why,
+            opened: ArrayVec::new(),
+            refused: None,
+            crew: None,
+        }
+    }
+
+    /// The names of the files that it was asked to open, the first one first.
+    pub fn opened(&self) -> &[&'a str]
+        ensures { result.now ≡ self.now.opened.items }
+    {
+        self.opened.as_slice()
+    }
+
+    /// For whom threads were last asked of it.
+    pub fn crew(&self) -> Option<Crew>
+        ensures { result ≡ self.now.crew }
+    {
+        self.crew
+    }
+
+    /// The text of the file of this name, where there is one.
+    fn text_of(&self, name: &str) -> Option<&'a str>
+        ensures { option_map (λ s. s.now) result ≡ held_by self.now.first (held_by self.now.second (λ _. None)) name.now }
+    {
+        if self.first.name == name {
+            Some(self.first.text)
+        } else if self.second.name == name {
+            Some(self.second.text)
+        } else {
+            None
+        }
+    }
+}
+
+impl<'a> World<'a> for MemWorld<'a> {
+    type File = MemSource<'a>;
+
+    ghost state = { λ w. record {
+      holds = held_by w.first (held_by w.second (λ _. None));
+      opened = map (λ name. name.now) w.opened.items;
+      refused = w.refused;
+      crew = w.crew;
+    } };
+
+    fn open(&mut self, name: &'a str) -> Result<MemSource<'a>, NotOpened> {
+        self.opened.push(name);
+        let fails = self.fails_in == 1;
+        self.fails_in = self.fails_in.saturating_sub(1);
+        if fails {
+            self.refused = Some(self.why);
+            return Err(self.why);
+        }
+        match self.text_of(name) {
+            Some(text) => {
+                self.refused = None;
+                Ok(MemSource::new(text.as_bytes(), PIECE, 0))
+            }
+            None => {
+                self.refused = Some(NotOpened::Device);
+                Err(NotOpened::Device)
+            }
+        }
+    }
+
+    fn ask_threads(&mut self, crew: Crew) {
+        self.crew = Some(crew);
+    }
+}

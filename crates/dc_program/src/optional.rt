@@ -1,0 +1,137 @@
+//! The engines whose certificate may be left out.
+ghost use Rattle.std.specs.Prelude.{◌≡◌, None, Some};
+ghost use Rattle.dc_answer.specs.Judging.{Leaves};
+ghost use Rattle.dc_device.specs.States.{CanFail, SourceState};
+ghost use Rattle.dc_command.specs.declared.asked.Order.TheVariants.{Margins, Report};
+ghost use Rattle.dc_program.specs.Carries.{Carries};
+ghost use Rattle.dc_program.specs.World.{IsNew};
+
+use crate::opening::{end_unopened, open_both, open_one};
+use crate::world::World;
+use dc_answer::Exit;
+use dc_device::Sink;
+use dc_run_margins::{run_margins, run_margins_least};
+use dc_run_report::{run_report, run_report_least};
+use std::alloc::Global;
+
+/// Writes the page on the least certificate.
+fn page_least<'a, W: World<'a>, K: Sink>(
+    alloc: Global,
+    world: &mut W,
+    sink: &mut K,
+    tables: &'a str,
+) -> Exit
+    requires new { IsNew (W.state world.old) }
+    requires sink { CanFail (K.state sink.old) }
+    ensures carries { (input : SourceState) → Carries (Report tables.entry None) (W.state world.old) (W.state world.new) input input (K.state sink.old)
+        (K.state sink.new) result }
+    ensures left { Leaves (K.state sink.old) (K.state sink.new) }
+{
+    match open_one(world, tables) {
+        Ok(mut tables) => run_report_least(alloc, &mut tables, sink),
+        Err(why) => end_unopened(why, sink),
+    }
+}
+
+/// Writes the page on a certificate.
+fn page_given<'a, W: World<'a>, K: Sink>(
+    alloc: Global,
+    world: &mut W,
+    sink: &mut K,
+    tables: &'a str,
+    certificate: &'a str,
+) -> Exit
+    requires new { IsNew (W.state world.old) }
+    requires sink { CanFail (K.state sink.old) }
+    ensures carries { (input : SourceState) → Carries (Report tables.entry (Some certificate.entry)) (W.state world.old) (W.state world.new) input input
+        (K.state sink.old) (K.state sink.new) result }
+    ensures left { Leaves (K.state sink.old) (K.state sink.new) }
+{
+    match open_both(world, tables, certificate) {
+        Ok((mut tables, mut certificate)) => {
+            run_report(alloc, &mut tables, &mut certificate, sink)
+        }
+        Err(why) => end_unopened(why, sink),
+    }
+}
+
+/// Writes the page on a certificate, or on the least one.
+pub fn page<'a, W: World<'a>, K: Sink>(
+    alloc: Global,
+    world: &mut W,
+    sink: &mut K,
+    tables: &'a str,
+    certificate: Option<&'a str>,
+) -> Exit
+    requires new { IsNew (W.state world.old) }
+    requires sink { CanFail (K.state sink.old) }
+    ensures carries { (input : SourceState) → Carries (Report tables.entry certificate.entry) (W.state world.old) (W.state world.new) input input
+        (K.state sink.old) (K.state sink.new) result }
+    ensures left { Leaves (K.state sink.old) (K.state sink.new) }
+{
+    match certificate {
+        None => page_least(alloc, world, sink, tables),
+        Some(certificate) => page_given(alloc, world, sink, tables, certificate),
+    }
+}
+
+/// Tells the margins of the least certificate.
+fn margins_least<'a, W: World<'a>, K: Sink>(
+    alloc: Global,
+    world: &mut W,
+    sink: &mut K,
+    tables: &'a str,
+) -> Exit
+    requires new { IsNew (W.state world.old) }
+    requires sink { CanFail (K.state sink.old) }
+    ensures carries { (input : SourceState) → Carries (Margins tables.entry None) (W.state world.old) (W.state world.new) input input (K.state sink.old)
+        (K.state sink.new) result }
+    ensures left { Leaves (K.state sink.old) (K.state sink.new) }
+{
+    match open_one(world, tables) {
+        Ok(mut tables) => run_margins_least(alloc, &mut tables, sink),
+        Err(why) => end_unopened(why, sink),
+    }
+}
+
+/// Tells the margins of a certificate.
+fn margins_given<'a, W: World<'a>, K: Sink>(
+    alloc: Global,
+    world: &mut W,
+    sink: &mut K,
+    tables: &'a str,
+    certificate: &'a str,
+) -> Exit
+    requires new { IsNew (W.state world.old) }
+    requires sink { CanFail (K.state sink.old) }
+    ensures carries { (input : SourceState) → Carries (Margins tables.entry (Some certificate.entry)) (W.state world.old) (W.state world.new) input input
+        (K.state sink.old) (K.state sink.new) result }
+    ensures left { Leaves (K.state sink.old) (K.state sink.new) }
+{
+    match open_both(world, tables, certificate) {
+        Ok((mut tables, mut certificate)) => {
+            run_margins(alloc, &mut tables, &mut certificate, sink)
+        }
+        Err(why) => end_unopened(why, sink),
+    }
+}
+
+/// Tells the margins of a certificate, or of the least one.
+pub fn margins<'a, W: World<'a>, K: Sink>(
+    alloc: Global,
+    world: &mut W,
+    sink: &mut K,
+    tables: &'a str,
+    certificate: Option<&'a str>,
+) -> Exit
+    requires new { IsNew (W.state world.old) }
+    requires sink { CanFail (K.state sink.old) }
+    ensures carries { (input : SourceState) → Carries (Margins tables.entry certificate.entry) (W.state world.old) (W.state world.new) input input
+        (K.state sink.old) (K.state sink.new) result }
+    ensures left { Leaves (K.state sink.old) (K.state sink.new) }
+{
+    match certificate {
+        None => margins_least(alloc, world, sink, tables),
+        Some(certificate) => margins_given(alloc, world, sink, tables, certificate),
+    }
+}

@@ -1,0 +1,46 @@
+//! What the program works in: files, opened by their names, and a note of who asked for threads.
+ghost use Rattle.std.specs.Prelude.{◌≡◌, ◌∷◌, [], ◌++◌, ◌<◌, length, IfOk, Some};
+ghost use Rattle.dc_program.specs.World.{WorldState, new_source, refusal_of};
+ghost use Rattle.dc_program.specs.declared.limits.TheConstants.{MOST_FILES};
+
+use dc_device::Source;
+
+/// Why a file was not opened.
+#[derive(Clone, Copy, Debug, PartialEq, Eq)]
+pub enum NotOpened {
+    /// The call failed.
+    Device,
+    /// Memory was refused.
+    Memory,
+}
+
+/// For whom threads are asked.
+#[derive(Clone, Copy, Debug, PartialEq, Eq)]
+pub enum Crew {
+    /// So many workers of a check.
+    Workers(u8),
+    /// The actors of a bench.
+    Actors,
+}
+
+/// Files, and a note of for whom threads are asked. The names of files live as long as `'a`.
+pub trait World<'a> {
+    /// A file that is read.
+    type File: Source + Drop;
+
+    // What is known of it.
+    ghost state: { Self → WorldState };
+
+    /// Opens the file of this name.
+    ///
+    /// # Errors
+    /// `Memory` where memory was refused, else `Device`.
+    fn open(&mut self, name: &'a str) -> Result<Self::File, NotOpened>
+        requires { length (state self.old).opened < MOST_FILES }
+        ensures world { state self.new ≡ record (state self.old) { opened = (state self.old).opened ++ name.now ∷ []; refused = refusal_of result } }
+        ensures file { IfOk result (λ f. Self.File.state f ≡ new_source ((state self.old).holds name.now)) };
+
+    /// Notes that threads are asked for these.
+    fn ask_threads(&mut self, crew: Crew)
+        ensures { state self.new ≡ record (state self.old) { crew = Some crew } };
+}
