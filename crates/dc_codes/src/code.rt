@@ -7,8 +7,8 @@ use crate::listed::all;
 
 /// A code or a word that the program prints.
 #[derive(Clone, Copy, Debug, PartialEq, Eq)]
-pub struct Code {
-    name: &'static str,
+pub struct Code<'n> {
+    name: &'n str,
 }
 
 /// Whether two texts are one in upper case.
@@ -30,7 +30,7 @@ fn asks_for(text: &[u8], name: &[u8]) -> bool
 }
 
 /// The first of these codes that the text asks for.
-fn first_asked(text: &[u8], listed: &'static [(Kind, &'static str)]) -> Option<Code>
+fn first_asked(text: &[u8], listed: &'static [(Kind, &'static str)]) -> Option<Code<'static>>
     ensures { option_map (λ c. c.name.now) result ≡ find (asks_for text.now) (map (λ p. p.1.now) listed.now) }
 {
     for (_, name) in listed.iter() {
@@ -41,17 +41,19 @@ fn first_asked(text: &[u8], listed: &'static [(Kind, &'static str)]) -> Option<C
     None
 }
 
-impl Code {
+impl Code<'static> {
     /// The code that the text asks for, in upper or lower case; `C6` is taken as `C06`.
-    pub fn named(text: &str) -> Option<Code>
+    pub fn named(text: &str) -> Option<Code<'static>>
         ensures { option_map (λ c. c.name.now) result ≡ find (asks_for text.now) names }
     {
         first_asked(text.as_bytes(), all())
     }
+}
 
+impl<'n> Code<'n> {
     /// Its name, as it is printed.
-    pub fn name(self) -> &'static str
-        ensures { result.now ≡ self.name.now }
+    pub fn name(self) -> &'n str
+        ensures { result.now ≡ self.entry.name.now }
     {
         self.name
     }

@@ -71,7 +71,7 @@ pub enum Order<'a> {
     /// Tell what a code means.
     Explain {
         /// The code, or every one where none is said.
-        code: Option<Code>,
+        code: Option<Code<'a>>,
     },
 }
 

@@ -42,7 +42,7 @@ pub fn explain<'a, W: World<'a>, K: Sink>(
     alloc: Global,
     world: &mut W,
     sink: &mut K,
-    code: Option<Code>,
+    code: Option<Code<'a>>,
 ) -> Exit
     requires new { IsNew (W.state world.old) }
     requires sink { CanFail (K.state sink.old) }

@@ -12,7 +12,7 @@ use dc_device::Sink;
 use std::alloc::{AllocError, Global};
 
 /// Makes the page on a code, or on all.
-fn page_on(code: Option<Code>, page: &mut Page) -> Result<Outcome, AllocError>
+fn page_on(code: Option<Code<'_>>, page: &mut Page) -> Result<Outcome, AllocError>
     ensures { Keeps IsPage page.new result }
 {
     tell_meanings(code, page)?;
@@ -22,9 +22,9 @@ fn page_on(code: Option<Code>, page: &mut Page) -> Result<Outcome, AllocError>
 /// Makes the page on a code in each of its meanings, or on all where none is said. No clause says what stands in the
 /// page: it is tested.
 #[derive(Clone, Copy, Debug)]
-pub struct Explain(pub Option<Code>);
+pub struct Explain<'n>(pub Option<Code<'n>>);
 
-impl Tell<()> for Explain {
+impl<'n> Tell<()> for Explain<'n> {
     ghost answers = { λ _ known. IsPage };
 
     fn tell(&self, _alloc: Global, _known: (), page: &mut Page) -> Result<Outcome, AllocError> {
@@ -37,7 +37,7 @@ impl Tell<()> for Explain {
 ///
 /// It ends `Done`, or `Failed` where the sink failed or memory was refused: `failed memory` alone was written; where a
 /// push or flush failed, a front of that or of the page. That call is the last of the sink.
-pub fn run_explain<K: Sink>(alloc: Global, code: Option<Code>, sink: &mut K) -> Exit
+pub fn run_explain<K: Sink>(alloc: Global, code: Option<Code<'_>>, sink: &mut K) -> Exit
     requires { CanFail (K.state sink.old) }
     ensures reports { ReportsExplain (K.state sink.old).contents (K.state sink.new).contents (K.state sink.old).failed (K.state sink.new).failed result }
     ensures done { result ≢ Exit.Failed → result ≡ Exit.Done }

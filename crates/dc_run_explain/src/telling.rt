@@ -25,7 +25,7 @@ fn add_meaning(kind: Kind, name: &str, page: &mut Page) -> Result<(), AllocError
 }
 
 /// Whether the code of this name is told.
-fn is_told(code: Option<Code>, name: &str) -> bool {
+fn is_told(code: Option<Code<'_>>, name: &str) -> bool {
     match code {
         Some(code) => code.name() == name,
         None => true,
@@ -36,7 +36,7 @@ fn is_told(code: Option<Code>, name: &str) -> bool {
 ///
 /// # Errors
 /// `AllocError` where memory was refused.
-pub fn tell_meanings(code: Option<Code>, page: &mut Page) -> Result<(), AllocError> {
+pub fn tell_meanings(code: Option<Code<'_>>, page: &mut Page) -> Result<(), AllocError> {
     page.keep(b"")?;
     let mut is_first = true;
     for (kind, name) in all().iter() {
