@@ -46,7 +46,7 @@ pub fn explain<'a, W: World<'a>, K: Sink>(
 ) -> Exit
     requires new { IsNew (W.state world.old) }
     requires sink { CanFail (K.state sink.old) }
-    ensures carries { (input : SourceState) → Carries (Explain code) (W.state world.old) (W.state world.new) input input
+    ensures carries { (input : SourceState) → Carries (Explain code.entry) (W.state world.old) (W.state world.new) input input
         (K.state sink.old) (K.state sink.new) result }
     ensures left { Leaves (K.state sink.old) (K.state sink.new) }
 {
