@@ -63,6 +63,19 @@ fn end_unasked<R: Print + Eprint>(rt: &R, error: clap::Error) -> Result<Exit, Fa
     }
 }
 
+/// Carries out what words ask, over real files and devices.
+fn carry<'a, R: AllocGlobal + Files<File = fs::File> + Input + Print + Threads + Wait + Sync>(
+    rt: &'a R,
+    words: &'a [String],
+) -> Result<Exit, clap::Error> {
+    let threads = Started(rt);
+    let alloc = rt.alloc();
+    let mut world = Disk::new(rt);
+    let mut input = ReadSource::new(rt.reader());
+    let mut sink = WriteSink::new(io::writer(rt));
+    run_words(alloc, &threads, words, &mut world, &mut input, &mut sink)
+}
+
 /// Reads the command line and carries it out, or shows clap's text.
 fn run<
     R: AllocGlobal + Env + Files<File = fs::File> + Input + Print + Eprint + Threads + Wait + Sync,
@@ -71,17 +84,8 @@ fn run<
         Ok(words) => words.collect(rt.alloc())?,
         Err(error) => return end_unread(rt, error),
     };
-    let mut world = Disk::new(rt);
-    let mut input = ReadSource::new(rt.reader());
-    let mut sink = WriteSink::new(io::writer(rt));
-    match run_words(
-        rt.alloc(),
-        &Started(rt),
-        words.as_slice(),
-        &mut world,
-        &mut input,
-        &mut sink,
-    ) {
+    let asked = words.as_slice();
+    match carry(rt, asked) {
         Ok(exit) => Ok(exit),
         Err(error) => end_unasked(rt, error),
     }
