@@ -1,0 +1,13 @@
+//! How an explanation is written: what is wrong, where it stands, and what to do. No program reads it, and no clause
+//! speaks of it but that it ends and is safe.
+#![tactic(auto)]
+
+mod likeness;
+mod place;
+mod shown;
+mod tell;
+
+pub use likeness::nearest;
+pub use place::{Place, line_of, place_at};
+pub use shown::{Several, Shown};
+pub use tell::{File, begin, help, list, locate, name_file, note, words};

@@ -1,0 +1,46 @@
+//! Places in a text.
+
+/// The line and the column of a place, both from 1; a column counts letters.
+#[derive(Clone, Copy, Debug, PartialEq, Eq)]
+pub struct Place {
+    /// The line.
+    pub line: usize,
+    /// The column.
+    pub column: usize,
+}
+
+/// Whether a byte of UTF-8 begins a letter.
+fn begins_letter(byte: u8) -> bool {
+    byte & 0xC0 != 0x80
+}
+
+/// The place behind so many bytes of a text.
+pub fn place_at(text: &[u8], offset: usize) -> Place {
+    let mut place = Place { line: 1, column: 1 };
+    for byte in text.iter().take(offset) {
+        if *byte == b'\n' {
+            place.line = place.line.saturating_add(1);
+            place.column = 1;
+        } else if begins_letter(*byte) {
+            place.column = place.column.saturating_add(1);
+        }
+    }
+    place
+}
+
+/// The line of this number, from 1, without its end.
+pub fn line_of(text: &[u8], number: usize) -> &[u8] {
+    let mut line = 1usize;
+    let mut from = 0usize;
+    for (at, byte) in text.iter().enumerate() {
+        if *byte != b'\n' {
+            continue;
+        }
+        if line == number {
+            return text.get(from..at).unwrap_or(b"");
+        }
+        line = line.saturating_add(1);
+        from = at.saturating_add(1);
+    }
+    text.get(from..).unwrap_or(b"")
+}
