@@ -1,0 +1,13 @@
+//! What a run read and wrote last is kept beside it, for who explains afterwards what ended it: readers and writers that
+//! do what those do which they stand for.
+#![tactic(auto)]
+
+mod notes;
+mod origin;
+mod reader;
+mod writer;
+
+pub use notes::{Kept, Notes, Slot};
+pub use origin::Origin;
+pub use reader::Noted;
+pub use writer::Written;

@@ -1,0 +1,166 @@
+//! What is kept of texts.
+use std::alloc::{AllocError, Global};
+use std::cell::{Cell, RefCell};
+use std::io::Error;
+use std::mem;
+
+/// How many bytes of a file are kept: more than an engine reads of one.
+const MOST_OF_FILE: usize = 4_194_304;
+
+/// How many bytes of the end of a stream are kept at least: more than an engine holds of one.
+const MOST_OF_STREAM: usize = 65_536;
+
+/// How many bytes of the end of what was written are kept at least.
+const MOST_OF_OUTPUT: usize = 1_024;
+
+/// The end of a text, in two parts.
+#[derive(Drop)]
+struct Held {
+    earlier: Vec<u8>,
+    later: Vec<u8>,
+    lines: u64,
+    is_cut: bool,
+}
+
+/// What is kept of one text while it is read or written, where it is wanted.
+#[derive(Drop)]
+pub struct Slot {
+    is_wanted: Cell<bool>,
+    most: usize,
+    held: RefCell<Held>,
+    cause: Cell<Option<Error>>,
+}
+
+/// What was kept of one text.
+#[derive(Drop)]
+pub struct Kept {
+    /// The last bytes of it; all of it, where it is short.
+    pub text: Vec<u8>,
+    /// How many lines stood before these.
+    pub lines_before: u64,
+    /// Whether memory was refused for more of it.
+    pub is_cut: bool,
+    /// Why it could not be opened, read or written, where that is so.
+    pub cause: Option<Error>,
+}
+
+/// How many lines end in some bytes.
+fn lines_in(bytes: &[u8]) -> u64 {
+    let mut lines = 0u64;
+    for byte in bytes {
+        lines = lines.wrapping_add(u64::from(*byte == b'\n'));
+    }
+    lines
+}
+
+impl Held {
+    /// Holds these bytes too, and of those before at least so many.
+    fn take(&mut self, alloc: Global, bytes: &[u8], most: usize) -> Result<(), AllocError> {
+        if self.later.len().saturating_add(bytes.len()) > most {
+            let earlier = mem::replace(&mut self.earlier, Vec::new(alloc));
+            self.lines = self.lines.saturating_add(lines_in(earlier.as_slice()));
+            self.earlier = mem::replace(&mut self.later, Vec::new(alloc));
+        }
+        self.later.extend_from_slice(bytes)
+    }
+}
+
+impl Slot {
+    /// A slot that keeps at least so many of the last bytes, once it is wanted.
+    fn new(alloc: Global, most: usize) -> Self {
+        let held = Held {
+            earlier: Vec::new(alloc),
+            later: Vec::new(alloc),
+            lines: 0,
+            is_cut: false,
+        };
+        Slot {
+            is_wanted: Cell::new(false),
+            most,
+            held: RefCell::new(held),
+            cause: Cell::new(None),
+        }
+    }
+
+    /// Begins to keep.
+    fn want(&self) {
+        self.is_wanted.set(true);
+    }
+
+    /// Keeps these bytes, where it is wanted and memory is granted.
+    pub fn take(&self, alloc: Global, bytes: &[u8]) {
+        if !self.is_wanted.get() {
+            return;
+        }
+        let Ok(mut guard) = self.held.try_borrow_mut() else {
+            return;
+        };
+        let held = &mut *guard;
+        if held.is_cut {
+            return;
+        }
+        if held.take(alloc, bytes, self.most).is_err() {
+            held.is_cut = true;
+        }
+    }
+
+    /// Keeps why a call failed.
+    pub fn blame(&self, cause: Error) {
+        self.cause.set(Some(cause));
+    }
+
+    /// What was kept.
+    ///
+    /// # Errors
+    /// Where memory is refused.
+    pub fn end(self) -> Result<Kept, AllocError> {
+        let cause = self.cause.get();
+        let Held {
+            earlier,
+            later,
+            lines,
+            is_cut,
+        } = self.held.into_inner();
+        let mut text = earlier;
+        text.extend_from_slice(later.as_slice())?;
+        Ok(Kept {
+            text,
+            lines_before: lines,
+            is_cut,
+            cause,
+        })
+    }
+}
+
+/// What is kept of a run: of its two files in the order in which it opens them, of standard input and of what it writes.
+#[derive(Drop)]
+pub struct Notes {
+    /// The file that is opened first.
+    pub first: Slot,
+    /// The file that is opened next.
+    pub second: Slot,
+    /// Standard input, where it is read as a stream.
+    pub input: Slot,
+    /// What is written.
+    pub output: Slot,
+}
+
+impl Notes {
+    /// Notes that keep nothing yet.
+    pub fn new(alloc: Global) -> Self {
+        Notes {
+            first: Slot::new(alloc, MOST_OF_FILE),
+            second: Slot::new(alloc, MOST_OF_FILE),
+            input: Slot::new(alloc, MOST_OF_STREAM),
+            output: Slot::new(alloc, MOST_OF_OUTPUT),
+        }
+    }
+
+    /// Begins to keep.
+    pub fn want(&self) {
+        self.first.want();
+        self.second.want();
+        self.input.want();
+        self.output.want();
+    }
+}
