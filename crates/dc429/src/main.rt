@@ -2,9 +2,13 @@
 #![tactic(auto)]
 
 use dc_answer::Exit;
+use dc_command::Order;
 use dc_device::{ReadSource, WriteSink};
+use dc_explain::explain_end;
+use dc_keep::{Noted, Notes, Written};
 use dc_program::{Disk, Started, run_words, unasked};
 use std::alloc::AllocError;
+use std::io::IsTerminal;
 use std::process::ExitCode;
 use std::rt::{Env, Files};
 use std::sync::Wait;
@@ -63,36 +67,53 @@ fn end_unasked<R: Print + Eprint>(rt: &R, error: clap::Error) -> Result<Exit, Fa
     }
 }
 
-/// Carries out what words ask, over real files and devices.
+/// Carries out what words ask, over real files and devices, and keeps notes of it; with what was asked, where its end is
+/// to be explained.
 fn carry<'a, R: AllocGlobal + Files<File = fs::File> + Input + Print + Threads + Wait + Sync>(
     rt: &'a R,
     words: &'a [String],
-) -> Result<Exit, clap::Error> {
+    notes: &Notes,
+    is_seen: bool,
+) -> Result<(Exit, Option<Order<'a>>), clap::Error> {
     let threads = Started(rt);
     let alloc = rt.alloc();
-    let mut world = Disk::new(rt);
-    let mut input = ReadSource::new(rt.reader());
-    let mut sink = WriteSink::new(io::writer(rt));
-    run_words(alloc, &threads, words, &mut world, &mut input, &mut sink)
+    let mut world = Disk::new(rt, notes, is_seen);
+    let mut input = ReadSource::new(Noted::new(rt.reader(), alloc, &notes.input));
+    let mut sink = WriteSink::new(Written::new(io::writer(rt), alloc, &notes.output));
+    let exit = run_words(alloc, &threads, words, &mut world, &mut input, &mut sink)?;
+    Ok((exit, world.explained()))
 }
 
-/// Reads the command line and carries it out, or shows clap's text.
+/// Explains on standard error how a run ended, where there is something to say and memory and the device allow it.
+fn explain<R: AllocGlobal + Eprint>(rt: &R, order: Order<'_>, exit: Exit, notes: Notes) {
+    if let Ok(Some(text)) = explain_end(rt.alloc(), order, exit, notes) {
+        let _ = eprint!(rt; "{text}");
+    }
+}
+
+/// Reads the command line and carries it out, or shows clap's text; explains the end where who runs the program sees
+/// standard error, or asks for it.
 fn run<
     R: AllocGlobal + Env + Files<File = fs::File> + Input + Print + Eprint + Threads + Wait + Sync,
->(rt: &R) -> Result<Exit, Failure> {
+>(rt: &R, is_seen: bool) -> Result<Exit, Failure> {
     let words: Vec<String> = match env::args(rt) {
         Ok(words) => words.collect(rt.alloc())?,
         Err(error) => return end_unread(rt, error),
     };
     let asked = words.as_slice();
-    match carry(rt, asked) {
-        Ok(exit) => Ok(exit),
+    let notes = Notes::new(rt.alloc());
+    match carry(rt, asked, &notes, is_seen) {
+        Ok((exit, Some(order))) => {
+            explain(rt, order, exit, notes);
+            Ok(exit)
+        }
+        Ok((exit, None)) => Ok(exit),
         Err(error) => end_unasked(rt, error),
     }
 }
 
 fn main(rt: HostRuntime) -> ExitCode {
-    match run(&rt) {
+    match run(&rt, rt.stderr().is_terminal()) {
         Ok(exit) => ExitCode::from(exit.code()),
         Err(failure) => {
             let _ = rt.println(failure);

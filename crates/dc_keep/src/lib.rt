@@ -4,10 +4,12 @@
 
 mod notes;
 mod origin;
+mod passed;
 mod reader;
 mod writer;
 
 pub use notes::{Kept, Notes, Slot};
 pub use origin::Origin;
+pub use passed::Passed;
 pub use reader::Noted;
 pub use writer::Written;

@@ -1,4 +1,5 @@
 //! What is kept of texts.
+use crate::passed::Passed;
 use std::alloc::{AllocError, Global};
 use std::cell::{Cell, RefCell};
 use std::io::Error;
@@ -18,7 +19,7 @@ const MOST_OF_OUTPUT: usize = 1_024;
 struct Held {
     earlier: Vec<u8>,
     later: Vec<u8>,
-    lines: u64,
+    before: Passed,
     is_cut: bool,
 }
 
@@ -26,7 +27,7 @@ struct Held {
 #[derive(Drop)]
 pub struct Slot {
     is_wanted: Cell<bool>,
-    most: usize,
+    most: Cell<usize>,
     held: RefCell<Held>,
     cause: Cell<Option<Error>>,
 }
@@ -36,21 +37,12 @@ pub struct Slot {
 pub struct Kept {
     /// The last bytes of it; all of it, where it is short.
     pub text: Vec<u8>,
-    /// How many lines stood before these.
-    pub lines_before: u64,
+    /// What stood before these.
+    pub before: Passed,
     /// Whether memory was refused for more of it.
     pub is_cut: bool,
     /// Why it could not be opened, read or written, where that is so.
     pub cause: Option<Error>,
-}
-
-/// How many lines end in some bytes.
-fn lines_in(bytes: &[u8]) -> u64 {
-    let mut lines = 0u64;
-    for byte in bytes {
-        lines = lines.wrapping_add(u64::from(*byte == b'\n'));
-    }
-    lines
 }
 
 impl Held {
@@ -58,7 +50,9 @@ impl Held {
     fn take(&mut self, alloc: Global, bytes: &[u8], most: usize) -> Result<(), AllocError> {
         if self.later.len().saturating_add(bytes.len()) > most {
             let earlier = mem::replace(&mut self.earlier, Vec::new(alloc));
-            self.lines = self.lines.saturating_add(lines_in(earlier.as_slice()));
+            for byte in earlier.as_slice() {
+                self.before.pass(*byte);
+            }
             self.earlier = mem::replace(&mut self.later, Vec::new(alloc));
         }
         self.later.extend_from_slice(bytes)
@@ -71,12 +65,12 @@ impl Slot {
         let held = Held {
             earlier: Vec::new(alloc),
             later: Vec::new(alloc),
-            lines: 0,
+            before: Passed::new(),
             is_cut: false,
         };
         Slot {
             is_wanted: Cell::new(false),
-            most,
+            most: Cell::new(most),
             held: RefCell::new(held),
             cause: Cell::new(None),
         }
@@ -99,7 +93,7 @@ impl Slot {
         if held.is_cut {
             return;
         }
-        if held.take(alloc, bytes, self.most).is_err() {
+        if held.take(alloc, bytes, self.most.get()).is_err() {
             held.is_cut = true;
         }
     }
@@ -118,14 +112,14 @@ impl Slot {
         let Held {
             earlier,
             later,
-            lines,
+            before,
             is_cut,
         } = self.held.into_inner();
         let mut text = earlier;
         text.extend_from_slice(later.as_slice())?;
         Ok(Kept {
             text,
-            lines_before: lines,
+            before,
             is_cut,
             cause,
         })
@@ -156,8 +150,11 @@ impl Notes {
         }
     }
 
-    /// Begins to keep.
-    pub fn want(&self) {
+    /// Begins to keep: of standard input the end alone, or as much as of a file, where its `events` are judged together.
+    pub fn want(&self, events: bool) {
+        if events {
+            self.input.most.set(MOST_OF_FILE);
+        }
         self.first.want();
         self.second.want();
         self.input.want();

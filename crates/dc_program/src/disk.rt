@@ -5,33 +5,51 @@ ghost use Rattle.std.specs.IoError.{error_kind};
 use crate::limits::MOST_FILES;
 use crate::world::{Crew, NotOpened, World};
 use arrayvec::ArrayVec;
+use dc_command::{Asked, Order, When};
 use dc_device::ReadSource;
+use dc_keep::{Noted, Notes, Origin, Slot};
 use std::fs::{self, File};
 use std::io::{self, ErrorKind};
 use std::rt::Files;
 
-/// Real files, of which no clause knows what they hold.
+/// Real files, of which no clause knows what they hold, and standard input in place of one that is named `-`. Notes are
+/// kept of what is read of them where it is asked to explain how a run ended.
 #[derive(Drop)]
-pub struct Disk<'a, R> {
+pub struct Disk<'a, 'n, R> {
     runtime: &'a R,
+    notes: &'n Notes,
+    is_seen: bool,
+    explained: Option<Order<'a>>,
     opened: ArrayVec<&'a str, MOST_FILES>,
     refused: Option<NotOpened>,
     crew: Option<Crew>,
 }
 
-impl<'a, R> Disk<'a, R> {
-    /// The world of this runtime, which was asked for nothing yet.
-    pub fn new(runtime: &'a R) -> Self
+/// What standard input is called as a file.
+const STANDARD_INPUT: &str = "-";
+
+impl<'a, 'n, R> Disk<'a, 'n, R> {
+    /// The world of this runtime, which was asked for nothing yet, with notes of it and whether who runs the program sees
+    /// what stands on standard error.
+    pub fn new(runtime: &'a R, notes: &'n Notes, is_seen: bool) -> Self
         ensures opened { result.opened.items ≡ [] }
         ensures refused { result.refused ≡ None }
         ensures crew { result.crew ≡ None }
     {
         Disk {
             runtime,
+            notes,
+            is_seen,
+            explained: None,
             opened: ArrayVec::new(),
             refused: None,
             crew: None,
         }
+    }
+
+    /// What was asked, where its end is to be explained.
+    pub fn explained(&self) -> Option<Order<'a>> {
+        self.explained
     }
 }
 
@@ -47,23 +65,61 @@ fn reason_of(error: io::Error) -> NotOpened
     }
 }
 
-impl<'a, R: Files<File = File>> World<'a> for Disk<'a, R> {
-    type File = ReadSource<File>;
+impl<'a, 'n, R: Files<File = File> + Input> Disk<'a, 'n, R> {
+    /// The file of this name, or standard input.
+    fn origin(&self, name: &str) -> io::Result<Origin<File, R::Reader>> {
+        if name == STANDARD_INPUT {
+            return Ok(Origin::Input(self.runtime.reader()));
+        }
+        let file = fs::open(self.runtime, name)?;
+        Ok(Origin::File(file))
+    }
+
+    /// The notes of the file that is opened next.
+    fn slot(&self) -> &'n Slot {
+        if self.opened.is_empty() {
+            &self.notes.first
+        } else {
+            &self.notes.second
+        }
+    }
+}
+
+impl<'a, 'n, R: AllocGlobal + Files<File = File> + Input> World<'a> for Disk<'a, 'n, R> {
+    type File = ReadSource<Noted<'n, Origin<File, R::Reader>>>;
 
     ghost state = { λ w. record { holds = λ name. None; opened = map (λ name. name.now) w.opened.items; refused = w.refused; crew = w.crew } };
 
-    fn open(&mut self, name: &'a str) -> Result<ReadSource<File>, NotOpened> {
+    fn open(
+        &mut self,
+        name: &'a str,
+    ) -> Result<ReadSource<Noted<'n, Origin<File, R::Reader>>>, NotOpened> {
+        let slot = self.slot();
         self.opened.push(name);
-        match fs::open(self.runtime, name) {
-            Ok(file) => {
+        match self.origin(name) {
+            Ok(origin) => {
                 self.refused = None;
-                Ok(ReadSource::new(file))
+                let noted = Noted::new(origin, self.runtime.alloc(), slot);
+                Ok(ReadSource::new(noted))
             }
             Err(error) => {
+                slot.blame(error);
                 let why = reason_of(error);
                 self.refused = Some(why);
                 Err(why)
             }
+        }
+    }
+
+    fn note(&mut self, asked: Asked<'a>) {
+        let is_wanted = match asked.explain {
+            When::Always => true,
+            When::Never => false,
+            When::Auto => self.is_seen,
+        };
+        if is_wanted {
+            self.notes.want(matches!(asked.order, Order::Audit { .. }));
+            self.explained = Some(asked.order);
         }
     }
 

@@ -5,6 +5,7 @@ ghost use Rattle.dc_program.specs.Memory.{held_by};
 use crate::limits::MOST_FILES;
 use crate::world::{Crew, NotOpened, World};
 use arrayvec::ArrayVec;
+use dc_command::Asked;
 use dc_device::MemSource;
 
 /// How many bytes a file in memory gives at a pull.
@@ -110,6 +111,8 @@ impl<'a> World<'a> for MemWorld<'a> {
             }
         }
     }
+
+    fn note(&mut self, _asked: Asked<'a>) {}
 
     fn ask_threads(&mut self, crew: Crew) {
         self.crew = Some(crew);

@@ -37,7 +37,10 @@ pub fn run_words<'a, W: World<'a>, S: Source, K: Sink, H: ByThreads>(
     ensures untouched { IfErr result (λ _. (world.new ≡ world.old) × (input.new ≡ input.old) × (sink.new ≡ sink.old)) }
 {
     match command(alloc, words) {
-        Ok(order) => Ok(carry_out(alloc, threads, world, input, sink, order)),
+        Ok(asked) => {
+            world.note(asked);
+            Ok(carry_out(alloc, threads, world, input, sink, asked.order))
+        }
         Err(error) => Err(error),
     }
 }

@@ -3,6 +3,7 @@ ghost use Rattle.std.specs.Prelude.{◌≡◌, ◌∷◌, [], ◌++◌, ◌<◌,
 ghost use Rattle.dc_program.specs.World.{WorldState, new_source, refusal_of};
 ghost use Rattle.dc_program.specs.declared.limits.TheConstants.{MOST_FILES};
 
+use dc_command::Asked;
 use dc_device::Source;
 
 /// Why a file was not opened.
@@ -39,6 +40,10 @@ pub trait World<'a> {
         requires { length (state self.old).opened < MOST_FILES }
         ensures world { state self.new ≡ record (state self.old) { opened = (state self.old).opened ++ name.now ∷ []; refused = refusal_of result } }
         ensures file { IfOk result (λ f. Self.File.state f ≡ new_source ((state self.old).holds name.now)) };
+
+    /// Notes what is asked of the program, for who explains how it ended.
+    fn note(&mut self, asked: Asked<'a>)
+        ensures { state self.new ≡ state self.old };
 
     /// Notes that threads are asked for these.
     fn ask_threads(&mut self, crew: Crew)

@@ -10,4 +10,4 @@ mod tell;
 pub use likeness::nearest;
 pub use place::{Place, line_of, place_at};
 pub use shown::{Several, Shown};
-pub use tell::{File, begin, help, list, locate, name_file, note, words};
+pub use tell::{File, begin, help, list, locate, name_file, note, show, words};

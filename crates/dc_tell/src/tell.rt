@@ -64,18 +64,21 @@ fn indent(out: &mut String, part: &str, letters: usize) -> Result<(), AllocError
     Ok(())
 }
 
-/// Ends the line and writes where a text has what was told, behind so many of its bytes: file, line and column, then
-/// the line itself with a mark below the place.
+/// Ends the line and writes where a text has what was told, by the name of its file, the number of its line and a column
+/// in this line, all from 1, then the line itself with a mark below the place.
 ///
 /// # Errors
 /// Where memory is refused.
-pub fn locate(out: &mut String, file: File<'_>, offset: usize) -> Result<(), AllocError> {
-    let place = place_at(file.text, offset);
-    let name = Shown(file.name);
-    let line = place.line;
-    let column = place.column;
-    write!(out, "\n  --> {name}:{line}:{column}\n")?;
-    let Ok(whole) = str::from_utf8(line_of(file.text, line)) else {
+pub fn show(
+    out: &mut String,
+    name: &str,
+    number: u64,
+    line: &[u8],
+    column: usize,
+) -> Result<(), AllocError> {
+    let name = Shown(name);
+    write!(out, "\n  --> {name}:{number}:{column}\n")?;
+    let Ok(whole) = str::from_utf8(line) else {
         return Ok(());
     };
     let (part, at) = around(whole, column);
@@ -83,6 +86,17 @@ pub fn locate(out: &mut String, file: File<'_>, offset: usize) -> Result<(), All
     write!(out, "   | {shown}\n   | ")?;
     indent(out, part, at)?;
     out.push_str("^\n")
+}
+
+/// Ends the line and writes where a text has what was told, behind so many of its bytes: file, line and column, then
+/// the line itself with a mark below the place.
+///
+/// # Errors
+/// Where memory is refused.
+pub fn locate(out: &mut String, file: File<'_>, offset: usize) -> Result<(), AllocError> {
+    let place = place_at(file.text, offset);
+    let line = line_of(file.text, place.line);
+    show(out, file.name, place.line as u64, line, place.column)
 }
 
 /// Ends the line and writes of which file it was told.

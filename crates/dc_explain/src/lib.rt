@@ -1,0 +1,18 @@
+//! What a person is told on standard error of what ended a run: the thing itself, where it stands, and what to do. It is
+//! made of what was kept of the texts that were judged, behind the answer, and no clause speaks of it but that it ends
+//! and is safe.
+#![tactic(auto)]
+
+mod audits;
+mod devices;
+mod faults;
+mod judged;
+mod lines;
+mod output;
+mod plain;
+mod ran;
+mod steps;
+mod trace;
+mod words;
+
+pub use ran::explain_end;

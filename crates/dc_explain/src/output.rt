@@ -1,0 +1,54 @@
+//! The lines that a run wrote last.
+
+/// A line that says what ended a run: a word, a code, and the words behind it.
+#[derive(Clone, Copy, Debug)]
+pub struct Answer<'a> {
+    /// The first word of the line.
+    pub verb: &'a str,
+    /// The second word: a code, or what failed.
+    pub code: &'a str,
+    /// What stands behind it.
+    pub rest: &'a str,
+}
+
+/// The words of a line of the end of a run.
+fn answer_in(line: &str) -> Answer<'_> {
+    let (verb, behind) = line.split_once(' ').unwrap_or((line, ""));
+    let (code, rest) = behind.split_once(' ').unwrap_or((behind, ""));
+    Answer { verb, code, rest }
+}
+
+/// Whether a line says that something was judged and found wanting.
+fn is_failing(line: &str) -> bool {
+    line.contains(" fail at ") || line.contains(" fails at ")
+}
+
+/// The line that says what ended a run, of the last lines that it wrote: the first one that tells of a failing, where
+/// one does, else the last.
+pub fn answer_of(output: &[u8]) -> Option<Answer<'_>> {
+    let text = str::from_utf8(output).ok()?;
+    let mut last = "";
+    for line in text.lines() {
+        if is_failing(line) {
+            return Some(answer_in(line));
+        }
+        last = line;
+    }
+    Some(answer_in(last))
+}
+
+impl<'a> Answer<'a> {
+    /// The number of the line that it names, where it names one: the last of its words.
+    pub fn line(self) -> Option<u64> {
+        let (_, number) = self.rest.rsplit_once(' ').unwrap_or(("", self.rest));
+        number.parse::<u64>().ok()
+    }
+
+    /// The first word of what stands behind the code.
+    pub fn name(self) -> &'a str {
+        match self.rest.split_once(' ') {
+            Some((name, _)) => name,
+            None => self.rest,
+        }
+    }
+}

@@ -1,0 +1,163 @@
+//! A run that has ended, and what there is to say of its end.
+use crate::devices::explain_failure;
+use crate::faults::{explain_event, explain_failing, explain_step, explain_word};
+use crate::judged::{explain_refused, explain_unread};
+use crate::output::{Answer, answer_of};
+use crate::plain::explain_plainly;
+use dc_answer::Exit;
+use dc_codes::Kind;
+use dc_command::Order;
+use dc_keep::{Kept, Notes};
+use std::alloc::{AllocError, Global};
+use std::io::ErrorKind;
+
+/// What standard input is called as a file on the command line.
+const STANDARD_INPUT: &str = "-";
+
+/// A run that has ended, with what was kept of it.
+#[derive(Clone, Copy)]
+pub struct Ran<'a> {
+    /// What was asked.
+    pub order: Order<'a>,
+    /// What it ended with.
+    pub exit: Exit,
+    /// Its first file.
+    pub first: &'a Kept,
+    /// Its second file.
+    pub second: &'a Kept,
+    /// Standard input.
+    pub input: &'a Kept,
+    /// What it wrote last.
+    pub output: &'a Kept,
+}
+
+/// The name of a file as it is told.
+fn told(name: &str) -> &str {
+    if name == STANDARD_INPUT {
+        "<stdin>"
+    } else {
+        name
+    }
+}
+
+impl<'a> Ran<'a> {
+    /// The names of its files, in the order in which it opens them; an empty one where it has none.
+    pub fn names(&self) -> (&'a str, &'a str) {
+        match self.order {
+            Order::Decode(_) | Order::Explain { .. } => ("", ""),
+            Order::Find { tables } | Order::Replay { tables, .. } => (told(tables), ""),
+            Order::Report {
+                tables,
+                certificate,
+            }
+            | Order::Margins {
+                tables,
+                certificate,
+            } => (told(tables), told(certificate.unwrap_or(""))),
+            Order::Check {
+                tables,
+                certificate,
+                ..
+            }
+            | Order::Audit {
+                tables,
+                certificate,
+            }
+            | Order::Bench {
+                tables,
+                certificate,
+                ..
+            } => (told(tables), told(certificate)),
+        }
+    }
+
+    /// Whether the reader of its output is gone.
+    fn is_unread(&self) -> bool {
+        match self.output.cause {
+            Some(error) => error.kind() == ErrorKind::BrokenPipe,
+            None => false,
+        }
+    }
+}
+
+/// Explains a text that can't be read.
+fn explain_text(
+    alloc: Global,
+    ran: &Ran<'_>,
+    answer: Answer<'_>,
+) -> Result<Option<String>, AllocError> {
+    if !answer.code.starts_with('E') {
+        return explain_unread(alloc, ran, answer);
+    }
+    match ran.order {
+        Order::Decode(_) => explain_word(alloc, ran, answer),
+        _ => explain_event(alloc, ran, answer),
+    }
+}
+
+/// Explains what was judged and refused.
+fn explain_judged(
+    alloc: Global,
+    ran: &Ran<'_>,
+    answer: Answer<'_>,
+) -> Result<Option<String>, AllocError> {
+    match answer.code {
+        "spent" | "early" | "owed" | "ticks" => explain_step(alloc, ran, answer),
+        "hub" => explain_plainly(alloc, Kind::Bench, answer.code),
+        _ => match answer.verb {
+            "budgets" | "sources" | "claim" => explain_failing(alloc, ran, answer),
+            _ => explain_refused(alloc, ran, answer),
+        },
+    }
+}
+
+/// What there is to say of the end of a run: nothing where all is well, or where nobody reads what it wrote.
+///
+/// # Errors
+/// Where memory is refused.
+fn explain(alloc: Global, ran: &Ran<'_>) -> Result<Option<String>, AllocError> {
+    if ran.is_unread() {
+        return Ok(None);
+    }
+    let Some(answer) = answer_of(ran.output.text.as_slice()) else {
+        return Ok(None);
+    };
+    match ran.exit {
+        Exit::Done => Ok(None),
+        Exit::Failed if answer.verb == "failed" => explain_failure(alloc, ran, answer.code),
+        Exit::Failed => explain_failure(alloc, ran, "device"),
+        Exit::Unreadable => explain_text(alloc, ran, answer),
+        Exit::Refused => explain_judged(alloc, ran, answer),
+    }
+}
+
+/// What there is to say of the end of a run, by the notes that were kept of it.
+///
+/// # Errors
+/// Where memory is refused.
+pub fn explain_end(
+    alloc: Global,
+    order: Order<'_>,
+    exit: Exit,
+    notes: Notes,
+) -> Result<Option<String>, AllocError> {
+    let Notes {
+        first,
+        second,
+        input,
+        output,
+    } = notes;
+    let first = first.end()?;
+    let second = second.end()?;
+    let input = input.end()?;
+    let output = output.end()?;
+    let ran = Ran {
+        order,
+        exit,
+        first: &first,
+        second: &second,
+        input: &input,
+        output: &output,
+    };
+    explain(alloc, &ran)
+}

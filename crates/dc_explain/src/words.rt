@@ -1,0 +1,127 @@
+//! Lines that are no word, and what is not seen in a line.
+use crate::lines::Line;
+use dc_tell::{Several, help, words};
+use std::alloc::AllocError;
+
+/// What is not seen in a line and keeps it from being read: behind how many of its bytes, what it is, and what to do.
+#[derive(Clone, Copy, Debug)]
+struct Unseen {
+    at: usize,
+    what: &'static str,
+    mend: &'static str,
+}
+
+/// What of a line is not seen and does not belong there.
+fn unseen_in(line: &[u8]) -> Option<Unseen> {
+    if line.starts_with(b"\xEF\xBB\xBF") {
+        return Some(Unseen {
+            at: 0,
+            what: "begins with a byte order mark",
+            mend: "save the text as UTF-8 without a byte order mark",
+        });
+    }
+    if line.ends_with(b"\r") {
+        return Some(Unseen {
+            at: line.len().saturating_sub(1),
+            what: "ends in a carriage return and a line feed",
+            mend: "lines end in a line feed alone: convert the text by `tr -d '\\r'`",
+        });
+    }
+    if let Some(at) = line.iter().position(|byte| *byte == b'\t') {
+        return Some(Unseen {
+            at,
+            what: "has a tab",
+            mend: "part the fields by one blank",
+        });
+    }
+    if line.ends_with(b" ") {
+        return Some(Unseen {
+            at: line.len().saturating_sub(1),
+            what: "has a blank at its end",
+            mend: "take the blank out",
+        });
+    }
+    None
+}
+
+/// Tells what of a line is not seen and does not belong there, where there is such.
+///
+/// # Errors
+/// Where memory is refused.
+pub fn tell_unseen(out: &mut String, line: Line<'_>) -> Result<bool, AllocError> {
+    let Some(unseen) = unseen_in(line.bytes) else {
+        return Ok(false);
+    };
+    let what = unseen.what;
+    let mend = unseen.mend;
+    write!(out, "the line {what}")?;
+    line.show(out, unseen.at)?;
+    help(out)?;
+    write!(out, "{mend}\n")?;
+    Ok(true)
+}
+
+/// How many of the first bytes are hexadecimal digits.
+fn digits_in(bytes: &[u8]) -> usize {
+    bytes
+        .iter()
+        .take_while(|byte| byte.is_ascii_hexdigit())
+        .count()
+}
+
+/// Tells why a piece of a line, from this byte on, is no word.
+///
+/// # Errors
+/// Where memory is refused.
+pub fn tell_no_word(out: &mut String, line: Line<'_>, from: usize) -> Result<(), AllocError> {
+    let piece = line.bytes.get(from..).unwrap_or(b"");
+    let token = words(piece);
+    let digits = digits_in(piece);
+    let mut at = from;
+    if piece.is_empty() {
+        out.push_str("there is no word: the line is empty")?;
+    } else if piece.starts_with(b"0x") || piece.starts_with(b"0X") {
+        write!(out, "`{token}` is no word: it is written without `0x`")?;
+    } else if digits < piece.len() {
+        at = from.saturating_add(digits);
+        write!(
+            out,
+            "`{token}` is no word: it has what is no hexadecimal digit"
+        )?;
+    } else {
+        let several = Several(digits as u64, "hexadecimal digit", "hexadecimal digits");
+        write!(
+            out,
+            "`{token}` is no word: it has {several}, and a word has 8"
+        )?;
+    }
+    line.show(out, at)?;
+    help(out)?;
+    out.push_str("a word of 32 bits is written as 8 hexadecimal digits, as 600000C1\n")
+}
+
+/// Tells that a line is longer than lines may be.
+///
+/// # Errors
+/// Where memory is refused.
+pub fn tell_long(out: &mut String, line: Line<'_>, what: &str) -> Result<(), AllocError> {
+    let length = Several(line.bytes.len() as u64, "byte", "bytes");
+    write!(
+        out,
+        "the line has {length} or more, and a line has 64 at most"
+    )?;
+    line.show(out, 64)?;
+    help(out)?;
+    write!(out, "one {what} a line\n")
+}
+
+/// Tells that a text ends inside a line.
+///
+/// # Errors
+/// Where memory is refused.
+pub fn tell_unended(out: &mut String, line: Line<'_>) -> Result<(), AllocError> {
+    out.push_str("the text ends inside a line: a line feed is missing behind it")?;
+    line.show(out, line.bytes.len())?;
+    help(out)?;
+    out.push_str("end the last line with a line feed\n")
+}
