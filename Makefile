@@ -37,10 +37,16 @@ test:
 
 # The built program on the rows of rows/, on texts by chance and of the largest sizes, at its edges, under refused memory and
 # failing devices: some minutes, no proof.
-trials: $(addprefix try-,rows chance crowds largest audits edges hostile pages refused)
+trials: $(addprefix try-,rows explained chance crowds largest audits edges hostile pages refused)
 
 try-%:
 	@scripts/$*
+
+# The explanations, and that with them each row answers as without.
+try-explained:
+	@scripts/explained
+	@scripts/rows --explain always
+	@scripts/rows --explain never
 
 # The built program on the rows of rows/ whose file or name has a word, as make rows ONLY=replay; with no word on all. No proof.
 # With QUICK=1 the program is not wanted: those that differ by their standard input alone run with no proof, by one build for each
