@@ -1,2 +1,3 @@
+pub mod Hyphen
 pub mod Reading
 pub mod Simple

@@ -1,11 +1,12 @@
 -- What the matches of a command say, as rows.
-use Rattle.std.proofs.Common.{◌≡◌, ◌∙◌, ℕ, Bool, true, false, codes, find, sym, subst, Option, Some, None}
+use Rattle.std.proofs.Common.{◌≡◌, ◌∙◌, ℕ, Bool, true, false, codes, find, sym, subst, Option, Some, None, IfSome}
 use Rattle.clap.specs.Words.{Text, first_of, first_value, one_of, one_text, rows_of}
 use Rattle.clap.specs.declared.parser.matches.Found.{Found}
 use Rattle.clap.proofs.WalkLemmas.{first_value-rows, one_text-rows}
 use Rattle.dc_codes.specs.Codes.{asks_for, names}
 use Rattle.dc_codes.specs.declared.code.Code.{Code}
-use Rattle.dc_command.specs.Asked.{AreGiven, CodesAre, IsSet, TicksAre}
+use Rattle.dc_command.specs.Asked.{AreGiven, CodesAre, IsSet, TicksAre, WhenIs, when_name}
+use Rattle.dc_command.specs.declared.explained.When.{When}
 
 -- a text that is given
 pub text_given : (f : Found) (id text : Text) → Some text ≡ first_value f id → first_of id (rows_of f) ≡ Some text
@@ -18,6 +19,16 @@ workers_given f id workers given = subst (λ o. AreGiven o workers) (first_value
 -- the number of ticks
 pub ticks_given : (f : Found) (id : Text) (ticks : ℕ) → TicksAre (first_value f id) ticks → TicksAre (first_of id (rows_of f)) ticks
 ticks_given f id ticks given = subst (λ o. TicksAre o ticks) (first_value-rows f id) given
+
+-- when to explain, by a text or by none
+pub when_given : (f : Found) (id : Text) (said : Option Text) (when : When) → said ≡ first_value f id → WhenIs said when → WhenIs (first_of id (rows_of f)) when
+when_given f id said when is given = subst (λ o. WhenIs o when) (is ∙ first_value-rows f id) given
+
+-- when to explain, where the text that is given says it
+pub some_when_given : (f : Found) (id text : Text) (said : Option When) → Some text ≡ first_value f id → IfSome said (λ when. text ≡ when_name when)
+    → IfSome said (WhenIs (first_of id (rows_of f)))
+some_when_given f id text None is given = given
+some_when_given f id text (Some when) is given = when_given f id (Some text) when is given
 
 -- a flag
 pub flag_given : (f : Found) (id : Text) (set : Bool) → (one_text f id ≡ None → set ≡ false) → (one_text f id ≡ Some (codes "true") → set ≡ true)

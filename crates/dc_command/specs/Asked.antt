@@ -11,6 +11,8 @@ use Rattle.dc_word.specs.declared.format.Format.TheVariants.{Bnr, Bcd, Disc}
 use Rattle.dc_command.specs.Program.{program_app}
 use Rattle.dc_command.specs.declared.asked.Order.{Order}
 use Rattle.dc_command.specs.declared.asked.Order.TheVariants.{Decode, Check, Find, Report, Margins, Replay, Audit, Bench, Explain}
+use Rattle.dc_command.specs.declared.explained.When.{When}
+use Rattle.dc_command.specs.declared.explained.When.TheVariants.{Always, Never, Auto}
 use Rattle.dc_command.specs.declared.limits.TheConstants.{MOST_TICKS, MOST_WORKERS, USUAL_TICKS}
 
 -- the text is this number of workers, in decimal
@@ -84,6 +86,26 @@ Asks (Some (name, rows)) order = AsksBy name rows order
 -- what the words ask, of which the first is the program's name: what clap finds in them
 abbrev pub AsksIn : List Text → Order → Type 0
 AsksIn words order = (formats : ValueParser) × Asks (subcommand_of (program_app formats) words) order
+
+-- when to explain, as it is written after `--explain`
+abbrev pub when_name : When → List ℕ
+when_name Always = codes "always"
+when_name Never = codes "never"
+when_name Auto = codes "auto"
+
+-- when to explain, by a text, or where standard error is a terminal if there is no text
+abbrev pub WhenIs : Option (List ℕ) → When → Type 0
+WhenIs None when = when ≡ Auto
+WhenIs (Some text) when = text ≡ when_name when
+
+-- when a command and its matches ask to explain
+abbrev pub Explains : Option (Text × List Row) → When → Type 0
+Explains None when = ⊥
+Explains (Some (name, rows)) when = WhenIs (first_of (codes "explain") rows) when
+
+-- when the words ask to explain; the command `explain` has no such option, and clap finds none in its words
+abbrev pub ExplainsIn : List Text → When → Type 0
+ExplainsIn words when = (formats : ValueParser) × Explains (subcommand_of (program_app formats) words) when
 
 -- each number is in its range
 abbrev pub IsInRange : Order → Type 0

@@ -37,9 +37,17 @@ ticks_rule = record (new_rule (codes "ticks")) {
 abbrev pub all_rule : Rule
 all_rule = record (new_rule (codes "all")) { long = Some (codes "all"); action = Some SetTrue }
 
+-- `--explain`
+abbrev pub explain_rule : Rule
+explain_rule = record (new_rule (codes "explain")) { long = Some (codes "explain"); value_names = 1 }
+
+-- a command that may be told when to explain, and has this rule
+abbrev pub explaining_app : Text → Rule → App
+explaining_app name rule = with_rule (with_rule (new_app name) explain_rule) rule
+
 -- a command that reads tables
 abbrev pub tables_app : Text → App
-tables_app name = with_rule (new_app name) (file_rule (codes "TABLES"))
+tables_app name = explaining_app name (file_rule (codes "TABLES"))
 
 -- a command that reads tables and a certificate
 abbrev pub certificate_app : Text → App
@@ -47,7 +55,7 @@ certificate_app name = with_rule (tables_app name) (file_rule (codes "CERT"))
 
 -- `decode`, with the parser of its format
 abbrev pub decode_app : ValueParser → App
-decode_app formats = with_rule (new_app (codes "decode")) (format_rule formats)
+decode_app formats = explaining_app (codes "decode") (format_rule formats)
 
 -- `check`, which may be told how many workers
 abbrev pub check_app : App

@@ -2,8 +2,11 @@
 ghost use Rattle.std.specs.Prelude.{codes, map, IfOk, IfSome, MatchResult};
 ghost use Rattle.std.specs.String.{string_bytes};
 ghost use Rattle.clap.specs.Words.{first_value, found_of, rows_of, subcommand_rows_of};
-ghost use Rattle.dc_command.specs.Asked.{AreGiven, Asks, AsksBy, AsksIn, IsCount, IsInRange, IsNoCount, IsNoTickCount, IsTickCount, TicksAre};
+ghost use Rattle.dc_command.specs.Asked.{AreGiven, Asks, AsksBy, AsksIn, Explains, ExplainsIn, IsCount, IsInRange, IsNoCount, IsNoTickCount, IsTickCount, TicksAre};
+ghost use Rattle.dc_command.specs.Inputs.{HasOneInput};
 
+use crate::explained::{When, when_in};
+use crate::inputs::refuse_second_input;
 use crate::known::program;
 use crate::limits::{MOST_TICKS, MOST_WORKERS, USUAL_TICKS};
 use clap::error::ErrorKind;
@@ -73,6 +76,15 @@ pub enum Order<'a> {
         /// The code, or every one where none is said.
         code: Option<Code<'a>>,
     },
+}
+
+/// What a command line asks.
+#[derive(Clone, Copy, Debug, PartialEq, Eq)]
+pub struct Asked<'a> {
+    /// What is to be done.
+    pub order: Order<'a>,
+    /// When it is explained what was refused.
+    pub explain: When,
 }
 
 /// A text says no number that is in its range.
@@ -270,6 +282,14 @@ fn order_in<'a>(matches: &ArgMatches<'a>) -> Option<Order<'a>>
     order_by(name, matches)
 }
 
+/// When the matches of the program ask to explain.
+fn when_asked(matches: &ArgMatches<'_>) -> Option<When>
+    ensures { IfSome result (Explains (subcommand_rows_of matches.now)) }
+{
+    let (_, matches) = matches.subcommand()?;
+    when_in(matches)
+}
+
 /// What is said of a command line that asks for nothing which there is.
 fn fault_of(matches: &ArgMatches<'_>) -> &'static str {
     match matches.subcommand() {
@@ -278,19 +298,37 @@ fn fault_of(matches: &ArgMatches<'_>) -> &'static str {
     }
 }
 
+/// What the matches of the program ask, and when they ask to explain; else what is said of them.
+fn asked_in<'a>(matches: &ArgMatches<'a>) -> Result<Asked<'a>, &'static str>
+    ensures asks { IfOk result (λ asked. Asks (subcommand_rows_of matches.now) asked.order) }
+    ensures explains { IfOk result (λ asked. Explains (subcommand_rows_of matches.now) asked.explain) }
+    ensures one_input { IfOk result (λ asked. HasOneInput asked.order) }
+{
+    let Some(order) = order_in(matches) else {
+        return Err(fault_of(matches));
+    };
+    let Some(explain) = when_asked(matches) else {
+        return Err("invalid value for '--explain <WHEN>' [possible values: always, never, auto]");
+    };
+    refuse_second_input(&order)?;
+    Ok(Asked { order, explain })
+}
+
 /// What the words ask, of which the first is the program's name.
 ///
 /// # Errors
 /// With clap's text, which is to be printed, and its exit code: when it comes no clause says. That it does for words
 /// that ask for help or the version, or are no command line of the program, is tested.
-pub fn command<'a>(alloc: Global, words: &'a [String]) -> Result<Order<'a>, Error>
-    ensures asks { IfOk result (AsksIn (map string_bytes words.now)) }
-    ensures range { IfOk result IsInRange }
+pub fn command<'a>(alloc: Global, words: &'a [String]) -> Result<Asked<'a>, Error>
+    ensures asks { IfOk result (λ asked. AsksIn (map string_bytes words.now) asked.order) }
+    ensures explains { IfOk result (λ asked. ExplainsIn (map string_bytes words.now) asked.explain) }
+    ensures range { IfOk result (λ asked. IsInRange asked.order) }
+    ensures one_input { IfOk result (λ asked. HasOneInput asked.order) }
 {
     let mut program = program(alloc)?;
     let matches = program.try_get_matches_from_mut(words)?;
-    match order_in(&matches) {
-        Some(order) => Ok(order),
-        None => Err(program.error(ErrorKind::InvalidValue, fault_of(&matches))?),
+    match asked_in(&matches) {
+        Ok(asked) => Ok(asked),
+        Err(fault) => Err(program.error(ErrorKind::InvalidValue, fault)?),
     }
 }

@@ -1,8 +1,12 @@
 //! The commands that there are, with their arguments and what is said of them.
 ghost use Rattle.std.specs.Prelude.{◌≡◌, false, codes, IfOk};
-ghost use Rattle.clap.specs.Words.{rule_of};
-ghost use Rattle.dc_command.specs.Program.{IsDecode, IsProgram, IsRead, bare_app, bench_app, certificate_app, check_app, explain_app, file_rule, optional_app, replay_app, tables_app};
+ghost use Rattle.clap.specs.Words.{new_app, rule_of};
+ghost use Rattle.dc_command.specs.Program.{IsDecode, IsProgram, IsRead, all_rule, bare_app, bench_app, certificate_app, check_app, explain_app, explain_rule, file_rule, optional_app, replay_app, tables_app};
 
+use crate::after::{
+    AFTER_AUDIT, AFTER_BENCH, AFTER_CHECK, AFTER_DECODE, AFTER_EXPLAIN, AFTER_FIND, AFTER_MARGINS,
+    AFTER_REPLAY, AFTER_REPORT,
+};
 use crate::limits::{MOST_TICKS, MOST_WORKERS};
 use clap::{Arg, ArgAction, Command, Error, value_parser};
 use std::alloc::Global;
@@ -15,22 +19,64 @@ fn file<'a>(alloc: Global, name: &'a str, help: &'a str) -> Arg<'a>
     Arg::new(alloc, name).help(help).required(true)
 }
 
+/// The option `--explain`, told behind the others.
+fn explained<'a>(alloc: Global) -> Arg<'a>
+    ensures rule { rule_of result ≡ explain_rule }
+    ensures local { result.global ≡ false }
+{
+    Arg::new(alloc, "explain")
+        .long("explain")
+        .value_name("WHEN")
+        .help(
+            "Explains on standard error what was refused: always, never, or auto, where it is a terminal",
+        )
+        .display_order(100)
+}
+
+/// The flag `--all`.
+fn every<'a>(alloc: Global, help: &'a str) -> Arg<'a>
+    ensures rule { rule_of result ≡ all_rule }
+    ensures local { result.global ≡ false }
+{
+    Arg::new(alloc, "all")
+        .long("all")
+        .help(help)
+        .action(ArgAction::SetTrue)
+}
+
+/// A subcommand without its arguments.
+fn named<'a>(alloc: Global, name: &'a str, about: &'a str, after: &'a str) -> Command<'a>
+    ensures { IsRead (new_app name.entry.now) result }
+{
+    Command::new(alloc, name).about(about).after_help(after)
+}
+
 /// A subcommand that reads tables.
-fn on_tables<'a>(alloc: Global, name: &'a str, about: &'a str) -> Result<Command<'a>, Error>
+fn on_tables<'a>(
+    alloc: Global,
+    name: &'a str,
+    about: &'a str,
+    after: &'a str,
+) -> Result<Command<'a>, Error>
     ensures { IfOk result (IsRead (tables_app name.entry.now)) }
 {
     Ok(
-        Command::new(alloc, name)
-            .about(about)
+        named(alloc, name, about, after)
+            .arg(explained(alloc))?
             .arg(file(alloc, "TABLES", "The tables, in TOML"))?,
     )
 }
 
 /// A subcommand that reads tables and a certificate.
-fn on_certificate<'a>(alloc: Global, name: &'a str, about: &'a str) -> Result<Command<'a>, Error>
+fn on_certificate<'a>(
+    alloc: Global,
+    name: &'a str,
+    about: &'a str,
+    after: &'a str,
+) -> Result<Command<'a>, Error>
     ensures { IfOk result (IsRead (certificate_app name.entry.now)) }
 {
-    Ok(on_tables(alloc, name, about)?.arg(file(alloc, "CERT", "The certificate, in JSON"))?)
+    Ok(on_tables(alloc, name, about, after)?.arg(file(alloc, "CERT", "The certificate, in JSON"))?)
 }
 
 /// A subcommand that reads tables, and a certificate where one is given.
@@ -38,13 +84,14 @@ fn on_some_certificate<'a>(
     alloc: Global,
     name: &'a str,
     about: &'a str,
+    after: &'a str,
 ) -> Result<Command<'a>, Error>
     ensures { IfOk result (IsRead (optional_app name.entry.now)) }
 {
     let certificate = Arg::new(alloc, "CERT").help(
         "The certificate, in JSON; without it the least one is taken",
     );
-    Ok(on_tables(alloc, name, about)?.arg(certificate)?)
+    Ok(on_tables(alloc, name, about, after)?.arg(certificate)?)
 }
 
 /// The command `decode`.
@@ -56,9 +103,14 @@ fn decode<'a>(alloc: Global) -> Result<Command<'a>, Error>
         .required(true)
         .value_parser(["bnr", "bcd", "disc"].as_slice());
     Ok(
-        Command::new(alloc, "decode")
-            .about("Decodes ARINC 429 words from standard input, one a line")
-            .arg(format)?,
+        named(
+            alloc,
+            "decode",
+            "Decodes ARINC 429 words from standard input, one a line",
+            AFTER_DECODE,
+        )
+        .arg(explained(alloc))?
+        .arg(format)?,
     )
 }
 
@@ -75,6 +127,7 @@ fn check<'a>(alloc: Global) -> Result<Command<'a>, Error>
         alloc,
         "check",
         "Judges a certificate for tables, and prints the verdict",
+        AFTER_CHECK,
     )?;
     Ok(check.arg(workers)?)
 }
@@ -87,6 +140,7 @@ fn find<'a>(alloc: Global) -> Result<Command<'a>, Error>
         alloc,
         "find",
         "Finds the least certificate for tables, or what stands in the way of one",
+        AFTER_FIND,
     )
 }
 
@@ -98,6 +152,7 @@ fn report<'a>(alloc: Global) -> Result<Command<'a>, Error>
         alloc,
         "report",
         "Writes a page of HTML: why a certificate is accepted or refused, and how near it came",
+        AFTER_REPORT,
     )
 }
 
@@ -109,6 +164,7 @@ fn margins<'a>(alloc: Global) -> Result<Command<'a>, Error>
         alloc,
         "margins",
         "Judges a certificate for tables, and prints how far each of its conditions is from failing",
+        AFTER_MARGINS,
     )
 }
 
@@ -116,14 +172,15 @@ fn margins<'a>(alloc: Global) -> Result<Command<'a>, Error>
 fn replay<'a>(alloc: Global) -> Result<Command<'a>, Error>
     ensures { IfOk result (IsRead replay_app) }
 {
-    let all = Arg::new(alloc, "all")
-        .long("all")
-        .help("Prints every reply, and not only words that are sent or lost")
-        .action(ArgAction::SetTrue);
+    let all = every(
+        alloc,
+        "Prints every reply, and not only words that are sent or lost",
+    );
     let replay = on_tables(
         alloc,
         "replay",
         "Replays the trace on standard input through the concentrator of the tables",
+        AFTER_REPLAY,
     )?;
     Ok(replay.arg(all)?)
 }
@@ -136,6 +193,7 @@ fn audit<'a>(alloc: Global) -> Result<Command<'a>, Error>
         alloc,
         "audit",
         "Audits the trace on standard input: its budgets, its sources, and the claims of a certificate",
+        AFTER_AUDIT,
     )
 }
 
@@ -152,6 +210,7 @@ fn bench<'a>(alloc: Global) -> Result<Command<'a>, Error>
         alloc,
         "bench",
         "Runs the concentrator of the tables with a thread for each actor, and audits the run",
+        AFTER_BENCH,
     )?;
     Ok(bench.arg(ticks)?)
 }
@@ -163,17 +222,15 @@ fn explain<'a>(alloc: Global) -> Result<Command<'a>, Error>
     let code = Arg::new(alloc, "CODE").help(
         "A code or a word of refusal as it is printed, in upper or lower case: C06, t16, owed",
     );
-    let all = Arg::new(alloc, "all")
-        .long("all")
-        .help("Tells every code")
-        .action(ArgAction::SetTrue);
     Ok(
-        Command::new(alloc, "explain")
-            .about(
-                "Tells what a printed code means, with an example and what to do: dc429 explain C06",
-            )
-            .arg(code)?
-            .arg(all)?,
+        named(
+            alloc,
+            "explain",
+            "Tells what a printed code means, with an example and what to do: dc429 explain C06",
+            AFTER_EXPLAIN,
+        )
+        .arg(code)?
+        .arg(every(alloc, "Tells every code"))?,
     )
 }
 

@@ -1,9 +1,13 @@
 //! The command line: what the words of a call ask, read by clap.
 #![tactic(auto)]
 
+mod after;
 mod asked;
+mod explained;
+mod inputs;
 mod known;
 mod limits;
 
-pub use asked::{Order, command};
+pub use asked::{Asked, Order, command};
+pub use explained::When;
 pub use limits::{MOST_TICKS, MOST_WORKERS, USUAL_TICKS};

@@ -1,0 +1,99 @@
+//! What the help of a command says behind its options: an example, where its input comes from, and its exit status.
+
+/// Behind the options of `decode`.
+pub(crate) const AFTER_DECODE: &str = "Example: dc429 decode bnr < words.txt
+
+The words come from standard input.
+
+Exit status:
+  0  every word is decoded
+  2  a line that is no word, or a wrong command line
+  3  a device or memory was not to be had";
+
+/// Behind the options of `check`.
+pub(crate) const AFTER_CHECK: &str = "Example: dc429 check tables.toml certificate.json
+
+A file named - is standard input, which only one of the two can be; one of that name is ./-
+
+Exit status:
+  0  accepted
+  1  refused
+  2  a text that can't be read, or a wrong command line
+  3  a file, a device, memory or a thread was not to be had";
+
+/// Behind the options of `find`.
+pub(crate) const AFTER_FIND: &str = "Example: dc429 find tables.toml > certificate.json
+
+A file named - is standard input; one of that name is ./-
+
+Exit status:
+  0  found
+  1  refused: no certificate is accepted for the tables
+  2  a text that can't be read, or a wrong command line
+  3  a file, a device or memory was not to be had";
+
+/// Behind the options of `report`.
+pub(crate) const AFTER_REPORT: &str =
+    "Example: dc429 report tables.toml certificate.json > report.html
+
+A file named - is standard input, which only one of the two can be; one of that name is ./-
+
+Exit status:
+  0  accepted
+  1  refused
+  2  a text that can't be read, or a wrong command line
+  3  a file, a device or memory was not to be had";
+
+/// Behind the options of `margins`.
+pub(crate) const AFTER_MARGINS: &str = "Example: dc429 margins tables.toml certificate.json
+
+A file named - is standard input, which only one of the two can be; one of that name is ./-
+
+Exit status:
+  0  accepted
+  1  refused
+  2  a text that can't be read, or a wrong command line
+  3  a file, a device or memory was not to be had";
+
+/// Behind the options of `replay`.
+pub(crate) const AFTER_REPLAY: &str = "Example: dc429 replay tables.toml < run.trace
+
+The trace comes from standard input, the tables from a file.
+
+Exit status:
+  0  replayed to the end
+  1  refused: an event that may not follow those before it
+  2  a text that can't be read, or a wrong command line
+  3  a file, a device or memory was not to be had";
+
+/// Behind the options of `audit`.
+pub(crate) const AFTER_AUDIT: &str = "Example: dc429 audit tables.toml certificate.json < run.trace
+
+The trace comes from standard input, the tables and the certificate from files.
+
+Exit status:
+  0  budgets, sources and claims hold
+  1  one of them fails, or the certificate is refused
+  2  a text that can't be read, or a wrong command line
+  3  a file, a device or memory was not to be had";
+
+/// Behind the options of `bench`.
+pub(crate) const AFTER_BENCH: &str = "Example: dc429 bench tables.toml certificate.json --ticks 100
+
+A file named - is standard input, which only one of the two can be; one of that name is ./-
+
+Exit status:
+  0  the claims hold
+  1  one of them fails, or the certificate is refused
+  2  a text that can't be read, or a wrong command line
+  3  a file, a device, memory or a thread was not to be had";
+
+/// Behind the options of `explain`.
+pub(crate) const AFTER_EXPLAIN: &str = "Example: dc429 explain C06
+
+Nothing is read.
+
+Exit status:
+  0  told
+  2  a wrong command line
+  3  a device or memory was not to be had";

@@ -1,0 +1,78 @@
+//! Which orders would read standard input twice.
+ghost use Rattle.std.specs.Prelude.{IfOk};
+ghost use Rattle.dc_command.specs.Inputs.{AreNotBothInput, HasOneInput, IsNotInput};
+
+use crate::asked::Order;
+
+/// How standard input is named as a file.
+const STANDARD_INPUT: &str = "-";
+
+const BOTH: &str = "standard input can be one of the two files, not both";
+
+const REPLAYED: &str = "replay reads its trace from standard input: name its tables by a file";
+
+const AUDITED: &str =
+    "audit reads its trace from standard input: name its tables and its certificate by files";
+
+/// Refuses standard input as a file, in these words.
+fn refuse_input(path: &str, words: &'static str) -> Result<(), &'static str>
+    ensures { IfOk result (λ _. IsNotInput path.now) }
+{
+    if path == STANDARD_INPUT {
+        Err(words)
+    } else {
+        Ok(())
+    }
+}
+
+/// Refuses standard input as both files of a command.
+fn refuse_both(tables: &str, certificate: &str) -> Result<(), &'static str>
+    ensures { IfOk result (λ _. AreNotBothInput tables.now certificate.now) }
+{
+    if tables == STANDARD_INPUT {
+        refuse_input(certificate, BOTH)
+    } else {
+        Ok(())
+    }
+}
+
+/// Refuses an order that would read standard input twice.
+pub(crate) fn refuse_second_input(order: &Order<'_>) -> Result<(), &'static str>
+    ensures { IfOk result (λ _. HasOneInput order.now) }
+{
+    match *order {
+        Order::Decode(_) | Order::Find { .. } | Order::Explain { .. } => Ok(()),
+        Order::Check {
+            tables,
+            certificate,
+            ..
+        } => refuse_both(tables, certificate),
+        Order::Report {
+            tables,
+            certificate,
+        } => match certificate {
+            Some(certificate) => refuse_both(tables, certificate),
+            None => Ok(()),
+        },
+        Order::Margins {
+            tables,
+            certificate,
+        } => match certificate {
+            Some(certificate) => refuse_both(tables, certificate),
+            None => Ok(()),
+        },
+        Order::Replay { tables, .. } => refuse_input(tables, REPLAYED),
+        Order::Audit {
+            tables,
+            certificate,
+        } => {
+            refuse_input(tables, AUDITED)?;
+            refuse_input(certificate, AUDITED)
+        }
+        Order::Bench {
+            tables,
+            certificate,
+            ..
+        } => refuse_both(tables, certificate),
+    }
+}
