@@ -2,7 +2,15 @@
 use crate::output::Answer;
 use crate::plain::explain_plainly;
 use crate::ran::Ran;
+use dc_build::read_tables;
+use dc_cert::{Certificate, read_cert};
 use dc_codes::Kind;
+use dc_command::Order;
+use dc_explain_certificate::explain_certificate;
+use dc_explain_tables::explain_tables;
+use dc_explain_verdict::{Files, explain_find, explain_verdict};
+use dc_tables::Tables;
+use dc_tell::File;
 use std::alloc::{AllocError, Global};
 
 /// Explains tables or a certificate that can't be read.
@@ -11,10 +19,46 @@ use std::alloc::{AllocError, Global};
 /// Where memory is refused.
 pub fn explain_unread(
     alloc: Global,
-    _ran: &Ran<'_>,
+    ran: &Ran<'_>,
     answer: Answer<'_>,
 ) -> Result<Option<String>, AllocError> {
-    explain_plainly(alloc, Kind::Table, answer.code)
+    let (tables, certificate) = ran.names();
+    if answer.code.starts_with('K') {
+        let text = ran.second.text.as_slice();
+        let name = certificate;
+        return match explain_certificate(alloc, File { name, text })? {
+            Some(told) => Ok(Some(told)),
+            None => explain_plainly(alloc, Kind::Certificate, answer.code),
+        };
+    }
+    let text = ran.first.text.as_slice();
+    let name = tables;
+    match explain_tables(alloc, File { name, text })? {
+        Some(told) => Ok(Some(told)),
+        None => explain_plainly(alloc, Kind::Table, answer.code),
+    }
+}
+
+/// The certificate that was judged.
+fn certificate_of(alloc: Global, ran: &Ran<'_>) -> Option<Certificate> {
+    read_cert(alloc, ran.second.text.as_slice()).ok()
+}
+
+/// Explains why the certificate that was handed in was refused.
+fn explain_given(
+    alloc: Global,
+    ran: &Ran<'_>,
+    tables: &Tables,
+) -> Result<Option<String>, AllocError> {
+    let Some(certificate) = certificate_of(alloc, ran) else {
+        return Ok(None);
+    };
+    let (first, second) = ran.names();
+    let files = Files {
+        tables: first,
+        certificate: Some(second),
+    };
+    explain_verdict(alloc, tables, &certificate, files)
 }
 
 /// Explains a certificate that was refused, or tables that have none.
@@ -23,8 +67,23 @@ pub fn explain_unread(
 /// Where memory is refused.
 pub fn explain_refused(
     alloc: Global,
-    _ran: &Ran<'_>,
+    ran: &Ran<'_>,
     answer: Answer<'_>,
 ) -> Result<Option<String>, AllocError> {
-    explain_plainly(alloc, Kind::Condition, answer.code)
+    let Ok(tables) = read_tables(alloc, ran.first.text.as_slice()) else {
+        return explain_plainly(alloc, Kind::Condition, answer.code);
+    };
+    match ran.order {
+        Order::Find { .. }
+        | Order::Report {
+            certificate: None, ..
+        }
+        | Order::Margins {
+            certificate: None, ..
+        } => {
+            let (name, _) = ran.names();
+            explain_find(alloc, &tables, name)
+        }
+        _ => explain_given(alloc, ran, &tables),
+    }
 }
