@@ -1,5 +1,5 @@
 //! Which orders would read standard input twice.
-ghost use Rattle.std.specs.Prelude.{IfOk};
+ghost use Rattle.std.specs.Prelude.{◌≡◌, codes, MatchResult};
 ghost use Rattle.dc_command.specs.Inputs.{AreNotBothInput, HasOneInput, IsNotInput};
 
 use crate::asked::Order;
@@ -16,7 +16,7 @@ const AUDITED: &str =
 
 /// Refuses standard input as a file, in these words.
 fn refuse_input(path: &str, words: &'static str) -> Result<(), &'static str>
-    ensures { IfOk result (λ _. IsNotInput path.now) }
+    ensures { MatchResult result (λ _. IsNotInput path.now) (λ _. path.now ≡ codes "-") }
 {
     if path == STANDARD_INPUT {
         Err(words)
@@ -27,7 +27,7 @@ fn refuse_input(path: &str, words: &'static str) -> Result<(), &'static str>
 
 /// Refuses standard input as both files of a command.
 fn refuse_both(tables: &str, certificate: &str) -> Result<(), &'static str>
-    ensures { IfOk result (λ _. AreNotBothInput tables.now certificate.now) }
+    ensures { MatchResult result (λ _. AreNotBothInput tables.now certificate.now) (λ _. (tables.now ≡ codes "-") × (certificate.now ≡ codes "-")) }
 {
     if tables == STANDARD_INPUT {
         refuse_input(certificate, BOTH)
@@ -38,7 +38,7 @@ fn refuse_both(tables: &str, certificate: &str) -> Result<(), &'static str>
 
 /// Refuses an order that would read standard input twice.
 pub(crate) fn refuse_second_input(order: &Order<'_>) -> Result<(), &'static str>
-    ensures { IfOk result (λ _. HasOneInput order.now) }
+    ensures { MatchResult result (λ _. HasOneInput order.now) (λ _. HasOneInput order.now → ⊥) }
 {
     match *order {
         Order::Decode(_) | Order::Find { .. } | Order::Explain { .. } => Ok(()),
