@@ -51,8 +51,9 @@ try-explained:
 # The built program on the rows of rows/ whose file or name has a word, as make rows ONLY=replay; with no word on all. No proof.
 # With QUICK=1 the program is not wanted: those that differ by their standard input alone run with no proof, by one build for each
 # such group.
+# With EXPLAIN=always or never each is run with --explain too, which may change neither what it prints nor its status.
 rows:
-	@RT=$(RT) scripts/rows $(if $(ONLY),--only '$(ONLY)') $(if $(QUICK),--quick)
+	@RT=$(RT) scripts/rows $(if $(ONLY),--only '$(ONLY)') $(if $(EXPLAIN),--explain '$(EXPLAIN)') $(if $(QUICK),--quick)
 
 # The edits outside the gate whose line of edits/tried.tsv is not fresh, of one crate or of all: the prover must refuse each.
 edits:
