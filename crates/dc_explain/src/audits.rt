@@ -30,6 +30,9 @@ fn tell_source(out: &mut String, line: Line<'_>, tables: &Tables) -> Result<bool
     let Some(stream) = tables.stream_of(bus, word) else {
         return Ok(false);
     };
+    if bus >= tables.bus_count() {
+        return Ok(false);
+    }
     let row = tables.stream(stream);
     let least = Several(u64::from(row.minimum), "tick", "ticks");
     let jitter = Several(u64::from(row.jitter), "tick", "ticks");

@@ -76,10 +76,12 @@ pub fn explain_refused(
     match ran.order {
         Order::Find { .. }
         | Order::Report {
-            certificate: None, ..
+            certificate: None,
+            ..
         }
         | Order::Margins {
-            certificate: None, ..
+            certificate: None,
+            ..
         } => {
             let (name, _) = ran.names();
             explain_find(alloc, &tables, name)

@@ -23,18 +23,31 @@ fn is_failing(line: &str) -> bool {
     line.contains(" fail at ") || line.contains(" fails at ")
 }
 
+/// The last line of a text.
+fn last_line(text: &str) -> &str {
+    let whole = text.trim_end_matches('\n');
+    match whole.rsplit_once('\n') {
+        Some((_, line)) => line,
+        None => whole,
+    }
+}
+
+/// Bytes of UTF-8 from the first that begins a letter on: those before it end one that was cut.
+fn whole_letters(bytes: &[u8]) -> &[u8] {
+    let from = bytes.iter().position(|byte| *byte & 0xC0 != 0x80);
+    bytes.get(from.unwrap_or(0)..).unwrap_or(b"")
+}
+
 /// The line that says what ended a run, of the last lines that it wrote: the first one that tells of a failing, where
 /// one does, else the last.
 pub fn answer_of(output: &[u8]) -> Option<Answer<'_>> {
-    let text = str::from_utf8(output).ok()?;
-    let mut last = "";
+    let text = str::from_utf8(whole_letters(output)).ok()?;
     for line in text.lines() {
         if is_failing(line) {
             return Some(answer_in(line));
         }
-        last = line;
     }
-    Some(answer_in(last))
+    Some(answer_in(last_line(text)))
 }
 
 impl<'a> Answer<'a> {

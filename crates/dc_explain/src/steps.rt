@@ -39,6 +39,9 @@ fn tell_early(
     let Some(output) = tables.output_named(name) else {
         return Ok(());
     };
+    if output >= tables.output_count() {
+        return Ok(());
+    }
     let gap = Several(u64::from(tables.output(output).gap), "tick", "ticks");
     let name = name.as_str();
     let tick = line.tick;
