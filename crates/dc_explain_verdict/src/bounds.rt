@@ -1,0 +1,122 @@
+//! The numbers of a queue by its bounds.
+
+use dc_bound::{ArrivalBound, LONGEST_SPAN, ServiceBound};
+use dc_busy::{LONGEST_WINDOW, closes, least_window};
+use dc_find::Queue;
+use dc_margin::{Peaks, peaks_of};
+use dc_tables::Tables;
+
+/// What may have come by some tick, and what has surely been served by then.
+#[derive(Clone, Copy)]
+pub(crate) struct Counts {
+    /// The most that may have come.
+    pub(crate) come: u64,
+    /// The least that has been served.
+    pub(crate) served: u64,
+}
+
+/// A window that closes, and the most that may wait in it and how long.
+#[derive(Clone, Copy)]
+pub(crate) struct Closing {
+    /// Its ticks, 1 to [`LONGEST_WINDOW`].
+    pub(crate) window: u32,
+    /// Its peaks.
+    pub(crate) peaks: Peaks,
+}
+
+/// The most that may come in so many ticks, and the least that is served in so many.
+fn counted<A: ArrivalBound, S: ServiceBound>(
+    arrivals: &A,
+    service: &S,
+    ticks: u32,
+    served: u32,
+) -> Counts {
+    Counts {
+        come: arrivals.at_most(ticks.min(LONGEST_SPAN)),
+        served: service.at_least(served.min(LONGEST_SPAN)),
+    }
+}
+
+/// The same of a queue of the tables.
+pub(crate) fn counts_of(tables: &Tables, queue: Queue, ticks: u32, served: u32) -> Counts {
+    let none = Counts { come: 0, served: 0 };
+    match queue {
+        Queue::Input(bus) => {
+            if bus >= tables.bus_count() {
+                return none;
+            }
+            counted(
+                &tables.bus_bound(bus),
+                &tables.bus_service(bus),
+                ticks,
+                served,
+            )
+        }
+        Queue::Output(output) => {
+            if output >= tables.output_count() {
+                return none;
+            }
+            counted(
+                &tables.output_bound(output),
+                &tables.output_service(output),
+                ticks,
+                served,
+            )
+        }
+    }
+}
+
+/// This window where it closes, or the least that does where none is named.
+pub(crate) fn closed_by<A: ArrivalBound, S: ServiceBound>(
+    arrivals: &A,
+    service: &S,
+    claimed: Option<u32>,
+) -> Option<Closing> {
+    let found = match claimed {
+        None => least_window(arrivals, service),
+        Some(window) => Some(window),
+    };
+    let Some(window) = found else {
+        return None;
+    };
+    if window < 1 || window > LONGEST_WINDOW {
+        return None;
+    }
+    if !closes(arrivals, service, window) {
+        return None;
+    }
+    Some(Closing {
+        window,
+        peaks: peaks_of(arrivals, service, window),
+    })
+}
+
+/// The same of a queue of the tables.
+pub(crate) fn closing_of(tables: &Tables, queue: Queue, claimed: Option<u32>) -> Option<Closing> {
+    match queue {
+        Queue::Input(bus) => {
+            if bus >= tables.bus_count() {
+                return None;
+            }
+            closed_by(&tables.bus_bound(bus), &tables.bus_service(bus), claimed)
+        }
+        Queue::Output(output) => {
+            if output >= tables.output_count() {
+                return None;
+            }
+            closed_by(
+                &tables.output_bound(output),
+                &tables.output_service(output),
+                claimed,
+            )
+        }
+    }
+}
+
+/// The least delay of a queue in the least window that closes; `None` where none does.
+pub(crate) fn least_delay_of(tables: &Tables, queue: Queue) -> Option<u64> {
+    match closing_of(tables, queue, None) {
+        None => None,
+        Some(closing) => Some(closing.peaks.delay.height),
+    }
+}

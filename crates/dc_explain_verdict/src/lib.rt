@@ -1,0 +1,19 @@
+//! Why a certificate is refused, and why none is found, as it is told to who wrote them. No program reads it, and no
+//! clause speaks of it but that it ends and is safe.
+#![tactic(auto)]
+
+mod ages;
+mod bounds;
+mod gaps;
+mod labels;
+mod misnamed;
+mod obstacles;
+mod phrases;
+mod refused;
+mod servers;
+mod steps;
+mod waits;
+mod ways;
+
+pub use obstacles::explain_find;
+pub use refused::{Files, explain_verdict};
