@@ -86,6 +86,27 @@ fn add_limit_ways(out: &mut String, tables: &Tables, own: &Aging) -> Result<(), 
     }
 }
 
+/// Names the file in which to mend an age: the certificate where its bus may be quick enough, else the tables.
+fn name_mended(
+    out: &mut String,
+    tables: &Tables,
+    own: &Aging,
+    files: &Named<'_>,
+) -> Result<(), AllocError> {
+    match own.limit.checked_sub(own.stale) {
+        Some(most) if may_wait(tables, &own.slowest, most) => name_file(out, files.certificate),
+        _ => name_file(out, files.tables),
+    }
+}
+
+/// Adds what the age of the certificate has to be then.
+fn add_age_then(out: &mut String) -> Result<(), AllocError> {
+    note(out)?;
+    out.push_str(
+        "the `age` of the certificate is then at least `stale` and the delay together, and at most the `age` of the tables\n",
+    )
+}
+
 /// C10: a word may be copied that is older than the age.
 pub(crate) fn tell_age(
     out: &mut String,
@@ -100,13 +121,14 @@ pub(crate) fn tell_age(
     add_oldest(out, own)?;
     write!(out, "; the certificate has an age of {age}")?;
     if least > limit {
-        name_file(out, files.tables)?;
+        name_mended(out, tables, own, files)?;
         note(out)?;
         write!(
             out,
             "the tables allow an age of {limit} (`age`), less than that\n"
         )?;
-        return add_limit_ways(out, tables, own);
+        add_limit_ways(out, tables, own)?;
+        return add_age_then(out);
     }
     name_file(out, files.certificate)?;
     let enough = Range(least, limit);
@@ -129,17 +151,13 @@ pub(crate) fn tell_limit(
         out,
         "the certificate lets its words be {age} old, and the tables {limit} (`age`)"
     )?;
-    let mended = if least <= limit {
-        files.certificate
-    } else {
-        files.tables
-    };
-    name_file(out, mended)?;
+    name_mended(out, tables, own, files)?;
     note(out)?;
     add_oldest(out, own)?;
     out.push_str("\n")?;
     if least > limit {
-        return add_limit_ways(out, tables, own);
+        add_limit_ways(out, tables, own)?;
+        return add_age_then(out);
     }
     let enough = Range(least, limit);
     begin_way(out)?;

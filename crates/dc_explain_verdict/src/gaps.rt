@@ -54,6 +54,25 @@ fn name_mended(
     }
 }
 
+/// Adds how far its entries would have to lie apart, for it to be sent neither too soon nor too late.
+fn add_gaps(out: &mut String, own: &Sending) -> Result<(), AllocError> {
+    let least = own.minimum.saturating_add(own.delay);
+    let most = own.maximum.saturating_sub(own.delay);
+    if least > most {
+        note(out)?;
+        return write!(
+            out,
+            "no other `offsets` are enough: its entries would have to lie at least {least} ticks apart, and at most {most}\n"
+        );
+    }
+    let enough = Range(least, most);
+    begin_way(out)?;
+    write!(
+        out,
+        "place its entries {enough} ticks apart (`offsets`, and `frame` of the output)\n"
+    )
+}
+
 /// C08: two words of the label may follow one another too soon.
 pub(crate) fn tell_soon(
     out: &mut String,
@@ -93,12 +112,7 @@ fn add_soon_ways(
     if let Some(most) = most {
         add_shorter_delay(out, tables, own, most)?;
     }
-    let apart = ticks_of(own.minimum.saturating_add(own.delay));
-    begin_way(out)?;
-    write!(
-        out,
-        "place its entries at least {apart} apart (`offsets`, and `frame` of the output)\n"
-    )?;
+    add_gaps(out, own)?;
     let left = own.least_gap.saturating_sub(own.delay).saturating_sub(1);
     if left == 0 {
         return Ok(());
@@ -150,15 +164,7 @@ fn add_late_ways(
     if let Some(most) = most {
         add_shorter_delay(out, tables, own, most)?;
     }
-    let left = own.maximum.saturating_sub(own.delay);
-    if left > 0 {
-        let apart = ticks_of(left);
-        begin_way(out)?;
-        write!(
-            out,
-            "place its entries at most {apart} apart (more `offsets`, or a shorter `frame` of the output)\n"
-        )?;
-    }
+    add_gaps(out, own)?;
     let apart = own.greatest_gap.saturating_add(own.delay);
     let least_us = apart.saturating_add(1).saturating_mul(own.tick_us);
     if least_us > u64::from(LONGEST_INTERVAL_US) {
