@@ -6,7 +6,7 @@ use crate::phrases::{Range, begin_label, ticks_of};
 use crate::servers::server_of;
 use crate::steps::{ANY_WINDOW, Wish};
 use crate::waits::Named;
-use crate::ways::{add_steps, begin_way};
+use crate::ways::{add_steps, begin_way, is_helped};
 use dc_check::Condition;
 use dc_document::LONGEST_INTERVAL_US;
 use dc_find::Queue;
@@ -54,22 +54,28 @@ fn name_mended(
     }
 }
 
-/// Adds how far its entries would have to lie apart, for it to be sent neither too soon nor too late.
+/// Adds how far its entries would have to lie apart, for it to be sent neither too soon nor too late; that no distance
+/// is enough only where nothing that helps was told.
 fn add_gaps(out: &mut String, own: &Sending) -> Result<(), AllocError> {
     let least = own.minimum.saturating_add(own.delay);
     let most = own.maximum.saturating_sub(own.delay);
-    if least > most {
-        note(out)?;
+    if least <= most {
+        let enough = Range(least, most);
+        begin_way(out)?;
         return write!(
             out,
-            "no other `offsets` are enough: its entries would have to lie at least {least} ticks apart, and at most {most}\n"
+            "place its entries {enough} ticks apart (`offsets`, and `frame` of the output)\n"
         );
     }
-    let enough = Range(least, most);
-    begin_way(out)?;
+    if is_helped(out.as_str()) {
+        return Ok(());
+    }
+    let delay = ticks_of(own.delay);
+    let output = own.output_name.as_str();
+    note(out)?;
     write!(
         out,
-        "place its entries {enough} ticks apart (`offsets`, and `frame` of the output)\n"
+        "no `offsets` are enough where output `{output}` may be {delay} late: entries would have to lie at least {least} apart, and at most {most}\n"
     )
 }
 

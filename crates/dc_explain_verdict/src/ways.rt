@@ -12,7 +12,7 @@ use std::alloc::AllocError;
 const HELP: &str = "= help: ";
 
 /// Whether something that helps was told.
-fn is_helped(out: &str) -> bool {
+pub(crate) fn is_helped(out: &str) -> bool {
     out.contains(HELP)
 }
 
