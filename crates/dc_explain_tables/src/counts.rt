@@ -79,7 +79,7 @@ fn tell_list(
     }
     refused.locate_at(out, refused.row, name)?;
     help(out)?;
-    write!(out, "`{name}` is ")?;
+    write!(out, "write `{name}` as ")?;
     tell_wanted(out, wanted_at(refused.fault.section, name))?;
     out.push_str("\n")
 }
@@ -91,12 +91,12 @@ fn tell_total(
     what: &str,
     count: u64,
 ) -> Result<(), AllocError> {
-    write!(out, "with ")?;
-    refused.name(out, refused.row)?;
     write!(
         out,
-        " there are too many {what}: {count}, where {MOST_IN_ALL} are the most"
+        "there are {count} {what}, where {MOST_IN_ALL} are the most: "
     )?;
+    refused.name(out, refused.row)?;
+    out.push_str(" passes that")?;
     refused.locate_row(out)?;
     help(out)?;
     out.push_str("split the tables: two concentrators, each with tables of its own\n")
@@ -114,7 +114,7 @@ fn tell_totals(out: &mut String, refused: Refused<'_>) -> Result<bool, AllocErro
     }
     let offsets = refused.offsets_in(refused.row)?;
     if offsets > MOST_IN_ALL {
-        return told(tell_total(out, refused, "offsets of its labels together", offsets));
+        return told(tell_total(out, refused, "offsets of one output", offsets));
     }
     Ok(false)
 }

@@ -97,7 +97,7 @@ fn tell_member(
 /// Writes what is wanted at a key.
 fn tell_help(out: &mut String, wanted: Wanted, name: &str) -> Result<(), AllocError> {
     help(out)?;
-    write!(out, "`{name}` is ")?;
+    write!(out, "write `{name}` as ")?;
     tell_wanted(out, wanted)?;
     if matches!(wanted, Wanted::Names(_, _)) {
         out.push_str("; a name is 1 to 16 of A-Z a-z 0-9 _ -")?;

@@ -50,7 +50,7 @@ pub fn tell_quick(out: &mut String, refused: Refused<'_>) -> Result<bool, AllocE
     if least < SHORTEST {
         return told(write!(
             out,
-            "a `min_us` of {tick} or more in this parameter (no tick is shorter than {SHORTEST} microseconds)\n"
+            "write a `min_us` of {tick} or more in this parameter (no tick is shorter than {SHORTEST} microseconds)\n"
         ));
     }
     told(write!(

@@ -31,7 +31,7 @@ pub fn tell_router(out: &mut String, refused: Refused<'_>) -> Result<bool, Alloc
     )?;
     refused.locate_at(out, refused.row, "steps")?;
     help(out)?;
-    write!(out, "`steps` of {room} or less")?;
+    write!(out, "write `steps` of {room} or less")?;
     let (more, longer) = (parts(steps, within), parts(steps, most));
     if more <= MOST {
         write!(out, ", or a `most` of {more} or more")?;
@@ -59,9 +59,9 @@ fn tell_paces(out: &mut String, refused: Refused<'_>, gap: u64) -> Result<(), Al
     let longer = steps.saturating_mul(gap);
     let fewer = times(within, gap);
     help(out)?;
-    let mut lead = "";
+    let mut lead = "write ";
     if fewer >= 1 {
-        write!(out, "`steps` of {fewer} or less")?;
+        write!(out, "{lead}`steps` of {fewer} or less")?;
         lead = ", or ";
     }
     if longer <= MOST {

@@ -172,7 +172,7 @@ pub fn tell_absent(out: &mut String, refused: Refused<'_>) -> Result<bool, Alloc
     write!(out, " has no key `{name}`")?;
     refused.locate_row(out)?;
     help(out)?;
-    write!(out, "add `{name}`: ")?;
+    write!(out, "add `{name}`, ")?;
     tell_wanted(out, wanted_at(section, name))?;
     out.push_str("\n")?;
     if section == Section::Top {

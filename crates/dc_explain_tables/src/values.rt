@@ -203,7 +203,7 @@ pub fn tell_wanted(out: &mut String, wanted: Wanted) -> Result<(), AllocError> {
             out,
             "a whole number from {least} to {most} ({unit}), without quotes"
         ),
-        Wanted::Text(spelling) => write!(out, "in quotes, {spelling}"),
+        Wanted::Text(spelling) => write!(out, "a text in quotes: {spelling}"),
         Wanted::Sdi => out.push_str("a whole number from 0 to 3, or \"any\" in quotes"),
         Wanted::Truth => out.push_str("true or false, without quotes"),
         Wanted::Names(most, what) => write!(

@@ -122,7 +122,7 @@ pub fn tell_offset(out: &mut String, refused: Refused<'_>) -> Result<bool, Alloc
         help(out)?;
         return told(write!(
             out,
-            "an offset of 0 to {last}, or a `frame` of {longer} or more (up to 100000)\n"
+            "write an offset of 0 to {last}, or a `frame` of {longer} or more (up to 100000)\n"
         ));
     }
     Ok(false)
