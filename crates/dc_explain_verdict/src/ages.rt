@@ -242,7 +242,7 @@ fn add_stale_ways(
     }
     add_longer_stale(out, own)?;
     let left = own.stale.saturating_sub(own.rarest.delay);
-    if left == 0 {
+    if left < own.rarest.minimum {
         return Ok(());
     }
     let most_us = left.saturating_mul(own.tick_us);

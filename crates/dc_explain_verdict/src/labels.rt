@@ -16,6 +16,8 @@ pub(crate) struct Source {
     pub(crate) bus_name: Name,
     /// The delay that the certificate claims of its bus, in ticks.
     pub(crate) delay: u64,
+    /// The shortest interval between two of its words, in ticks.
+    pub(crate) minimum: u64,
     /// The longest interval between two of its words, in ticks.
     pub(crate) maximum: u64,
 }
@@ -71,12 +73,14 @@ fn source_of(tables: &Tables, certificate: &Certificate, stream: usize) -> Optio
     let Some(row) = certificate.inputs.get(bus) else {
         return None;
     };
+    let own = tables.stream(stream);
     Some(Source {
         name: *tables.stream_name(stream),
         bus,
         bus_name: *tables.bus_name(bus),
         delay: u64::from(row.delay),
-        maximum: u64::from(tables.stream(stream).maximum),
+        minimum: u64::from(own.minimum),
+        maximum: u64::from(own.maximum),
     })
 }
 
