@@ -1,9 +1,27 @@
 //! Events that may not follow those before them.
 use crate::lines::Line;
 use dc_document::Name;
-use dc_tables::Tables;
+use dc_tables::{Output, Router, Tables};
 use dc_tell::{Several, help, words};
 use std::alloc::AllocError;
+
+/// The router of this name, where the tables have one.
+fn router_of<'t>(tables: &'t Tables, name: &Name) -> Option<&'t Router> {
+    let router = tables.router_named(name)?;
+    if router >= tables.router_count() {
+        return None;
+    }
+    Some(tables.router(router))
+}
+
+/// The output of this name, where the tables have one.
+fn output_of<'t>(tables: &'t Tables, name: &Name) -> Option<&'t Output> {
+    let output = tables.output_named(name)?;
+    if output >= tables.output_count() {
+        return None;
+    }
+    Some(tables.output(output))
+}
 
 /// Tells of a router that made too many steps in a tick.
 fn tell_spent(
@@ -12,10 +30,10 @@ fn tell_spent(
     tables: &Tables,
     name: &Name,
 ) -> Result<(), AllocError> {
-    let Some(router) = tables.router_named(name) else {
+    let Some(router) = router_of(tables, name) else {
         return Ok(());
     };
-    let most = Several(u64::from(tables.router(router).most), "step", "steps");
+    let most = Several(u64::from(router.most), "step", "steps");
     let name = name.as_str();
     let tick = line.tick;
     write!(
@@ -36,13 +54,10 @@ fn tell_early(
     tables: &Tables,
     name: &Name,
 ) -> Result<(), AllocError> {
-    let Some(output) = tables.output_named(name) else {
+    let Some(output) = output_of(tables, name) else {
         return Ok(());
     };
-    if output >= tables.output_count() {
-        return Ok(());
-    }
-    let gap = Several(u64::from(tables.output(output).gap), "tick", "ticks");
+    let gap = Several(u64::from(output.gap), "tick", "ticks");
     let name = name.as_str();
     let tick = line.tick;
     write!(
@@ -82,8 +97,7 @@ fn tell_owed(
     name: &Name,
 ) -> Result<(), AllocError> {
     let text = name.as_str();
-    if let Some(router) = tables.router_named(name) {
-        let row = tables.router(router);
+    if let Some(row) = router_of(tables, name) {
         let steps = Several(u64::from(row.steps), "step", "steps");
         tell_owed_by(out, line, "the router", steps, row.within)?;
         help(out)?;
@@ -92,8 +106,7 @@ fn tell_owed(
             "put lines `R {text}` before this `T`, or write smaller `steps` or a greater `within` of router `{text}` in the tables\n"
         );
     }
-    if let Some(output) = tables.output_named(name) {
-        let row = tables.output(output);
+    if let Some(row) = output_of(tables, name) {
         let steps = Several(u64::from(row.steps), "send", "sends");
         tell_owed_by(out, line, "the output", steps, row.within)?;
         help(out)?;
