@@ -67,31 +67,32 @@ fn end_unasked<R: Print + Eprint>(rt: &R, error: clap::Error) -> Result<Exit, Fa
     }
 }
 
-/// Carries out what words ask, over real files and devices, and keeps notes of it; with what was asked, where its end is
-/// to be explained.
-fn carry<'a, R: AllocGlobal + Files<File = fs::File> + Input + Print + Threads + Wait + Sync>(
-    rt: &'a R,
-    words: &'a [String],
-    notes: &Notes,
-    is_seen: bool,
-) -> Result<(Exit, Option<Order<'a>>), clap::Error> {
+/// Explains on standard error how a run ended, where there is something to say and memory and the device allow it.
+fn explain<R: AllocGlobal + Eprint>(rt: &R, order: Order<'_>, exit: Exit, notes: &Notes) {
+    if let Ok(Some(text)) = explain_end(rt.alloc(), order, exit, notes) {
+        let _ = eprint!(rt; "{text}");
+    }
+}
+
+/// Carries out what words ask, over real files and devices, and keeps notes of it, by which the end is explained where
+/// that is asked.
+fn carry<
+    'a,
+    R: AllocGlobal + Files<File = fs::File> + Input + Print + Eprint + Threads + Wait + Sync,
+>(rt: &'a R, words: &'a [String], notes: &'a Notes, is_seen: bool) -> Result<Exit, clap::Error> {
     let threads = Started(rt);
     let alloc = rt.alloc();
     let mut world = Disk::new(rt, notes, is_seen);
     let mut input = ReadSource::new(Noted::new(rt.reader(), alloc, &notes.input));
     let mut sink = WriteSink::new(Written::new(io::writer(rt), alloc, &notes.output));
     let exit = run_words(alloc, &threads, words, &mut world, &mut input, &mut sink)?;
-    Ok((exit, world.explained()))
-}
-
-/// Explains on standard error how a run ended, where there is something to say and memory and the device allow it.
-fn explain<R: AllocGlobal + Eprint>(rt: &R, order: Order<'_>, exit: Exit, notes: Notes) {
-    if let Ok(Some(text)) = explain_end(rt.alloc(), order, exit, notes) {
-        let _ = eprint!(rt; "{text}");
+    if let Some(order) = world.explained() {
+        explain(rt, order, exit, notes);
     }
+    Ok(exit)
 }
 
-/// Reads the command line and carries it out, or shows clap's text; explains the end where who runs the program sees
+/// Reads the command line and carries it out, or shows clap's text; the end is explained where who runs the program sees
 /// standard error, or asks for it.
 fn run<
     R: AllocGlobal + Env + Files<File = fs::File> + Input + Print + Eprint + Threads + Wait + Sync,
@@ -103,11 +104,7 @@ fn run<
     let asked = words.as_slice();
     let notes = Notes::new(rt.alloc());
     match carry(rt, asked, &notes, is_seen) {
-        Ok((exit, Some(order))) => {
-            explain(rt, order, exit, notes);
-            Ok(exit)
-        }
-        Ok((exit, None)) => Ok(exit),
+        Ok(exit) => Ok(exit),
         Err(error) => end_unasked(rt, error),
     }
 }

@@ -139,18 +139,12 @@ pub fn explain_end(
     alloc: Global,
     order: Order<'_>,
     exit: Exit,
-    notes: Notes,
+    notes: &Notes,
 ) -> Result<Option<String>, AllocError> {
-    let Notes {
-        first,
-        second,
-        input,
-        output,
-    } = notes;
-    let first = first.end()?;
-    let second = second.end()?;
-    let input = input.end()?;
-    let output = output.end()?;
+    let first = notes.first.end(alloc)?;
+    let second = notes.second.end(alloc)?;
+    let input = notes.input.end(alloc)?;
+    let output = notes.output.end(alloc)?;
     let ran = Ran {
         order,
         exit,

@@ -103,24 +103,27 @@ impl Slot {
         self.cause.set(Some(cause));
     }
 
-    /// What was kept.
+    /// What was kept; nothing of it is kept any more.
     ///
     /// # Errors
     /// Where memory is refused.
-    pub fn end(self) -> Result<Kept, AllocError> {
+    pub fn end(&self, alloc: Global) -> Result<Kept, AllocError> {
         let cause = self.cause.get();
-        let Held {
-            earlier,
-            later,
-            before,
-            is_cut,
-        } = self.held.into_inner();
-        let mut text = earlier;
-        text.extend_from_slice(later.as_slice())?;
+        let Ok(mut guard) = self.held.try_borrow_mut() else {
+            return Ok(Kept {
+                text: Vec::new(alloc),
+                before: Passed::new(),
+                is_cut: true,
+                cause,
+            });
+        };
+        let held = &mut *guard;
+        let mut text = mem::replace(&mut held.earlier, Vec::new(alloc));
+        text.extend_from_slice(held.later.as_slice())?;
         Ok(Kept {
             text,
-            before,
-            is_cut,
+            before: held.before,
+            is_cut: held.is_cut,
             cause,
         })
     }
