@@ -15,9 +15,9 @@ use std::rt::Files;
 /// Real files, of which no clause knows what they hold, and standard input in place of one that is named `-`. Notes are
 /// kept of what is read of them where it is asked to explain how a run ended.
 #[derive(Drop)]
-pub struct Disk<'a, 'n, R> {
+pub struct Disk<'a, R> {
     runtime: &'a R,
-    notes: &'n Notes,
+    notes: &'a Notes,
     is_seen: bool,
     explained: Option<Order<'a>>,
     opened: ArrayVec<&'a str, MOST_FILES>,
@@ -28,10 +28,10 @@ pub struct Disk<'a, 'n, R> {
 /// What standard input is called as a file.
 const STANDARD_INPUT: &str = "-";
 
-impl<'a, 'n, R> Disk<'a, 'n, R> {
+impl<'a, R> Disk<'a, R> {
     /// The world of this runtime, which was asked for nothing yet, with notes of it and whether who runs the program sees
     /// what stands on standard error.
-    pub fn new(runtime: &'a R, notes: &'n Notes, is_seen: bool) -> Self
+    pub fn new(runtime: &'a R, notes: &'a Notes, is_seen: bool) -> Self
         ensures opened { result.opened.items ≡ [] }
         ensures refused { result.refused ≡ None }
         ensures crew { result.crew ≡ None }
@@ -65,7 +65,7 @@ fn reason_of(error: io::Error) -> NotOpened
     }
 }
 
-impl<'a, 'n, R: Files<File = File> + Input> Disk<'a, 'n, R> {
+impl<'a, R: Files<File = File> + Input> Disk<'a, R> {
     /// The file of this name, or standard input.
     fn origin(&self, name: &str) -> io::Result<Origin<File, R::Reader>> {
         if name == STANDARD_INPUT {
@@ -76,7 +76,7 @@ impl<'a, 'n, R: Files<File = File> + Input> Disk<'a, 'n, R> {
     }
 
     /// The notes of the file that is opened next.
-    fn slot(&self) -> &'n Slot {
+    fn slot(&self) -> &'a Slot {
         if self.opened.is_empty() {
             &self.notes.first
         } else {
@@ -85,15 +85,15 @@ impl<'a, 'n, R: Files<File = File> + Input> Disk<'a, 'n, R> {
     }
 }
 
-impl<'a, 'n, R: AllocGlobal + Files<File = File> + Input> World<'a> for Disk<'a, 'n, R> {
-    type File = ReadSource<Noted<'n, Origin<File, R::Reader>>>;
+impl<'a, R: AllocGlobal + Files<File = File> + Input> World<'a> for Disk<'a, R> {
+    type File = ReadSource<Noted<'a, Origin<File, R::Reader>>>;
 
     ghost state = { λ w. record { holds = λ name. None; opened = map (λ name. name.now) w.opened.items; refused = w.refused; crew = w.crew } };
 
     fn open(
         &mut self,
         name: &'a str,
-    ) -> Result<ReadSource<Noted<'n, Origin<File, R::Reader>>>, NotOpened> {
+    ) -> Result<ReadSource<Noted<'a, Origin<File, R::Reader>>>, NotOpened> {
         let slot = self.slot();
         self.opened.push(name);
         match self.origin(name) {
