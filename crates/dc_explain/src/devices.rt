@@ -9,7 +9,7 @@ use std::io::{Error, ErrorKind};
 fn mend_of(kind: ErrorKind) -> &'static str {
     match kind {
         ErrorKind::NotFound =>
-            "there is no such file: a path is taken from the folder in which dc429 is run",
+            "see how it is spelled, and in which folder dc429 is run: a path is taken from there",
         ErrorKind::PermissionDenied => "let the file be read by who runs dc429",
         ErrorKind::IsADirectory => "this is a folder: name the file in it",
         ErrorKind::NotADirectory => "a part of the path before its last is a file, and no folder",

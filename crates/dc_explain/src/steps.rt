@@ -76,15 +76,16 @@ fn tell_early(
 fn tell_owed_by(
     out: &mut String,
     line: Line<'_>,
-    actor: &str,
+    named: (&str, &str),
     steps: Several<'_>,
     within: u32,
 ) -> Result<(), AllocError> {
     let within = Several(u64::from(within), "tick", "ticks");
+    let (actor, name) = named;
     let tick = line.tick;
     write!(
         out,
-        "tick {tick} cannot end: {actor} has made fewer than its {steps} in the last {within}, this one included"
+        "tick {tick} cannot end: {actor} `{name}` has made fewer than its {steps} in the last {within}, this one included"
     )?;
     line.show(out, 0)
 }
@@ -99,7 +100,7 @@ fn tell_owed(
     let text = name.as_str();
     if let Some(row) = router_of(tables, name) {
         let steps = Several(u64::from(row.steps), "step", "steps");
-        tell_owed_by(out, line, "the router", steps, row.within)?;
+        tell_owed_by(out, line, ("router", text), steps, row.within)?;
         help(out)?;
         return write!(
             out,
@@ -108,7 +109,7 @@ fn tell_owed(
     }
     if let Some(row) = output_of(tables, name) {
         let steps = Several(u64::from(row.steps), "send", "sends");
-        tell_owed_by(out, line, "the output", steps, row.within)?;
+        tell_owed_by(out, line, ("output", text), steps, row.within)?;
         help(out)?;
         return write!(
             out,

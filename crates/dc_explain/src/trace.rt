@@ -122,15 +122,40 @@ fn tell_name(
     line.show(out, at)?;
     help(out)?;
     let names = names_for(alloc, tables, kind)?;
-    let text = str::from_utf8(name).unwrap_or("");
-    match nearest(alloc, text, names.as_slice())? {
+    tell_names(
+        alloc,
+        out,
+        what,
+        str::from_utf8(name).unwrap_or(""),
+        names.as_slice(),
+    )
+}
+
+/// The name that was meant by a text: the same but for upper and lower case, or the one that is most like it.
+fn meant<'n>(alloc: Global, text: &str, names: &[&'n str]) -> Result<Option<&'n str>, AllocError> {
+    for name in names {
+        if name.eq_ignore_ascii_case(text) {
+            return Ok(Some(*name));
+        }
+    }
+    nearest(alloc, text, names)
+}
+
+/// Tells which name was meant by a text, or which there are.
+fn tell_names(
+    alloc: Global,
+    out: &mut String,
+    what: &str,
+    text: &str,
+    names: &[&str],
+) -> Result<(), AllocError> {
+    match meant(alloc, text, names)? {
         Some(like) => {
             let like = Shown(like);
             write!(out, "there is a {what} `{like}`\n")
         }
         None => {
-            out.push_str("there are: ")?;
-            let names = names.as_slice();
+            write!(out, "of this kind there are: ")?;
             list(out, names.get(..8).unwrap_or(names))?;
             out.push_str("\n")
         }

@@ -24,7 +24,7 @@ fn unseen_in(line: &[u8]) -> Option<Unseen> {
         return Some(Unseen {
             at: line.len().saturating_sub(1),
             what: "ends in a carriage return and a line feed",
-            mend: "lines end in a line feed alone: convert the text by `tr -d '\\r'`",
+            mend: "lines end in a line feed alone: convert them all by `tr -d '\\r' < OLD > NEW`",
         });
     }
     if let Some(at) = line.iter().position(|byte| *byte == b'\t') {
