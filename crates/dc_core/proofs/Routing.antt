@@ -34,7 +34,7 @@ use Rattle.dc_core.specs.Standing.{entered_words, HoldsQueue, word_and_tick, Hol
 use Rattle.dc_event.specs.lemmas.RunPush.{steps-push, ticks-other, ticks-step, moves-push, moves-other, latest-other, ticks_in-moves, entered-declared}
 use Rattle.dc_event.specs.lemmas.BudgetsPush.{calm, keeps-step, rest-same}
 use Rattle.dc_core.proofs.Windows.{window-step}
-use Rattle.dc_core.proofs.Standing.{Changes, router-other, output-other}
+use Rattle.dc_core.proofs.Standing.{Changes, numbers-push, router-other, output-other}
 
 -- ---- the budget
 
@@ -173,6 +173,7 @@ module _ (t : TableRows) (now : ℕ) (buses buses' : ℕ → BusData) (lasts : L
 
   pub standing-route : (lasts' : List (Option (ℕ × ℕ))) → ((s : ℕ) → s < length t.streams → get_or lasts' s None ≡ option_map word_and_tick (latest t s (run ++ Route r ∷ []))) → Standing t now buses' lasts' (set routers r router) outputs (run ++ Route r ∷ [])
   standing-route lasts' words' = record {
+    numbers = numbers-push t run (Route r) h.numbers v.router_there;
     kept = v.keeps;
     clock = h.clock ∙ sym (calm run (Route r) refl);
     queues = queues_after;

@@ -33,7 +33,7 @@ use Rattle.dc_core.specs.Standing.{entered_words, HoldsQueue, word_and_tick, Hol
 use Rattle.dc_event.specs.lemmas.RunPush.{tick-push, steps-push, ticks-other, ticks-step, moves-push, moves-other, latest-other, sent-push, sent-le, sent-other, steps-none_later}
 use Rattle.dc_event.specs.lemmas.BudgetsPush.{calm, keeps-step, rest-same}
 use Rattle.dc_core.proofs.Windows.{last-same, window-step, window-tick}
-use Rattle.dc_core.proofs.Standing.{router-other, output-other}
+use Rattle.dc_core.proofs.Standing.{numbers-push, router-other, output-other}
 
 send_is : (o : ℕ) → send_of o (Send o) ≡ Some o
 send_is o = ap (λ b. cond b (Some o) None) (eq-eqb o o refl)
@@ -131,6 +131,7 @@ module _ (t : TableRows) (now : ℕ) (buses : ℕ → BusData) (lasts : List (Op
 
   pub standing-send : Standing t now buses lasts routers (set outputs o output) (run ++ Send o ∷ [])
   standing-send = record {
+    numbers = numbers-push t run (Send o) h.numbers v.output_there;
     kept = v.keeps;
     clock = h.clock ∙ sym (calm run (Send o) refl);
     queues = λ b l. (let P : List Move → Type 0 = λ ms. HoldsQueue (room t b) (buses b) ms in subst P (sym (moves-other t b run (Send o) refl)) (h.queues b l));
@@ -233,6 +234,7 @@ pub standing-tick : (t : TableRows) (now : ℕ) (buses : ℕ → BusData) (lasts
 unfolding reply
 standing-tick t now buses lasts routers routers' outputs outputs' run v k rs os h = (
   record {
+    numbers = numbers-push t run Tick h.numbers tt;
     kept = k;
     clock = omega (arith, h.clock, tick-push run Tick);
     queues = λ b l. rw (moves-push t b run Tick) (holds-tick (room t b) (buses b) (moves t b run) (h.queues b l));

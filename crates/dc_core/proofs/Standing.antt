@@ -2,6 +2,7 @@
 use Rattle.std.proofs.Common.{◌≡◌, ℕ, ◌+◌, ◌-◌, ◌%◌, ◌^◌, ◌≤◌, ◌<◌, ◌&&◌, ◌==◌, Bool, true, false, cond, Option, Some, None, is_some, option_map, List, [], ◌∷◌, ◌++◌, length, drop, get_or, set, refl, sym, ap, ⊎_elim, ◌∙◌, subst, arith, eq-eqb, length-drop, length-append}
 use Rattle.std.specs.Prelude.{if◌then◌else◌, map}
 use Rattle.std.proofs.lemmas.List.{append-nil, drop-append-le, get_or-set_same, get_or-set_other, length-map, map-append}
+use Rattle.std.proofs.lemmas.List.Elements.{All-append, All-cons, All-nil}
 use Rattle.std.proofs.lemmas.Bool.{cases_Bool, cases_lt, ne_eqb, cases_eq}
 use Rattle.dc_bound.specs.Run.{one_if}
 use Rattle.dc_bound.specs.Moves.{Move, latch, entered, taken, latest_by}
@@ -17,7 +18,7 @@ use Rattle.dc_event.specs.Offers.{refuses_early, let_in}
 use Rattle.dc_event.specs.Buses.{in_of, move_of, moves, room}
 use Rattle.dc_event.specs.Latest.{is_of_stream, latest}
 use Rattle.dc_event.specs.Replies.{reply}
-use Rattle.dc_event.specs.Admissible.{KeepsBudgets, IsNumbered}
+use Rattle.dc_event.specs.Admissible.{IsNumbered, IsRun, KeepsBudgets}
 use Rattle.dc_event.specs.declared.event.Reply.{Reply}
 use Rattle.dc_event.specs.declared.event.Reply.TheVariants.{Queued, Overrun, Latched}
 use Rattle.dc_event.specs.declared.event.Event.{Event}
@@ -131,9 +132,14 @@ words-same t s run more o e h = h ∙ ap (option_map word_and_tick) (sym e)
 queue-same : (t : TableRows) (b : ℕ) (s : BusData) (run more : List Event) → moves t b more ≡ moves t b run → HoldsQueue (room t b) s (moves t b run) → HoldsQueue (room t b) s (moves t b more)
 queue-same t b s run more e h = let P : List Move → Type 0 = λ ms. HoldsQueue (room t b) s ms in subst P (sym e) h
 
+-- a run of these tables with one event more of them
+pub numbers-push : (t : TableRows) (run : List Event) (e : Event) → IsRun t run → IsNumbered t e → IsRun t (run ++ e ∷ [])
+numbers-push t run e numbers there = All-append (IsNumbered t) run (e ∷ []) numbers (All-cons (IsNumbered t) e [] there (All-nil (IsNumbered t)))
+
 pub standing-nothing : (t : TableRows) (now : ℕ) (buses : ℕ → BusData) (lasts : List (Option (ℕ × ℕ))) (routers : List RouterState) (outputs : List OutputState) (run : List Event) (e : Event)
-    → IsNothing t run e → Standing t now buses lasts routers outputs run → Standing t now buses lasts routers outputs (run ++ e ∷ [])
-standing-nothing t now buses lasts routers outputs run e n h = record {
+    → IsNumbered t e → IsNothing t run e → Standing t now buses lasts routers outputs run → Standing t now buses lasts routers outputs (run ++ e ∷ [])
+standing-nothing t now buses lasts routers outputs run e there n h = record {
+  numbers = numbers-push t run e h.numbers there;
   kept = keeps-nothing t run e h.kept n.no_tick n.no_route n.no_send;
   clock = h.clock ∙ sym (calm run e n.no_tick);
   queues = λ b l. queue-same t b _ run (run ++ e ∷ []) (moves-other t b run e (n.no_move b)) (h.queues b l);
@@ -220,6 +226,7 @@ standing-arrive t now buses buses' lasts routers outputs run b w s r new lt ch o
     let more : moves t b (run ++ Arrive w b ∷ []) ≡ moves t b run ++ In (s, w) ∷ [] = moves-push t b run (Arrive w b) ∙ ap (λ m. moves t b run ++ m) (move_here t run b w s odd some free) in
     let same_bus : buses' b ≡ new = ch.here in (
       record {
+        numbers = numbers-push t run (Arrive w b) h.numbers lt;
         kept = keeps-nothing t run (Arrive w b) h.kept refl (λ r. refl) (λ o. refl);
         clock = h.clock ∙ sym (calm run (Arrive w b) refl);
         queues = λ a l. ⊎_elim

@@ -2,6 +2,7 @@
 use Rattle.std.proofs.Common.{◌≡◌, ℕ, ◌+◌, min, Bool, false, ltb, Option, None, option_map, List, [], length, get_or, refl, sym, ap, ◌∙◌, subst, arith}
 use Rattle.std.proofs.lemmas.Bool.{le-ltb}
 use Rattle.std.proofs.Math.Nat.{zero-mod}
+use Rattle.std.proofs.lemmas.List.Elements.{All-nil}
 use Rattle.dc_bound.specs.Window.{count_in}
 use Rattle.dc_bound.specs.Run.{ticks, picks, stamped}
 use Rattle.dc_bound.specs.Places.{served_in, first_place, each_place}
@@ -14,7 +15,7 @@ use Rattle.dc_event.specs.Time.{tick_after}
 use Rattle.dc_event.specs.Buses.{moves, room}
 use Rattle.dc_event.specs.Latest.{latest}
 use Rattle.dc_event.specs.Outputs.{sent, due_by}
-use Rattle.dc_event.specs.Admissible.{KeepsBudgets}
+use Rattle.dc_event.specs.Admissible.{IsNumbered, KeepsBudgets}
 use Rattle.dc_core.specs.declared.states.RouterState.{RouterState}
 use Rattle.dc_core.specs.declared.states.OutputState.{OutputState}
 use Rattle.dc_core.specs.States.{bus_at, no_router, no_output}
@@ -63,6 +64,7 @@ pub standing-new : (t : TableRows) (queues : List QueueData) (latches : List Boo
     → AllMade (fresh_router t) no_router (length t.routers) routers → AllMade (fresh_output t) no_output (length t.outputs) outputs
     → Standing t 0 (bus_at queues latches) lasts routers outputs []
 standing-new t queues latches lasts routers outputs v qs fs ls rs os = record {
+  numbers = All-nil (IsNumbered t);
   kept = keeps-new t v;
   clock = sym zero_ticks;
   queues = λ b l. (let P : QueueData → Type 0 = λ q. HoldsQueue (room t b) (record { queue = q; latched = get_or latches b false }) (moves t b []) in

@@ -8,7 +8,7 @@ use Rattle.dc_event.specs.Time.{tick_after, routes, route_ticks, send_ticks}
 use Rattle.dc_event.specs.Buses.{arrivals, moves, room}
 use Rattle.dc_event.specs.Latest.{latest}
 use Rattle.dc_event.specs.Outputs.{sent}
-use Rattle.dc_event.specs.Admissible.{KeepsBudgets, IsNumbered}
+use Rattle.dc_event.specs.Admissible.{IsNumbered, IsRun, KeepsBudgets}
 use Rattle.dc_event.specs.Works.{IsFirstLacking}
 use Rattle.dc_event.specs.declared.event.Event.{Event}
 use Rattle.dc_event.specs.declared.event.Event.TheVariants.{Tick, Route, Send}
@@ -46,8 +46,9 @@ pub record HoldsOutput (t : TableRows) (o : ℕ) (state : OutputState) (run : Li
   pub last : IsLast state.last (tick_after run) (send_ticks o run)
   pub window : HoldsSteps (output_row t o).within 1 (tick_after run) (send_ticks o run) state.window
 
--- the tick, the buses, the latest words, the routers and the outputs are those of a run that keeps the budgets
+-- the tick, the buses, the latest words, the routers and the outputs are those of a run of these tables that keeps the budgets
 pub record Standing (t : TableRows) (now : ℕ) (buses : ℕ → BusData) (lasts : List (Option (ℕ × ℕ))) (routers : List RouterState) (outputs : List OutputState) (run : List Event) : Type 0 where
+  pub numbers : IsRun t run
   pub kept : KeepsBudgets t run
   pub clock : now ≡ tick_after run
   pub queues : (b : ℕ) → b < length t.buses → HoldsQueue (room t b) (buses b) (moves t b run)

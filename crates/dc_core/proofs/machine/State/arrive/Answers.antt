@@ -15,7 +15,7 @@ pub returns-then-not-is_odd-clause-step : goal.returns-then-not-is_odd-clause-st
 unfolding reply
 returns-then-not-is_odd-clause-step c = λ run h.
     let even : is_odd c.args.word ≡ false = sym c.is_odd.ensures.test ∙ c.if-not-is_odd.true in
-    let s = standing-nothing _ _ _ _ _ _ run _ (arrive_even _ run c.args.bus c.args.word even) h.0 in
+    let s = standing-nothing _ _ _ _ _ _ run _ (omega (arith, c.if-bus-len.false, c.len.ensures, c.requires.sized.queues)) (arrive_even _ run c.args.bus c.args.word even) h.0 in
     let p = paces-other c.args.tables.now c.args.self.now.paces.items run (Arrive c.args.word c.args.bus) (even-none c.args.tables.now run c.args.bus c.args.word even) h.1 in
     (may-follow _ _ run (Arrive c.args.word c.args.bus) (omega (arith, c.if-bus-len.false, c.len.ensures, c.requires.sized.queues)) refl h.0.clock c.requires.sized.early s.kept, (s, p), rw even refl)
 
@@ -24,7 +24,7 @@ unfolding reply
 returns-in_default-clause-step c = λ run h.
     let odd : is_odd c.args.word ≡ true = sym c.is_odd.ensures.test ∙ c.if-not-is_odd.false in
     let none : stream_of c.args.tables.now c.args.bus c.args.word ≡ None = sym c.stream_of.ensures.stream ∙ c.in_default.is in
-    let s = standing-nothing _ _ _ _ _ _ run _ (arrive_undeclared _ run c.args.bus c.args.word none) h.0 in
+    let s = standing-nothing _ _ _ _ _ _ run _ (omega (arith, c.if-bus-len.false, c.len.ensures, c.requires.sized.queues)) (arrive_undeclared _ run c.args.bus c.args.word none) h.0 in
     let p = paces-other c.args.tables.now c.args.self.now.paces.items run (Arrive c.args.word c.args.bus) (undeclared-none c.args.tables.now run c.args.bus c.args.word none) h.1 in
     (may-follow _ _ run (Arrive c.args.word c.args.bus) (omega (arith, c.if-bus-len.false, c.len.ensures, c.requires.sized.queues)) refl h.0.clock c.requires.sized.early s.kept, (s, p), rw (odd, none) refl)
 
@@ -35,7 +35,7 @@ returns-then-refuses_early-clause-step c = λ run h.
     let some : stream_of c.args.tables.now c.args.bus c.args.word ≡ Some c.in-Some.stream = sym c.stream_of.ensures.stream ∙ c.in-Some.is in
     let early : refuses_early c.args.tables.now c.args.bus run (Some c.in-Some.stream) ≡ true =
     sym (refuses_early-is c.args.tables.now c.valid.ensures c.args.self.now.paces.items run c.args.self.now.tick c.args.bus c.args.word c.in-Some.stream h.0.clock odd some h.1) ∙ sym c.refuses_early.ensures.test ∙ c.if-refuses_early.true in
-    let s = standing-nothing _ _ _ _ _ _ run _ (arrive_refused _ run c.args.bus c.args.word c.in-Some.stream some early) h.0 in
+    let s = standing-nothing _ _ _ _ _ _ run _ (omega (arith, c.if-bus-len.false, c.len.ensures, c.requires.sized.queues)) (arrive_refused _ run c.args.bus c.args.word c.in-Some.stream some early) h.0 in
     let p = paces-other c.args.tables.now c.args.self.now.paces.items run (Arrive c.args.word c.args.bus) (refused-none c.args.tables.now run c.args.bus c.args.word c.in-Some.stream odd some early) h.1 in (
       may-follow _ _ run (Arrive c.args.word c.args.bus) (omega (arith, c.if-bus-len.false, c.len.ensures, c.requires.sized.queues)) refl h.0.clock c.requires.sized.early s.kept,
       (s, paces-kept c.args.tables.now c.args.self.now.paces.items c.refuses_early.new.paces.items (run ++ Arrive c.args.word c.args.bus ∷ []) (c.refuses_early.ensures.refused c.if-refuses_early.true) p),
