@@ -48,6 +48,16 @@ QueueBacklog a allows s window backlog =
     (ms : List Move) → allows (entries ms) → Serves s ms →
     (pre post : List Move) → ms ≡ pre ++ post → length (ins pre) - passed pre ≤ backlog
 
+-- from each place on, before so many ticks more have ended, there is a place at which nothing waits
+abbrev pub EmptiesWithin : ℕ → List Move → Type 0
+EmptiesWithin window ms =
+    (pre span post : List Move) → ms ≡ pre ++ (span ++ post) → window ≤ ticks_in span → (x y : List Move) × (span ≡ x ++ y) × (length (ins (pre ++ x)) ≤ passed (pre ++ x))
+
+-- no busy stretch outlasts the window
+abbrev pub QueueEmpties : (a : ℕ → ℕ) (allows : List (ℕ × ℕ) → Type 0) (s : ℕ → ℕ) (window : ℕ) → Type 0
+QueueEmpties a allows s window =
+    Closes a s window → (ms : List Move) → allows (entries ms) → Serves s ms → EmptiesWithin window ms
+
 -- what has come in by a place of tick t has been taken by the end of tick t + delay, where that tick is whole
 abbrev pub QueueDelay : (a : ℕ → ℕ) (allows : List (ℕ × ℕ) → Type 0) (s : ℕ → ℕ) (window delay : ℕ) → Type 0
 QueueDelay a allows s window delay =

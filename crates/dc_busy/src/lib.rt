@@ -7,7 +7,7 @@
 #![tactic(auto)]
 
 ghost use Rattle.std.specs.Prelude.{◌≤◌, ◌↔◌, MatchOption, IsTrue};
-ghost use Rattle.dc_busy.specs.BusyWindow.{Closes, BacklogAt, BacklogBounded, DelayAt, DelayBounded, IsLeastFailing, QueueBacklog, QueueDelay, QueueInTime};
+ghost use Rattle.dc_busy.specs.BusyWindow.{Closes, BacklogAt, BacklogBounded, DelayAt, DelayBounded, IsLeastFailing, QueueBacklog, QueueDelay, QueueEmpties, QueueInTime};
 ghost use Rattle.dc_busy.specs.declared.limits.TheConstants.{LONGEST_WINDOW};
 
 mod between;
@@ -110,7 +110,8 @@ pub fn first_failures<A: ArrivalBound, S: ServiceBound>(
 /// - if `backlog_fails` finds nothing, then at each place of the run what has come less what has been taken is at most
 ///   `backlog`;
 /// - if `delay_fails` finds nothing, then what came in tick t or before has been taken by the end of tick t + `delay`,
-///   where that tick is whole, and so has each item by its number.
+///   where that tick is whole, and so has each item by its number;
+/// - from each place of the run on, before `window` ticks more have ended, there is a place at which nothing waits.
 ///
 /// `window` is 1 to [`LONGEST_WINDOW`], `delay` at most as many. The call does nothing: its contract is the law.
 pub fn queue_law<A: ArrivalBound, S: ServiceBound>(
@@ -125,5 +126,6 @@ pub fn queue_law<A: ArrivalBound, S: ServiceBound>(
     requires short { delay ≤ LONGEST_WINDOW }
     ensures backlog { QueueBacklog (A.cap arrivals.now) (A.allows arrivals.now) (S.floor service.now) window backlog }
     ensures delay { QueueDelay (A.cap arrivals.now) (A.allows arrivals.now) (S.floor service.now) window delay }
+    ensures empties { QueueEmpties (A.cap arrivals.now) (A.allows arrivals.now) (S.floor service.now) window }
     ensures in_time { QueueInTime (A.cap arrivals.now) (A.allows arrivals.now) (S.floor service.now) window delay }
 {}

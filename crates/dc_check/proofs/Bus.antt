@@ -151,7 +151,7 @@ module _ (t : TableRows) (valid : AreValid t) (b : ℕ) (there : b < length t.bu
       (route_ticks (bus_row t b).router run) (picked_in_order ends (route_of (bus_row t b).router) 0 run) (keeps.routers_work (bus_row t b).router r_there) u d 0 (omega (arith, ticks_in-moves t b run)) in
       omega (arith, held, router_visits t b (bus_row t b).router u d run)
 
-  bus_floor-zero : bus_floor t b 0 ≡ 0
+  pub bus_floor-zero : bus_floor t b 0 ≡ 0
   unfolding bus_floor
   bus_floor-zero = fewest_visits_zero (router_row t (bus_row t b).router).visits b (router_row t (bus_row t b).router).steps (router_row t (bus_row t b).router).within
 

@@ -14,6 +14,8 @@ pub mod Ages
 pub mod Emissions
 pub mod GapTests
 pub mod Claimed
+pub mod Numbers
+pub mod Policed
 pub mod Whole
 pub mod Naming
 pub mod Smallest

@@ -14,6 +14,7 @@ use Rattle.dc_bound.specs.lemmas.Segments.{ticks-append, picks-append}
 use Rattle.dc_bound.specs.lemmas.Steps.{stamped-append}
 use Rattle.dc_bound.specs.Window.{HoldAtLeast, count_in, ticks_of}
 use Rattle.dc_busy.specs.BusyWindow.{Serves}
+use Rattle.dc_busy.specs.lemmas.EmptyRuns.{IsMoment}
 use Rattle.dc_check.proofs.Intervals.{by_events}
 use Rattle.dc_check.proofs.Served.{served_in-push, passed-still, passed-visit}
 
@@ -107,6 +108,12 @@ stamp_one t (Some x) h = refl
 counts_tick : (ds : List (ℕ × ℕ)) → (ticks_in (Tick ∷ come_in ds) ≡ 1) × (visits (Tick ∷ come_in ds) ≡ 0) × (length (ins (Tick ∷ come_in ds)) ≡ length ds)
 unfolding ticks picks ins
 counts_tick ds = (omega (arith, come_in-ticks ds), omega (arith, come_in-visits ds), omega (arith, come_in-count ds))
+
+-- each is without a visit, or one move at most
+pub sees-moment : (dues : ℕ → List (ℕ × ℕ)) (t ends sends : ℕ) (ms : List Move) → Sees dues t ends sends ms → IsMoment ms
+sees-moment dues t ends sends ms (ended m a b) = inl (ap visits m ∙ (counts_tick (dues (suc t))).1)
+sees-moment dues t ends sends ms (turned m a b) = inr (omega (arith, ap length m))
+sees-moment dues t ends sends ms (idle m a b) = inr (omega (arith, ap length m))
 
 counts_visit : (ticks_in (Visit ∷ []) ≡ 0) × (visits (Visit ∷ []) ≡ 1) × (length (ins (Visit ∷ [])) ≡ 0)
 unfolding ticks picks ins

@@ -228,7 +228,7 @@ sent-is t o run = refl
 offset_is : (t : TableRows) (o i : ℕ) → get_or (offsets t o) i 0 ≡ (entry_row t o i).offset
 offset_is t o i = get_or-map off (output_row t o).entries i no_entry
 
-output_offsets : (t : TableRows) → AreValid t → (o : ℕ) → o < length t.outputs → Offsets (output_row t o).frame (offsets t o)
+pub output_offsets : (t : TableRows) → AreValid t → (o : ℕ) → o < length t.outputs → Offsets (output_row t o).frame (offsets t o)
 output_offsets t v o h =
     let long : length (offsets t o) ≡ length (output_row t o).entries = length-map (output_row t o).entries off in
     record {
@@ -238,7 +238,7 @@ output_offsets t v o h =
     }
 
 -- the due ticks are those of the offsets
-due_tick-offsets : (t : TableRows) (o n : ℕ) → due_tick t o n ≡ due (output_row t o).frame (offsets t o) n
+pub due_tick-offsets : (t : TableRows) (o n : ℕ) → due_tick t o n ≡ due (output_row t o).frame (offsets t o) n
 due_tick-offsets t o n =
     let long : length (offsets t o) ≡ length (output_row t o).entries = length-map (output_row t o).entries off in
     omega (

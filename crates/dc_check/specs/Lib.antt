@@ -6,6 +6,7 @@ pub mod FaultText
 pub mod Placed
 pub mod Names
 pub mod Certified
+pub mod Numbers
 pub mod Lent
 pub mod Small
 -- lemmas that crates above cite

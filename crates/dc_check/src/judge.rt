@@ -6,6 +6,7 @@ ghost use Rattle.dc_cert.specs.NamedRows.{named_rows};
 ghost use Rattle.dc_check.specs.Accepts.{Accepts};
 ghost use Rattle.dc_check.specs.Certified.{KeepsItsClaims};
 ghost use Rattle.dc_check.specs.Lent.{tables_of, certificate_of};
+ghost use Rattle.dc_check.specs.Numbers.{KeepsItsNumbers};
 ghost use Rattle.dc_check.specs.Placed.{IsPlaced};
 ghost use Rattle.dc_check.specs.Verdict.{verdict_of};
 
@@ -27,9 +28,11 @@ pub fn certify(tables: Arc<Tables>, certificate: Certificate) -> Certified
 
 /// Judges a certificate for tables. If it is accepted, then in every admissible run of these tables no receive queue
 /// overruns, every word that leaves is no computed data or copies a word at most the label's age old, a live first
-/// source is used, and each label keeps its intervals. Else its first fault.
+/// source is used, each label keeps its intervals, and the certificate's windows, backlogs and delays hold. Else its
+/// first fault.
 pub fn check(tables: Arc<Tables>, certificate: Certificate) -> Result<Certified, CheckFault>
     ensures claims { IfOk result (λ _. KeepsItsClaims (arc_value tables) (named_rows certificate)) }
+    ensures numbers { IfOk result (λ _. KeepsItsNumbers (arc_value tables) (named_rows certificate)) }
     ensures lends { IfOk result (λ c. (tables_of c ≡ arc_value tables) × (certificate_of c ≡ certificate)) }
     ensures place { IfErr result (λ fault. IsPlaced (arc_value tables) fault) }
     ensures exact { MatchResult result (λ _. verdict_of (arc_value tables) (named_rows certificate) ≡ None)

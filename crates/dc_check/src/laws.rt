@@ -5,6 +5,7 @@ ghost use Rattle.std.specs.Prelude.{◌≡◌, ℕ, ◌≤◌, ◌↔◌, None};
 ghost use Rattle.dc_cert.specs.NamedRows.{NamedRows};
 ghost use Rattle.dc_check.specs.Accepts.{Accepts};
 ghost use Rattle.dc_check.specs.Certified.{AcceptedKeepTheirClaims, PolicedKeepTheirClaims};
+ghost use Rattle.dc_check.specs.Numbers.{AcceptedKeepTheirNumbers, PolicedKeepTheirNumbers};
 ghost use Rattle.dc_check.specs.Small.{small_tables, small_claims, small_run, SendsCopy};
 ghost use Rattle.dc_check.specs.Verdict.{verdict_of};
 ghost use Rattle.dc_event.specs.Admissible.{IsAdmissible};
@@ -26,6 +27,22 @@ pub fn policed_tables_keep_their_claims(tables: &Tables)
 {
     tables.valid();
     accepted_certificates_keep_their_claims(tables);
+}
+
+/// Each certificate that is accepted for these tables keeps its windows, backlogs and delays in every admissible run of
+/// them.
+pub fn accepted_certificates_keep_their_numbers(tables: &Tables)
+    ensures { AcceptedKeepTheirNumbers tables.now }
+{
+    tables.valid();
+}
+
+/// Where all buses are policed they hold in every run whose actors keep their budgets, whatever the sources send.
+pub fn policed_tables_keep_their_numbers(tables: &Tables)
+    ensures { PolicedKeepTheirNumbers tables.now }
+{
+    tables.valid();
+    accepted_certificates_keep_their_numbers(tables);
 }
 
 /// The verdict on a certificate finds no fault exactly where the certificate is accepted.

@@ -5,6 +5,7 @@ ghost use Rattle.std.specs.Arc.{arc_value};
 ghost use Rattle.dc_cert.specs.NamedRows.{named_rows};
 ghost use Rattle.dc_check.specs.Certified.{KeepsItsClaims};
 ghost use Rattle.dc_check.specs.Lent.{tables_of, certificate_of};
+ghost use Rattle.dc_check.specs.Numbers.{KeepsItsNumbers};
 ghost use Rattle.dc_check.specs.Placed.{IsPlaced};
 ghost use Rattle.dc_check.specs.Verdict.{job_count};
 ghost use Rattle.dc_checkpar.specs.Faults.{IsParVerdict, halt_fault};
@@ -41,6 +42,7 @@ pub fn check_par<G: Gate, R: Threads + Wait + Sync>(
 ) -> Result<Certified, ParFault>
     requires { (1 ≤ workers) × (workers ≤ MOST_WORKERS) }
     ensures claims { IfOk result (λ _. KeepsItsClaims (arc_value tables) (named_rows certificate)) }
+    ensures numbers { IfOk result (λ _. KeepsItsNumbers (arc_value tables) (named_rows certificate)) }
     ensures lends { IfOk result (λ c. (tables_of c ≡ arc_value tables) × (certificate_of c ≡ certificate)) }
     ensures exact { IsParVerdict (arc_value tables) (named_rows certificate) result }
     ensures stuck { IfErr result (λ fault. fault ≡ GateStuck → MayStick (job_count (arc_value tables)) (G.may_stick gate.now)) }

@@ -1,11 +1,12 @@
 use Rattle.std.proofs.Common.{subst}
 use Rattle.std.specs.Arc.{arc_value}
 use Rattle.dc_cert.specs.NamedRows.{named_rows}
-use Rattle.dc_cert.specs.declared.certificate.Certificate.{Certificate}
 use Rattle.dc_check.specs.lemmas.Exact.{verdict-accepts}
+use Rattle.dc_check.specs.lemmas.Lent.{handed_in}
 use Rattle.dc_check.specs.Accepts.{Accepts}
 use Rattle.dc_check.specs.Certified.{KeepsItsClaims}
-use Rattle.dc_check.specs.Lent.{certificate_of}
+use Rattle.dc_check.specs.Lent.{tables_of, certificate_of}
+use Rattle.dc_check.specs.Numbers.{KeepsItsNumbers}
 use Rattle.dc_tables.specs.TableRows.{TableRows}
 use Rattle.dc_check.proofs.judge.check.Goals as goal
 
@@ -16,6 +17,10 @@ certify-certified-requires c =
 
 pub returns-in-Ok-clause-claims : goal.returns-in-Ok-clause-claims
 returns-in-Ok-clause-claims c =
-    let P : TableRows → Type 0 = λ t. KeepsItsClaims t (named_rows (certificate_of c.certify-certified.result)) in
-    let Q : Certificate → Type 0 = λ certificate. KeepsItsClaims (arc_value c.args.tables) (named_rows certificate) in
-    subst Q c.certify-certified.ensures.certificate (subst P c.certify-certified.ensures.tables c.keeps_its_claims.ensures.claims)
+    handed_in KeepsItsClaims (arc_value c.args.tables) (tables_of c.certify-certified.result) c.args.certificate (certificate_of c.certify-certified.result)
+    c.certify-certified.ensures.tables c.certify-certified.ensures.certificate c.keeps_its_claims.ensures.claims
+
+pub returns-in-Ok-clause-numbers : goal.returns-in-Ok-clause-numbers
+returns-in-Ok-clause-numbers c =
+    handed_in KeepsItsNumbers (arc_value c.args.tables) (tables_of c.certify-certified.result) c.args.certificate (certificate_of c.certify-certified.result)
+    c.certify-certified.ensures.tables c.certify-certified.ensures.certificate c.keeps_its_claims.ensures.numbers
