@@ -17,7 +17,8 @@ pub record CopiesWithin (t : TableRows) (x age : ℕ) (now : List Event) (c : �
   pub arrived : latest_arrived t c.0 now ≡ Some came
   pub aged : tick_after now ≤ came + age
 
--- the word that the label sends is the fallback, or copies an arrival at most `age` ticks old
+-- The word that the label sends is the fallback, or copies an arrival at most `age` ticks old. The fallback is told by its word alone:
+-- a copied word that equals it counts as the fallback, however old it is
 abbrev pub IsYoung : TableRows → ℕ → ℕ → List Event → Type 0
 IsYoung t x age now = (chosen t x now ≡ fallback_for t x) ⊎ ((c : ℕ × ℕ) × (came : ℕ) × CopiesWithin t x age now c came)
 
@@ -40,7 +41,7 @@ UsesAny t x now =
 abbrev pub NoOverrun : TableRows → List Event → Event → Type 0
 NoOverrun t past e = reply t past e ≢ Overrun
 
--- 2: a word that leaves is no computed data or young; `ages` are the labels' ages of the certificate
+-- 2: a word that leaves is no computed data, by its word, or young; `ages` are the labels' ages of the certificate
 abbrev pub SendsYoung : TableRows → List ℕ → List Event → Event → Type 0
 SendsYoung t ages past e = IfSome (emission t past e) (λ x. IsYoung t x (slice_index ages x) (past ++ e ∷ []))
 

@@ -15,7 +15,8 @@ due_tick t o n =
 abbrev pub entry_label : TableRows → ℕ → ℕ → ℕ
 entry_label t o n = (entry_row t o (n % length (output_row t o).entries)).label
 
--- how many entries are due in a tick or before it. No entry of a greater number than the tick is, since the offsets differ
+-- how many entries are due in a tick or before it: in valid tables the offsets of an output differ, so that no two of its entries
+-- are due in one tick, each counts once, and none of a greater number than the tick is due by then
 unfoldable pub due_by : TableRows → ℕ → ℕ → ℕ
 due_by t o tick = count_below (λ n. nat_le (due_tick t o n) tick) (tick + 1)
 
