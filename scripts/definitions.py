@@ -351,22 +351,30 @@ def first_breach(tables, run):
 # ---- a bench
 
 
-def words_of_bench(tables, ticks):
-    """How many words the wires of a bench bring: in each tick one of each stream, as soon as its minimum and the wire let it come."""
-    words = 0
-    for bus, row in enumerate(tables.buses):
-        streams, free, last = [stream for stream in tables.streams if stream.bus == bus], 0, {}
-        for tick, (number, stream) in product(range(ticks), enumerate(streams)):
-            time = max(tick * tables.tick, free)
-            if tick - last.get(number, -stream.minimum) >= stream.minimum and time < (tick + 1) * tables.tick:
-                free, last[number], words = time + row.spacing, tick, words + 1
+def words_of_bench(tables, bus, ticks):
+    """The ticks of the words that a wire of a bench brings: in each tick one of each stream, as soon as its minimum and the wire let
+    it come."""
+    streams, free, last, words = [stream for stream in tables.streams if stream.bus == bus], 0, {}, []
+    for tick, (number, stream) in product(range(ticks), enumerate(streams)):
+        time = max(tick * tables.tick, free)
+        if tick - last.get(number, -stream.minimum) >= stream.minimum and time < (tick + 1) * tables.tick:
+            free, last[number] = time + tables.buses[bus].spacing, tick
+            words.append(tick)
     return words
+
+
+def least_mark(tables, bus, ticks):
+    """The least that the mark of a bus may be: when the last word of a tick comes, its router has taken one in each of its steps of
+    that tick at most, and the word itself waits."""
+    most = next(row.most for row in tables.routers if bus in row.visits)
+    return max(1, max(Counter(words_of_bench(tables, bus, ticks)).values()) - most)
 
 
 def bench(tables, ticks):
     """The lines of a bench of an accepted certificate: its entries are its words and the steps of the steady run."""
     steps = ticks * (1 + sum(row.most for row in tables.routers)) + sum(up(ticks, row.gap) for row in tables.outputs)
-    return [f"ticks {ticks}", f"entries {words_of_bench(tables, ticks) + steps}", "overruns 0", "claims hold"]
+    words = sum(len(words_of_bench(tables, bus, ticks)) for bus in range(len(tables.buses)))
+    return [f"ticks {ticks}", f"entries {words + steps}", "overruns 0", "claims hold"]
 
 
 # ---- what the commands say of a run

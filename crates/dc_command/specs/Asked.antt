@@ -73,9 +73,9 @@ AsksBy name rows (Replay tables all) =
     (name ≡ codes "replay") × (first_of (codes "TABLES") rows ≡ Some tables.now) × IsSet (one_of (codes "all") rows) all
 AsksBy name rows (Audit tables certificate) =
     (name ≡ codes "audit") × (first_of (codes "TABLES") rows ≡ Some tables.now) × (first_of (codes "CERT") rows ≡ Some certificate.now)
-AsksBy name rows (Bench tables certificate ticks) =
+AsksBy name rows (Bench tables certificate ticks marks) =
     (name ≡ codes "bench") × (first_of (codes "TABLES") rows ≡ Some tables.now) × (first_of (codes "CERT") rows ≡ Some certificate.now)
-    × TicksAre (first_of (codes "ticks") rows) ticks
+    × TicksAre (first_of (codes "ticks") rows) ticks × IsSet (one_of (codes "marks") rows) marks
 AsksBy name rows (Explain code) = (name ≡ codes "explain") × CodesAre (first_of (codes "CODE") rows) (one_of (codes "all") rows) code
 
 -- what a command and its matches ask
@@ -110,5 +110,5 @@ ExplainsIn words when = (formats : ValueParser) × Explains (subcommand_of (prog
 -- each number is in its range
 abbrev pub IsInRange : Order → Type 0
 IsInRange (Check tables certificate workers) = IfSome workers (λ n. (1 ≤ n) × (n ≤ MOST_WORKERS))
-IsInRange (Bench tables certificate ticks) = (1 ≤ ticks) × (ticks ≤ MOST_TICKS)
+IsInRange (Bench tables certificate ticks marks) = (1 ≤ ticks) × (ticks ≤ MOST_TICKS)
 IsInRange _ = Unit {0}

@@ -18,5 +18,5 @@ HasOneInput (Report tables (Some certificate)) = AreNotBothInput tables.now cert
 HasOneInput (Margins tables (Some certificate)) = AreNotBothInput tables.now certificate.now
 HasOneInput (Replay tables all) = IsNotInput tables.now
 HasOneInput (Audit tables certificate) = IsNotInput tables.now × IsNotInput certificate.now
-HasOneInput (Bench tables certificate ticks) = AreNotBothInput tables.now certificate.now
+HasOneInput (Bench tables certificate ticks marks) = AreNotBothInput tables.now certificate.now
 HasOneInput _ = Unit {0}

@@ -33,9 +33,17 @@ ticks_rule = record (new_rule (codes "ticks")) {
   parser = Some (vp.Signed (pos 1) (pos MOST_TICKS));
 }
 
+-- a flag
+abbrev pub flag_rule : Text → Rule
+flag_rule id = record (new_rule id) { long = Some id; action = Some SetTrue }
+
 -- `--all`
 abbrev pub all_rule : Rule
-all_rule = record (new_rule (codes "all")) { long = Some (codes "all"); action = Some SetTrue }
+all_rule = flag_rule (codes "all")
+
+-- `--marks`
+abbrev pub marks_rule : Rule
+marks_rule = flag_rule (codes "marks")
 
 -- `--explain`
 abbrev pub explain_rule : Rule
@@ -61,9 +69,9 @@ decode_app formats = explaining_app (codes "decode") (format_rule formats)
 abbrev pub check_app : App
 check_app = with_rule (certificate_app (codes "check")) workers_rule
 
--- `bench`, which may be told how many ticks
+-- `bench`, which may be told how many ticks, and to tell the marks
 abbrev pub bench_app : App
-bench_app = with_rule (certificate_app (codes "bench")) ticks_rule
+bench_app = with_rule (with_rule (certificate_app (codes "bench")) ticks_rule) marks_rule
 
 -- a command that reads tables, and a certificate where one is given
 abbrev pub optional_app : Text → App

@@ -70,6 +70,8 @@ pub enum Order<'a> {
         certificate: &'a str,
         /// For how many ticks, 1 to [`MOST_TICKS`](crate::MOST_TICKS).
         ticks: u16,
+        /// Whether the greatest backlog of each bus is told.
+        marks: bool,
     },
     /// Tell what a code means.
     Explain {
@@ -223,11 +225,13 @@ fn bench_in<'a>(matches: &ArgMatches<'a>) -> Option<Order<'a>>
 {
     let tables = matches.get_str("TABLES")?;
     let certificate = matches.get_str("CERT")?;
+    let marks = matches.get_flag("marks");
     match ticks_in(matches) {
         Ok(ticks) => Some(Order::Bench {
             tables,
             certificate,
             ticks,
+            marks,
         }),
         Err(_) => None,
     }

@@ -1,7 +1,7 @@
 //! The commands that there are, with their arguments and what is said of them.
 ghost use Rattle.std.specs.Prelude.{◌≡◌, false, codes, IfOk};
 ghost use Rattle.clap.specs.Words.{new_app, rule_of};
-ghost use Rattle.dc_command.specs.Program.{IsDecode, IsProgram, IsRead, all_rule, bare_app, bench_app, certificate_app, check_app, explain_app, explain_rule, file_rule, optional_app, replay_app, tables_app};
+ghost use Rattle.dc_command.specs.Program.{IsDecode, IsProgram, IsRead, bare_app, bench_app, certificate_app, check_app, explain_app, explain_rule, file_rule, flag_rule, optional_app, replay_app, tables_app, ticks_rule};
 
 use crate::after::{
     AFTER_AUDIT, AFTER_BENCH, AFTER_CHECK, AFTER_DECODE, AFTER_EXPLAIN, AFTER_FIND, AFTER_MARGINS,
@@ -33,13 +33,13 @@ fn explained<'a>(alloc: Global) -> Arg<'a>
         .display_order(100)
 }
 
-/// The flag `--all`.
-fn every<'a>(alloc: Global, help: &'a str) -> Arg<'a>
-    ensures rule { rule_of result ≡ all_rule }
+/// A flag.
+fn flag<'a>(alloc: Global, name: &'a str, help: &'a str) -> Arg<'a>
+    ensures rule { rule_of result ≡ flag_rule name.entry.now }
     ensures local { result.global ≡ false }
 {
-    Arg::new(alloc, "all")
-        .long("all")
+    Arg::new(alloc, name)
+        .long(name)
         .help(help)
         .action(ArgAction::SetTrue)
 }
@@ -172,8 +172,9 @@ fn margins<'a>(alloc: Global) -> Result<Command<'a>, Error>
 fn replay<'a>(alloc: Global) -> Result<Command<'a>, Error>
     ensures { IfOk result (IsRead replay_app) }
 {
-    let all = every(
+    let all = flag(
         alloc,
+        "all",
         "Prints every reply, and not only words that are sent or lost",
     );
     let replay = on_tables(
@@ -197,22 +198,34 @@ fn audit<'a>(alloc: Global) -> Result<Command<'a>, Error>
     )
 }
 
+/// The option `--ticks`.
+fn ticks<'a>(alloc: Global) -> Arg<'a>
+    ensures rule { rule_of result ≡ ticks_rule }
+    ensures local { result.global ≡ false }
+{
+    Arg::new(alloc, "ticks")
+        .long("ticks")
+        .value_name("N")
+        .help("Runs for so many ticks, 1 to 1000, where none is said 200")
+        .value_parser(value_parser!(u16).range(1..=i64::from(MOST_TICKS)))
+}
+
 /// The command `bench`.
 fn bench<'a>(alloc: Global) -> Result<Command<'a>, Error>
     ensures { IfOk result (IsRead bench_app) }
 {
-    let ticks = Arg::new(alloc, "ticks")
-        .long("ticks")
-        .value_name("N")
-        .help("Runs for so many ticks, 1 to 1000, where none is said 200")
-        .value_parser(value_parser!(u16).range(1..=i64::from(MOST_TICKS)));
+    let marks = flag(
+        alloc,
+        "marks",
+        "Prints for each bus the greatest backlog that was noted, and the certificate's",
+    );
     let bench = on_certificate(
         alloc,
         "bench",
         "Runs the concentrator of the tables with a thread for each actor, and audits the run",
         AFTER_BENCH,
     )?;
-    Ok(bench.arg(ticks)?)
+    Ok(bench.arg(ticks(alloc))?.arg(marks)?)
 }
 
 /// The command `explain`.
@@ -230,7 +243,7 @@ fn explain<'a>(alloc: Global) -> Result<Command<'a>, Error>
             AFTER_EXPLAIN,
         )
         .arg(code)?
-        .arg(every(alloc, "Tells every code"))?,
+        .arg(flag(alloc, "all", "Tells every code"))?,
     )
 }
 

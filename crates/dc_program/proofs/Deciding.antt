@@ -89,5 +89,5 @@ carried_decides (Report tables certificate) w w' input input' sink sink' exit h 
 carried_decides (Margins tables certificate) w w' input input' sink sink' exit h = tt
 carried_decides (Replay tables all) w w' input input' sink sink' exit h = tt
 carried_decides (Audit tables certificate) w w' input input' sink sink' exit h = tt
-carried_decides (Bench tables certificate ticks) w w' input input' sink sink' exit h = tt
+carried_decides (Bench tables certificate ticks marks) w w' input input' sink sink' exit h = tt
 carried_decides (Explain code) w w' input input' sink sink' exit h = tt

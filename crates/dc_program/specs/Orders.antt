@@ -34,7 +34,7 @@ files_of (Margins tables None) = tables.now ∷ []
 files_of (Margins tables (Some certificate)) = tables.now ∷ certificate.now ∷ []
 files_of (Replay tables all) = tables.now ∷ []
 files_of (Audit tables certificate) = tables.now ∷ certificate.now ∷ []
-files_of (Bench tables certificate ticks) = tables.now ∷ certificate.now ∷ []
+files_of (Bench tables certificate ticks marks) = tables.now ∷ certificate.now ∷ []
 files_of (Explain code) = []
 
 -- as many workers as are said
@@ -45,7 +45,7 @@ workers_of (Some count) = Some (Workers count)
 -- for whom threads are asked
 abbrev pub crew_of : Order → Option Crew
 crew_of (Check tables certificate workers) = workers_of workers
-crew_of (Bench tables certificate ticks) = Some Actors
+crew_of (Bench tables certificate ticks marks) = Some Actors
 crew_of _ = None
 
 -- the most bytes that `decode` reads
@@ -98,9 +98,9 @@ ReportsOrder (Replay tables all) holds failed input input' sink sink' exit =
 ReportsOrder (Audit tables certificate) holds failed input input' sink sink' exit =
     (rows claims trace : List ℕ) → holds tables.now ≡ Some rows → holds certificate.now ≡ Some claims → input.remaining ≡ Some trace
     → ReportsAudit rows claims trace sink.contents sink'.contents (0 + input.failed) (failed + input'.failed) sink.failed sink'.failed exit
-ReportsOrder (Bench tables certificate ticks) holds failed input input' sink sink' exit =
+ReportsOrder (Bench tables certificate ticks marks) holds failed input input' sink sink' exit =
     (rows claims : List ℕ) → holds tables.now ≡ Some rows → holds certificate.now ≡ Some claims
-    → ReportsBench rows claims ticks sink.contents sink'.contents 0 failed sink.failed sink'.failed exit
+    → ReportsBench rows claims ticks marks sink.contents sink'.contents 0 failed sink.failed sink'.failed exit
     ⊎ ReportsThreads sink.contents sink'.contents 0 failed sink.failed sink'.failed exit
 ReportsOrder (Explain code) holds failed input input' sink sink' exit = ReportsExplain sink.contents sink'.contents sink.failed sink'.failed exit
 
@@ -109,7 +109,7 @@ abbrev pub ReportsAny : Order → ℕ → SourceState → SourceState → SinkSt
 ReportsAny (Decode format) failed input input' sink sink' exit = exit ≡ Failed → input.failed + sink.failed < input'.failed + sink'.failed
 ReportsAny (Check tables certificate (Some count)) failed input input' sink sink' exit =
     Reported Any sink.contents sink'.contents 0 failed sink.failed sink'.failed exit ⊎ ReportsThreads sink.contents sink'.contents 0 failed sink.failed sink'.failed exit
-ReportsAny (Bench tables certificate ticks) failed input input' sink sink' exit =
+ReportsAny (Bench tables certificate ticks marks) failed input input' sink sink' exit =
     Reported Any sink.contents sink'.contents 0 failed sink.failed sink'.failed exit ⊎ ReportsThreads sink.contents sink'.contents 0 failed sink.failed sink'.failed exit
 ReportsAny order failed input input' sink sink' exit =
     Reported Any sink.contents sink'.contents (sources_in order 0 input) (sources_in order failed input') sink.failed sink'.failed exit

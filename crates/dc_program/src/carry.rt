@@ -67,7 +67,8 @@ fn obey<'a, W: World<'a>, S: Source, K: Sink, H: ByThreads>(
             tables,
             certificate,
             ticks,
-        } => bench(threads, world, sink, tables, certificate, ticks),
+            marks,
+        } => bench(threads, world, sink, tables, certificate, ticks, marks),
     }
 }
 

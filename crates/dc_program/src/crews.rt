@@ -49,11 +49,12 @@ pub trait ByThreads {
             (K.state sink.old).failed (K.state sink.new).failed result }
         ensures left { LeavesSink (K.state sink.old).failed (K.state sink.new).failed (K.state sink.new).last_failed (K.state sink.new).hidden };
 
-    /// Runs a hub for so many ticks, 1 to [`MOST_TICKS`](dc_command::MOST_TICKS), as
+    /// Runs a hub for so many ticks, 1 to [`MOST_TICKS`](dc_command::MOST_TICKS), and tells its marks or does not, as
     /// [`run_bench`](dc_run_bench::run_bench) does.
     fn bench<T: Source, C: Source, K: Sink>(
         &self,
         ticks: u16,
+        marks: bool,
         tables: &mut T,
         certificate: &mut C,
         sink: &mut K,
@@ -64,7 +65,7 @@ pub trait ByThreads {
         requires certificate { IsCountable (C.state certificate.old) }
         requires sink { CanFail (K.state sink.old) }
         ensures reports { (rows claims : List ℕ) → (T.state tables.old).remaining ≡ Some rows → (C.state certificate.old).remaining ≡ Some claims
-            → ReportsBench rows claims ticks (K.state sink.old).contents (K.state sink.new).contents
+            → ReportsBench rows claims ticks marks (K.state sink.old).contents (K.state sink.new).contents
             ((T.state tables.old).failed + (C.state certificate.old).failed) ((T.state tables.new).failed + (C.state certificate.new).failed)
             (K.state sink.old).failed (K.state sink.new).failed result
             ⊎ ReportsThreads (K.state sink.old).contents (K.state sink.new).contents
@@ -100,11 +101,20 @@ impl<'r, R: AllocGlobal + Threads + Wait + Sync> ByThreads for Started<'r, R> {
     fn bench<T: Source, C: Source, K: Sink>(
         &self,
         ticks: u16,
+        marks: bool,
         tables: &mut T,
         certificate: &mut C,
         sink: &mut K,
     ) -> Exit {
         let runtime = self.0;
-        run_bench(runtime, runtime.alloc(), ticks, tables, certificate, sink)
+        run_bench(
+            runtime,
+            runtime.alloc(),
+            ticks,
+            marks,
+            tables,
+            certificate,
+            sink,
+        )
     }
 }

@@ -166,7 +166,7 @@ pub fn check_by<'a, W: World<'a>, K: Sink, H: ByThreads>(
     }
 }
 
-/// Runs a hub for so many ticks.
+/// Runs a hub for so many ticks, and tells its marks or does not.
 pub fn bench<'a, W: World<'a>, K: Sink, H: ByThreads>(
     threads: &H,
     world: &mut W,
@@ -174,18 +174,19 @@ pub fn bench<'a, W: World<'a>, K: Sink, H: ByThreads>(
     tables: &'a str,
     certificate: &'a str,
     ticks: u16,
+    marks: bool,
 ) -> Exit
     requires may { H.may_start threads.now }
     requires range { (1 ≤ ticks) × (ticks ≤ 1000) }
     requires new { IsNew (W.state world.old) }
     requires sink { CanFail (K.state sink.old) }
-    ensures carries { (input : SourceState) → Carries (Bench tables.entry certificate.entry ticks) (W.state world.old) (W.state world.new)
+    ensures carries { (input : SourceState) → Carries (Bench tables.entry certificate.entry ticks marks) (W.state world.old) (W.state world.new)
         input input (K.state sink.old) (K.state sink.new) result }
     ensures left { Leaves (K.state sink.old) (K.state sink.new) }
 {
     match open_for(world, Crew::Actors, tables, certificate) {
         Ok((mut tables, mut certificate)) => {
-            threads.bench(ticks, &mut tables, &mut certificate, sink)
+            threads.bench(ticks, marks, &mut tables, &mut certificate, sink)
         }
         Err(why) => end_unopened(why, sink),
     }

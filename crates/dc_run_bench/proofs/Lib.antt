@@ -1,2 +1,3 @@
 mod Benching
+mod Marking
 mod Roles

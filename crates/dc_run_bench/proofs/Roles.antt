@@ -1,20 +1,20 @@
 -- A closed book holds what each actor was to make, and why a hub has refused.
-use Rattle.std.proofs.Common.{◌≡◌, ◌≢◌, ℕ, ◌+◌, ◌<◌, Bool, true, false, cond, Option, Some, None, List, [], ◌∷◌, length, get_or, IfSome, refl, sym, ap, subst, ◌∙◌, arith, inl, inr}
+use Rattle.std.proofs.Common.{◌≡◌, ◌≢◌, ℕ, ◌+◌, ◌<◌, Bool, true, false, cond, Option, Some, None, List, [], ◌∷◌, length, get_or, IfSome, refl, sym, ap, subst, ◌∙◌, inl, inr}
 use Rattle.std.specs.Prelude.{slice_get}
 use Rattle.std.proofs.lemmas.Option.{slice_get-get_or}
 use Rattle.dc_run_bench.specs.Bench.{HasRefused, WentAstray}
 use Rattle.dc_check.specs.Lent.{tables_of}
 use Rattle.dc_check.specs.declared.certified.Certified.{Certified}
-use Rattle.dc_drive.specs.Played.{AllPlayed, HaveRoles, IsDriven, events as events_in, own, role}
+use Rattle.dc_drive.specs.Played.{HaveRoles, IsDriven, events as events_in, own, role}
 use Rattle.dc_drive.specs.Refusals.{HaltsAs, MayStickAt}
 use Rattle.dc_drive.specs.declared.fault.DriveFault.{DriveFault}
 use Rattle.dc_drive.specs.declared.fault.DriveFault.TheVariants as drive
 use Rattle.dc_event.specs.declared.event.Actor.{Actor}
 use Rattle.dc_event.specs.declared.event.Actor.TheVariants.{Clock}
 use Rattle.dc_event.specs.declared.event.Event.{Event}
-use Rattle.dc_hub.specs.Closing.{is_by, receipts_from, actor_at, actor_count, AreOneEach, AllAgree, IsCloseFault}
+use Rattle.dc_hub.specs.Closing.{is_by, receipts_from, AreOneEach, AllAgree, IsCloseFault}
 use Rattle.dc_hub.specs.Entries.{events}
-use Rattle.dc_hub.specs.Views.{BookView, ClosedView, SeatView, WireView, IsBookOf, AreTablesOf, unused}
+use Rattle.dc_hub.specs.Views.{BookView, ClosedView, SeatView, IsBookOf, AreTablesOf, unused}
 use Rattle.dc_hub.specs.declared.entry.Entry.{Entry}
 use Rattle.dc_hub.specs.declared.entry.Receipt.{Receipt}
 use Rattle.dc_hub.specs.declared.fault.CloseFault.{CloseFault}

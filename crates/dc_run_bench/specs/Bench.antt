@@ -21,9 +21,11 @@ use Rattle.dc_tables.specs.TableRows.{TableRows}
 use Rattle.dc_answer.specs.Answer.{Answer, Reported, WholeOrNone, one_line}
 use Rattle.dc_answer.specs.Exits.{is_answered}
 use Rattle.dc_answer.specs.declared.exit.Exit.{Exit}
+use Rattle.dc_answer.specs.declared.exit.Outcome.{Outcome}
 use Rattle.dc_answer.specs.declared.exit.Outcome.TheVariants.{Done, Refused}
 use Rattle.dc_run.specs.Audit.{claims_text}
 use Rattle.dc_run.specs.Check.{answer_verdict}
+use Rattle.dc_run_bench.specs.Marks.{lines_behind}
 use Rattle.dc_run_bench.specs.Texts.{AnswersTexts}
 use Rattle.dc_run_bench.specs.declared.driven.Seen.{Seen}
 
@@ -37,9 +39,13 @@ count_text subject count = subject ++ decimal count
 abbrev pub seen_lines : Seen → List (List ℕ)
 seen_lines s = count_text (codes "ticks ") s.ticks ∷ count_text (codes "entries ") s.entries ∷ count_text (codes "overruns ") s.overruns ∷ claims_text s.claims ∷ []
 
--- the answer of a bench: its lines, and done where the claims hold, else refused
-abbrev pub answer_seen : Seen → Answer
-answer_seen s = record { lines = seen_lines s; outcome = if is_none s.claims then Done else Refused }
+-- what a bench ends with: done where the claims hold, else refused
+abbrev pub seen_outcome : Seen → Outcome
+seen_outcome s = if is_none s.claims then Done else Refused
+
+-- the answer of a bench: its four lines, and behind them the marks of its closed book where they are asked for
+abbrev pub answer_seen : Bool → ClosedView → Seen → Answer
+answer_seen marks book s = record { lines = seen_lines s ++ lines_behind marks book; outcome = seen_outcome s }
 
 -- What was seen is so of the closed book of a hub that was opened over these tables with this certificate and the longest trace limit, and was driven by the
 -- script of a bench of so many ticks: its entries are legal, and hold of each actor what it is to make; how many there are, how many overruns, and the least claim
@@ -87,23 +93,25 @@ hub_refused = one_line (codes "refused hub") Refused
 -- ---- the answer
 
 -- to certified tables: what was seen of the closed book, or that the hub refused
-abbrev pub AnswersRun : Certified → ℕ → Answer → Type 0
-AnswersRun certified ticks answer = ((answer ≡ hub_refused) × HasRefused certified ticks) ⊎ ((book : ClosedView) × (s : Seen) × IsSeen certified ticks book s × (answer ≡ answer_seen s))
+abbrev pub AnswersRun : Certified → ℕ → Bool → Answer → Type 0
+AnswersRun certified ticks marks answer =
+    ((answer ≡ hub_refused) × HasRefused certified ticks) ⊎ ((book : ClosedView) × (s : Seen) × IsSeen certified ticks book s × (answer ≡ answer_seen marks book s))
 
 -- where this is the verdict on the certificate: of the tables that it certifies; where it is refused, as `check`
-abbrev pub AnswersVerdict : TableRows → NamedRows → ℕ → Answer → Option CheckFault → Type 0
-AnswersVerdict t claims ticks answer None = (certified : Certified) × (tables_in certified ≡ t) × (named_rows (certificate_in certified) ≡ claims) × AnswersRun certified ticks answer
-AnswersVerdict t claims ticks answer (Some fault) = answer ≡ answer_verdict t (Some fault)
+abbrev pub AnswersVerdict : TableRows → NamedRows → ℕ → Bool → Answer → Option CheckFault → Type 0
+AnswersVerdict t claims ticks marks answer None =
+    (certified : Certified) × (tables_in certified ≡ t) × (named_rows (certificate_in certified) ≡ claims) × AnswersRun certified ticks marks answer
+AnswersVerdict t claims ticks marks answer (Some fault) = answer ≡ answer_verdict t (Some fault)
 
 -- to tables and a certificate
-abbrev pub AnswersCertificate : ℕ → TableRows → NamedRows → Answer → Type 0
-AnswersCertificate ticks t claims answer = AnswersVerdict t claims ticks answer (verdict_of t claims)
+abbrev pub AnswersCertificate : ℕ → Bool → TableRows → NamedRows → Answer → Type 0
+AnswersCertificate ticks marks t claims answer = AnswersVerdict t claims ticks marks answer (verdict_of t claims)
 
 -- to the texts of both
-abbrev pub AnswersBench : List ℕ → List ℕ → ℕ → Answer → Type 0
-AnswersBench tables certificate ticks = AnswersTexts (AnswersCertificate ticks) tables certificate
+abbrev pub AnswersBench : List ℕ → List ℕ → ℕ → Bool → Answer → Type 0
+AnswersBench tables certificate ticks marks = AnswersTexts (AnswersCertificate ticks marks) tables certificate
 
--- What `bench` reports, where its sources and its sink failed so often before and after it
-abbrev pub ReportsBench : List ℕ → List ℕ → ℕ → Option (List ℕ) → Option (List ℕ) → ℕ → ℕ → ℕ → ℕ → Exit → Type 0
-ReportsBench tables certificate ticks old new sources sources' sink sink' exit =
-    Reported (WholeOrNone (AnswersBench tables certificate ticks) (is_answered exit)) old new sources sources' sink sink' exit
+-- What `bench` reports for so many ticks, with its marks or without, where its sources and its sink failed so often before and after it
+abbrev pub ReportsBench : List ℕ → List ℕ → ℕ → Bool → Option (List ℕ) → Option (List ℕ) → ℕ → ℕ → ℕ → ℕ → Exit → Type 0
+ReportsBench tables certificate ticks marks old new sources sources' sink sink' exit =
+    Reported (WholeOrNone (AnswersBench tables certificate ticks marks) (is_answered exit)) old new sources sources' sink sink' exit

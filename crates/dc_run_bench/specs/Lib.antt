@@ -1,2 +1,3 @@
 pub mod Bench
+pub mod Marks
 pub mod Texts

@@ -1,6 +1,7 @@
 //! `bench`: a hub over certified tables is seen running.
-ghost use Rattle.std.specs.Prelude.{◌≡◌, ◌≢◌, ◌⊎◌, ℕ, List, ◌+◌, ◌<◌, ◌≤◌, IfErr, IfOk, IfSome, Some};
+ghost use Rattle.std.specs.Prelude.{◌≡◌, ◌≢◌, ◌⊎◌, ℕ, List, [], ◌+◌, ◌<◌, ◌≤◌, IfErr, IfOk, IfSome, Some};
 ghost use Rattle.std.specs.Arc.{arc_value};
+ghost use Rattle.std.specs.Thread.{IsSync};
 ghost use Rattle.dc_answer.specs.Answer.{Any, LeavesSink, Reported};
 ghost use Rattle.dc_answer.specs.Inputs.{OnlyBehind};
 ghost use Rattle.dc_answer.specs.Judging.{Keeps};
@@ -13,79 +14,126 @@ ghost use Rattle.dc_document.specs.declared.limits.TheConstants.{TEXT_LIMIT};
 ghost use Rattle.dc_device.specs.States.{AsksUpTo, CanFail, IsCountable};
 
 use crate::driven::run_certified;
-use dc_answer::{End, Exit, Outcome, ReadCertificate, ReadTables, Unjudged, With, run};
+use dc_answer::{
+    End, Exit, Judge, Outcome, Page, ReadCertificate, ReadTables, Unjudged, With, run,
+};
 use dc_cert::Certificate;
 use dc_check::check;
 use dc_device::{Sink, Source};
 use dc_print::{Text, print_refused};
-use dc_run::{JudgeShared, Shared};
 use dc_tables::Tables;
 use std::alloc::Global;
 use std::marker::Sync;
 use std::sync::{Arc, Wait};
 use std::thread::Threads;
 
-/// Judges a certificate, and where it is accepted runs a hub for so many ticks.
+/// Judges a certificate, and where it is accepted runs a hub for so many ticks, and keeps what is seen of its book, with
+/// its marks or without.
 fn bench_certificate<R: Threads + Wait + Sync>(
     rt: &R,
     alloc: Global,
     ticks: u16,
+    marks: bool,
     tables: &Arc<Tables>,
     certificate: Certificate,
-    text: &mut Text,
+    page: &mut Page,
 ) -> Result<Outcome, Unjudged>
     requires { (1 ≤ ticks) × (ticks ≤ LONGEST_SCRIPT) }
-    ensures answer { Keeps (AnswersCertificate ticks (arc_value tables.now) (named_rows certificate)) text.new.items result }
+    ensures answer { Keeps (AnswersCertificate ticks marks (arc_value tables.now) (named_rows certificate)) page.new result }
     ensures cause { IfErr result (λ e. e ≢ Unjudged.Device) }
 {
     let Ok(shared) = Arc::try_clone(tables) else {
         return Err(Unjudged::Memory);
     };
     match check(shared, certificate) {
-        Ok(certified) => run_certified(rt, alloc, u64::from(ticks), tables, certified, text),
+        Ok(certified) => {
+            run_certified(rt, alloc, u64::from(ticks), marks, tables, certified, page)
+        }
         Err(fault) => {
-            print_refused(text, tables, fault);
+            let mut text = Text::new();
+            print_refused(&mut text, tables, fault);
+            page.tell(text);
             Ok(Outcome::Refused)
         }
     }
 }
 
-/// For how many ticks a hub is to run, 1 to [`LONGEST_SCRIPT`](dc_script::LONGEST_SCRIPT).
+/// For how many ticks a hub is to run, and whether the marks of its book are told.
 #[derive(Clone, Copy, Debug, PartialEq, Eq)]
 pub struct Bench {
-    /// How many.
+    /// How many, 1 to [`LONGEST_SCRIPT`](dc_script::LONGEST_SCRIPT).
     pub ticks: u16,
+    /// Whether they are.
+    pub marks: bool,
 }
 
-impl JudgeShared for Bench {
-    ghost may_judge = { λ b. (1 ≤ b.ticks) × (b.ticks ≤ LONGEST_SCRIPT) };
+/// Judges a certificate for tables that threads are to share.
+fn share_and_bench<R: Threads + Wait + Sync>(
+    rt: &R,
+    alloc: Global,
+    bench: Bench,
+    tables: Tables,
+    certificate: Certificate,
+    page: &mut Page,
+) -> Result<Outcome, Unjudged>
+    requires { (1 ≤ bench.ticks) × (bench.ticks ≤ LONGEST_SCRIPT) }
+    ensures answer { Keeps (AnswersCertificate bench.ticks bench.marks tables (named_rows certificate)) page.new result }
+    ensures cause { IfErr result (λ e. e ≢ Unjudged.Device) }
+{
+    match Arc::new(alloc, tables) {
+        Ok(tables) => {
+            bench_certificate(
+                rt,
+                alloc,
+                bench.ticks,
+                bench.marks,
+                &tables,
+                certificate,
+                page,
+            )
+        }
+        Err(_) => Err(Unjudged::Memory),
+    }
+}
 
-    ghost answers = { λ b. AnswersCertificate b.ticks };
+impl<R: Threads + Wait + Sync> Judge<R, (Tables, Certificate), End> for Bench {
+    ghost may_judge = { λ b. ((1 ≤ b.ticks) × (b.ticks ≤ LONGEST_SCRIPT)) × IsSync R.row };
 
-    fn judge_shared<R: Threads + Wait + Sync>(
+    ghost starts_threads = { λ b. Unit {0} };
+
+    ghost limits = { λ b. [] };
+
+    ghost goes_on = { λ b known texts. Unit {0} };
+
+    ghost answers = { λ b known texts answer. AnswersCertificate b.ticks b.marks known.0 (named_rows known.1) answer };
+
+    fn judge(
         &self,
         rt: &R,
         alloc: Global,
-        tables: &Arc<Tables>,
-        certificate: Certificate,
-        text: &mut Text,
+        known: (Tables, Certificate),
+        _given: &mut End,
+        page: &mut Page,
     ) -> Result<Outcome, Unjudged> {
-        bench_certificate(rt, alloc, self.ticks, tables, certificate, text)
+        let (tables, certificate) = known;
+        share_and_bench(rt, alloc, *self, tables, certificate, page)
     }
 }
 
 /// The engine of `bench`.
-pub fn bench_engine(ticks: u16) -> ReadTables<ReadCertificate<Shared<Bench>>>
-    ensures { result.0.0.0.ticks ≡ ticks }
+pub fn bench_engine(ticks: u16, marks: bool) -> ReadTables<ReadCertificate<Bench>>
+    ensures ticks { result.0.0.ticks ≡ ticks }
+    ensures marks { result.0.0.marks ≡ marks }
 {
-    ReadTables(ReadCertificate(Shared(Bench { ticks })))
+    ReadTables(ReadCertificate(Bench { ticks, marks }))
 }
 
 /// Judges a certificate for tables, both read whole from their sources, the tables first, and where it is accepted
 /// writes onto a sink what is seen of a closed book: a line each for the ticks, 1 to
 /// [`LONGEST_SCRIPT`](dc_script::LONGEST_SCRIPT), the entries, the overruns, and the claims by the ages of the book's
-/// certificate; or that the hub refused. That the book is of a hub over these tables that ran for so many ticks is
-/// tested.
+/// certificate; or that the hub refused. Where its marks are asked for, a line follows for each bus in the order of the
+/// tables: its name, the greatest backlog that its wire was answered by the book's entries, and the backlog that the
+/// certificate has for it. That the book is of a hub over these tables that ran for so many ticks is tested.
 ///
 /// It ends `Done` where the claims hold; `Refused` where one fails, the certificate is refused or the hub refused;
 /// `Unreadable` where a text can't be read; `Failed` where a device failed or memory was refused, `failed memory` alone
@@ -97,6 +145,7 @@ pub fn run_bench<T: Source, C: Source, K: Sink, R: Threads + Wait + Sync>(
     rt: &R,
     alloc: Global,
     ticks: u16,
+    marks: bool,
     tables: &mut T,
     certificate: &mut C,
     sink: &mut K,
@@ -106,7 +155,7 @@ pub fn run_bench<T: Source, C: Source, K: Sink, R: Threads + Wait + Sync>(
     requires certificate { IsCountable (C.state certificate.old) }
     requires sink { CanFail (K.state sink.old) }
     ensures reports { (rows claims : List ℕ) → (T.state tables.old).remaining ≡ Some rows → (C.state certificate.old).remaining ≡ Some claims
-        → ReportsBench rows claims ticks (K.state sink.old).contents (K.state sink.new).contents
+        → ReportsBench rows claims ticks marks (K.state sink.old).contents (K.state sink.new).contents
         ((T.state tables.old).failed + (C.state certificate.old).failed) ((T.state tables.new).failed + (C.state certificate.new).failed)
         (K.state sink.old).failed (K.state sink.new).failed result
         ⊎ ReportsThreads (K.state sink.old).contents (K.state sink.new).contents
@@ -132,6 +181,6 @@ pub fn run_bench<T: Source, C: Source, K: Sink, R: Threads + Wait + Sync>(
             rest: End,
         },
     };
-    let engine = bench_engine(ticks);
+    let engine = bench_engine(ticks, marks);
     run(rt, alloc, &engine, &mut given, sink)
 }

@@ -3,7 +3,8 @@ ghost use Rattle.std.specs.Prelude.{◌≡◌, ◌≢◌, ◌⊎◌, ℕ, List, 
 ghost use Rattle.arrayvec.specs.ArrayVec.{array_vec_len};
 ghost use Rattle.dc_answer.specs.Judging.{Keeps, Says};
 ghost use Rattle.dc_answer.specs.declared.exit.Outcome.TheVariants.{Refused as WasRefused};
-ghost use Rattle.dc_run_bench.specs.Bench.{AnswersRun, HasRefused, IsSeen, WentAstray, answer_seen, count_text, seen_lines};
+ghost use Rattle.dc_run_bench.specs.Bench.{AnswersRun, HasRefused, IsSeen, WentAstray, count_text, seen_lines, seen_outcome};
+ghost use Rattle.dc_run_bench.specs.Marks.{lines_behind};
 ghost use Rattle.dc_check.specs.Lent.{tables_of};
 ghost use Rattle.dc_device.specs.Lines.{spelled};
 ghost use Rattle.dc_drive.specs.Played.{AreOfHub, HaveRoles, IsDriven};
@@ -19,7 +20,8 @@ ghost use Rattle.dc_print.specs.declared.text.TheConstants.{TEXT_CAPACITY};
 ghost use Rattle.dc_script.specs.Script.{bench_script};
 ghost use Rattle.dc_script.specs.declared.limits.TheConstants.{LONGEST_SCRIPT};
 
-use dc_answer::{Outcome, Unjudged};
+use crate::marks::append_marks;
+use dc_answer::{Outcome, Page, Unjudged};
 use dc_check::Certified;
 use dc_checkpar::Open;
 use dc_drive::{DriveFault, drive};
@@ -107,7 +109,7 @@ fn print_seen(text: &mut Text, seen: Seen)
 
 /// What ends a bench with what was seen.
 fn outcome_of(seen: Seen) -> Outcome
-    ensures { result ≡ (answer_seen seen).outcome }
+    ensures { result ≡ seen_outcome seen }
 {
     if seen.claims.is_none() {
         Outcome::Done
@@ -116,55 +118,72 @@ fn outcome_of(seen: Seen) -> Outcome
     }
 }
 
-/// Prints what is seen of a book.
+/// Keeps the lines of what was seen, and behind them those of the book's marks where they are asked for.
+fn keep_seen(seen: Seen, marks: bool, closed: &Closed, page: &mut Page) -> Result<(), AllocError>
+    ensures { IfOk result (λ _. page.new ++ 10 ∷ [] ≡ spelled (seen_lines seen ++ lines_behind marks closed.now)) }
+{
+    let mut text = Text::new();
+    print_seen(&mut text, seen);
+    page.tell(text);
+    if marks {
+        append_marks(closed, page)
+    } else {
+        Ok(())
+    }
+}
+
+/// Keeps what is seen of a book, with its marks or without.
 fn judge_book(
     alloc: Global,
     ticks: u64,
+    marks: bool,
     closed: &Closed,
-    text: &mut Text,
+    page: &mut Page,
 ) -> Result<Outcome, Unjudged>
     requires fits { length closed.now.entries ≤ LONGEST_TRACE }
     requires driven { IsDriven (tables_of closed.now.certified) (bench_script (tables_of closed.now.certified) ticks) (events_in closed.now.entries) }
-    ensures answer { Keeps (AnswersRun closed.now.certified ticks) text.new.items result }
+    ensures answer { Keeps (AnswersRun closed.now.certified ticks marks) page.new result }
     ensures memory { IfErr result (λ e. e ≡ Unjudged.Memory) }
 {
-    match seen_of(alloc, ticks, closed) {
-        Ok(seen) => {
-            print_seen(text, seen);
-            Ok(outcome_of(seen))
-        }
+    let Ok(seen) = seen_of(alloc, ticks, closed) else {
+        return Err(Unjudged::Memory);
+    };
+    match keep_seen(seen, marks, closed, page) {
+        Ok(()) => Ok(outcome_of(seen)),
         Err(_) => Err(Unjudged::Memory),
     }
 }
 
-/// Prints that the hub refused: a call, or to close.
-fn refuse_hub<L: Charter>(ticks: u64, text: &mut Text) -> Outcome
+/// Keeps that the hub refused: a call, or to close.
+fn refuse_hub<L: Charter>(ticks: u64, marks: bool, page: &mut Page) -> Outcome
     requires { IfSome L.certified (λ c. HasRefused c ticks) }
-    ensures answer { IfSome L.certified (λ c. Says (AnswersRun c ticks) text.new.items result) }
+    ensures answer { IfSome L.certified (λ c. Says (AnswersRun c ticks marks) page.new result) }
 {
-    let _ticks = ticks;
-    text.clear();
-    append(text, b"refused hub");
+    let _asked = (ticks, marks);
+    let mut text = Text::new();
+    append(&mut text, b"refused hub");
+    page.tell(text);
     Outcome::Refused
 }
 
-/// Closes a hub, and prints what is seen of its book.
+/// Closes a hub, and keeps what is seen of its book.
 fn close_hub<L: Charter>(
     alloc: Global,
     ticks: u64,
+    marks: bool,
     hub: Hub<L>,
     seats: Seats<L>,
-    text: &mut Text,
+    page: &mut Page,
 ) -> Result<Outcome, Unjudged>
     requires limit { L.limit ≡ LONGEST_TRACE }
     requires roles { IfSome L.certified (λ c. HaveRoles (tables_of c) (bench_script (tables_of c) ticks)
         (all_seats seats.wires.items seats.routers.items seats.outputs.items seats.clock)) }
-    ensures answer { IfSome L.certified (λ c. Keeps (AnswersRun c ticks) text.new.items result) }
+    ensures answer { IfSome L.certified (λ c. Keeps (AnswersRun c ticks marks) page.new result) }
     ensures memory { IfErr result (λ e. e ≡ Unjudged.Memory) }
 {
     match hub.close(seats) {
-        Ok(closed) => judge_book(alloc, ticks, &closed, text),
-        Err(_) => Ok(refuse_hub::<L>(ticks, text)),
+        Ok(closed) => judge_book(alloc, ticks, marks, &closed, page),
+        Err(_) => Ok(refuse_hub::<L>(ticks, marks, page)),
     }
 }
 
@@ -172,28 +191,34 @@ fn close_hub<L: Charter>(
 fn end_of_call<L: Charter>(
     fault: HubFault,
     ticks: u64,
-    text: &mut Text,
+    marks: bool,
+    page: &mut Page,
 ) -> Result<Outcome, Unjudged>
     requires limit { L.limit ≡ LONGEST_TRACE }
     requires halts { Refused fault ≢ Refused Astray → HaltsAs L.certified L.limit ⊥ (Refused fault) }
     requires astray { Refused fault ≡ Refused Astray → IfSome L.certified (λ c. WentAstray (tables_of c) (bench_script (tables_of c) ticks)) }
-    ensures answer { IfSome L.certified (λ c. Keeps (AnswersRun c ticks) text.new.items result) }
+    ensures answer { IfSome L.certified (λ c. Keeps (AnswersRun c ticks marks) page.new result) }
     ensures memory { IfErr result (λ e. (e ≡ Unjudged.Memory) × (fault ≡ HubMemory)) }
 {
     match fault {
         HubFault::Memory => Err(Unjudged::Memory),
-        HubFault::Step(_) => Ok(refuse_hub::<L>(ticks, text)),
-        HubFault::TraceFull => Ok(refuse_hub::<L>(ticks, text)),
-        HubFault::Astray => Ok(refuse_hub::<L>(ticks, text)),
+        HubFault::Step(_) => Ok(refuse_hub::<L>(ticks, marks, page)),
+        HubFault::TraceFull => Ok(refuse_hub::<L>(ticks, marks, page)),
+        HubFault::Astray => Ok(refuse_hub::<L>(ticks, marks, page)),
     }
 }
 
 /// What a drive that was not answered Ok ends with.
-fn end_of<L: Charter>(fault: DriveFault, ticks: u64, text: &mut Text) -> Result<Outcome, Unjudged>
+fn end_of<L: Charter>(
+    fault: DriveFault,
+    ticks: u64,
+    marks: bool,
+    page: &mut Page,
+) -> Result<Outcome, Unjudged>
     requires limit { L.limit ≡ LONGEST_TRACE }
     requires halts { fault ≢ Refused Astray → HaltsAs L.certified L.limit ⊥ fault }
     requires astray { fault ≡ Refused Astray → IfSome L.certified (λ c. WentAstray (tables_of c) (bench_script (tables_of c) ticks)) }
-    ensures answer { IfSome L.certified (λ c. Keeps (AnswersRun c ticks) text.new.items result) }
+    ensures answer { IfSome L.certified (λ c. Keeps (AnswersRun c ticks marks) page.new result) }
     ensures cause { IfErr result (λ e. ((e ≡ Unjudged.Memory) × ((fault ≡ DriveMemory) ⊎ (fault ≡ Refused HubMemory)))
         ⊎ ((e ≡ Unjudged.Threads) × (fault ≡ Spawn))) }
 {
@@ -201,8 +226,17 @@ fn end_of<L: Charter>(fault: DriveFault, ticks: u64, text: &mut Text) -> Result<
         DriveFault::Memory => Err(Unjudged::Memory),
         DriveFault::Spawn => Err(Unjudged::Threads),
         DriveFault::GateStuck => unreachable!(),
-        DriveFault::Hub(refused) => end_of_call::<L>(refused, ticks, text),
+        DriveFault::Hub(refused) => end_of_call::<L>(refused, ticks, marks, page),
     }
+}
+
+/// What is asked of a hub.
+#[derive(Clone, Copy)]
+struct Plan<'s> {
+    /// What it is driven by.
+    script: &'s Script,
+    /// Whether its marks are told.
+    marks: bool,
 }
 
 /// Drives a hub and closes it.
@@ -210,23 +244,23 @@ fn drive_hub<L: Charter + Send + Sync, R: Threads + Wait + Sync>(
     rt: &R,
     alloc: Global,
     tables: &Tables,
-    script: &Script,
+    plan: &Plan<'_>,
     hub: Hub<L>,
     mut seats: Seats<L>,
-    text: &mut Text,
+    page: &mut Page,
 ) -> Result<Outcome, Unjudged>
     requires tables { AreTablesOf L.certified tables.now }
     requires limit { L.limit ≡ LONGEST_TRACE }
-    requires script { script.now ≡ bench_script tables.now script.now.ticks }
+    requires script { plan.now.script.now ≡ bench_script tables.now plan.now.script.now.ticks }
     requires of_hub { AreOfHub hub seats.wires.items }
     requires clock { IsSome seats.clock }
     requires unused { receipts_in (all_seats seats.wires.items seats.routers.items seats.outputs.items seats.clock) ≡ 0 }
-    ensures answer { IfSome L.certified (λ c. Keeps (AnswersRun c script.now.ticks) text.new.items result) }
+    ensures answer { IfSome L.certified (λ c. Keeps (AnswersRun c plan.now.script.now.ticks plan.now.marks) page.new result) }
     ensures cause { IfErr result (λ e. e ≢ Unjudged.Device) }
 {
-    match drive(rt, alloc, tables, &hub, &mut seats, script, &Open) {
-        Ok(()) => close_hub(alloc, script.ticks(), hub, seats, text),
-        Err(fault) => end_of::<L>(fault, script.ticks(), text),
+    match drive(rt, alloc, tables, &hub, &mut seats, plan.script, &Open) {
+        Ok(()) => close_hub(alloc, plan.script.ticks(), plan.marks, hub, seats, page),
+        Err(fault) => end_of::<L>(fault, plan.script.ticks(), plan.marks, page),
     }
 }
 
@@ -236,36 +270,37 @@ fn run_hub<L: Charter + Send + Sync, R: Threads + Wait + Sync>(
     alloc: Global,
     blank: Blank,
     tables: &Tables,
-    script: &Script,
+    plan: &Plan<'_>,
     certified: Certified,
-    text: &mut Text,
+    page: &mut Page,
 ) -> Result<Outcome, Unjudged>
     requires blank { (blank.name ≡ L.name) × (blank.parts ≡ L.parts) }
     requires charter { IsCharterOf L.certified L.limit L.whole L.parts certified LONGEST_TRACE }
     requires tables { tables_of certified ≡ tables.now }
-    requires script { script.now ≡ bench_script tables.now script.now.ticks }
-    ensures answer { Keeps (AnswersRun certified script.now.ticks) text.new.items result }
+    requires script { plan.now.script.now ≡ bench_script tables.now plan.now.script.now.ticks }
+    ensures answer { Keeps (AnswersRun certified plan.now.script.now.ticks plan.now.marks) page.new result }
     ensures cause { IfErr result (λ e. e ≢ Unjudged.Device) }
 {
     match Hub::<L>::open(alloc, blank, certified, LONGEST_TRACE) {
-        Ok((hub, seats)) => drive_hub(rt, alloc, tables, script, hub, seats, text),
+        Ok((hub, seats)) => drive_hub(rt, alloc, tables, plan, hub, seats, page),
         Err(OpenFault::Memory) => Err(Unjudged::Memory),
     }
 }
 
-/// Runs a hub over certified tables, which are these, for so many ticks by the script of a bench, closes it, and prints
-/// what is seen of its book.
+/// Runs a hub over certified tables, which are these, for so many ticks by the script of a bench, closes it, and keeps
+/// what is seen of its book, with its marks or without.
 pub fn run_certified<R: Threads + Wait + Sync>(
     rt: &R,
     alloc: Global,
     ticks: u64,
+    marks: bool,
     tables: &Tables,
     certified: Certified,
-    text: &mut Text,
+    page: &mut Page,
 ) -> Result<Outcome, Unjudged>
     requires ticks { (1 ≤ ticks) × (ticks ≤ LONGEST_SCRIPT) }
     requires tables { tables_of certified ≡ tables.now }
-    ensures answer { Keeps (AnswersRun certified ticks) text.new.items result }
+    ensures answer { Keeps (AnswersRun certified ticks marks) page.new result }
     ensures cause { IfErr result (λ e. e ≢ Unjudged.Device) }
 {
     certified.tables().valid();
@@ -275,9 +310,12 @@ pub fn run_certified<R: Threads + Wait + Sync>(
             alloc,
             Blank::new(MOST_ACTORS),
             tables,
-            &script,
+            &Plan {
+                script: &script,
+                marks,
+            },
             certified,
-            text,
+            page,
         ),
         Err(_) => Err(Unjudged::Memory),
     }

@@ -3,5 +3,6 @@
 
 mod bench;
 mod driven;
+mod marks;
 
 pub use bench::{Bench, bench_engine, run_bench};

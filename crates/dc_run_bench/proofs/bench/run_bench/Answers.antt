@@ -10,10 +10,11 @@ pub returns-clause-reports : goal.returns-clause-reports
 returns-clause-reports g c = λ rows text e f.
     let same0 : c.tables-1.given.0 ≡ c.run.new.given.first.now = search rules in
     let same1 : c.certificate-1.given.0 ≡ c.run.new.given.rest.first.now = search rules in
-    subst (λ x. ReportsBench rows text c.args.ticks (g.K.Sink.state c.args.sink.now).contents (g.K.Sink.state c.run.new.sink).contents ((g.T.Source.state c.args.tables.now).failed + (g.C.Source.state c.args.certificate.now).failed) ((g.T.Source.state c.tables-1.given.0).failed + (g.C.Source.state x).failed) (g.K.Sink.state c.args.sink.now).failed (g.K.Sink.state c.run.new.sink).failed c.run.result ⊎ ReportsThreads (g.K.Sink.state c.args.sink.now).contents (g.K.Sink.state c.run.new.sink).contents ((g.T.Source.state c.args.tables.now).failed + (g.C.Source.state c.args.certificate.now).failed) ((g.T.Source.state c.tables-1.given.0).failed + (g.C.Source.state x).failed) (g.K.Sink.state c.args.sink.now).failed (g.K.Sink.state c.run.new.sink).failed c.run.result) (sym same1)
-    (subst (λ x. ReportsBench rows text c.args.ticks (g.K.Sink.state c.args.sink.now).contents (g.K.Sink.state c.run.new.sink).contents ((g.T.Source.state c.args.tables.now).failed + (g.C.Source.state c.args.certificate.now).failed) ((g.T.Source.state x).failed + (g.C.Source.state c.run.new.given.rest.first.now).failed) (g.K.Sink.state c.args.sink.now).failed (g.K.Sink.state c.run.new.sink).failed c.run.result ⊎ ReportsThreads (g.K.Sink.state c.args.sink.now).contents (g.K.Sink.state c.run.new.sink).contents ((g.T.Source.state c.args.tables.now).failed + (g.C.Source.state c.args.certificate.now).failed) ((g.T.Source.state x).failed + (g.C.Source.state c.run.new.given.rest.first.now).failed) (g.K.Sink.state c.args.sink.now).failed (g.K.Sink.state c.run.new.sink).failed c.run.result) (sym same0)
-    (subst (λ n. ReportsBench rows text n (g.K.Sink.state c.args.sink.now).contents (g.K.Sink.state c.run.new.sink).contents ((g.T.Source.state c.args.tables.now).failed + (g.C.Source.state c.args.certificate.now).failed) ((g.T.Source.state c.run.new.given.first.now).failed + (g.C.Source.state c.run.new.given.rest.first.now).failed) (g.K.Sink.state c.args.sink.now).failed (g.K.Sink.state c.run.new.sink).failed c.run.result ⊎ ReportsThreads (g.K.Sink.state c.args.sink.now).contents (g.K.Sink.state c.run.new.sink).contents ((g.T.Source.state c.args.tables.now).failed + (g.C.Source.state c.args.certificate.now).failed) ((g.T.Source.state c.run.new.given.first.now).failed + (g.C.Source.state c.run.new.given.rest.first.now).failed) (g.K.Sink.state c.args.sink.now).failed (g.K.Sink.state c.run.new.sink).failed c.run.result) c.bench_engine-engine.ensures
-    (bench_reports_or rows text c.bench_engine-engine.result.0.0.0.ticks _ _ _ _ _ _ _ _ _ (c.run.ensures.reports (rows ∷ text ∷ []) (e, (f, tt))))))
+    subst (λ x. ReportsBench rows text c.args.ticks c.args.marks (g.K.Sink.state c.args.sink.now).contents (g.K.Sink.state c.run.new.sink).contents ((g.T.Source.state c.args.tables.now).failed + (g.C.Source.state c.args.certificate.now).failed) ((g.T.Source.state c.tables-1.given.0).failed + (g.C.Source.state x).failed) (g.K.Sink.state c.args.sink.now).failed (g.K.Sink.state c.run.new.sink).failed c.run.result ⊎ ReportsThreads (g.K.Sink.state c.args.sink.now).contents (g.K.Sink.state c.run.new.sink).contents ((g.T.Source.state c.args.tables.now).failed + (g.C.Source.state c.args.certificate.now).failed) ((g.T.Source.state c.tables-1.given.0).failed + (g.C.Source.state x).failed) (g.K.Sink.state c.args.sink.now).failed (g.K.Sink.state c.run.new.sink).failed c.run.result) (sym same1)
+    (subst (λ x. ReportsBench rows text c.args.ticks c.args.marks (g.K.Sink.state c.args.sink.now).contents (g.K.Sink.state c.run.new.sink).contents ((g.T.Source.state c.args.tables.now).failed + (g.C.Source.state c.args.certificate.now).failed) ((g.T.Source.state x).failed + (g.C.Source.state c.run.new.given.rest.first.now).failed) (g.K.Sink.state c.args.sink.now).failed (g.K.Sink.state c.run.new.sink).failed c.run.result ⊎ ReportsThreads (g.K.Sink.state c.args.sink.now).contents (g.K.Sink.state c.run.new.sink).contents ((g.T.Source.state c.args.tables.now).failed + (g.C.Source.state c.args.certificate.now).failed) ((g.T.Source.state x).failed + (g.C.Source.state c.run.new.given.rest.first.now).failed) (g.K.Sink.state c.args.sink.now).failed (g.K.Sink.state c.run.new.sink).failed c.run.result) (sym same0)
+    (subst (λ m. ReportsBench rows text c.args.ticks m (g.K.Sink.state c.args.sink.now).contents (g.K.Sink.state c.run.new.sink).contents ((g.T.Source.state c.args.tables.now).failed + (g.C.Source.state c.args.certificate.now).failed) ((g.T.Source.state c.run.new.given.first.now).failed + (g.C.Source.state c.run.new.given.rest.first.now).failed) (g.K.Sink.state c.args.sink.now).failed (g.K.Sink.state c.run.new.sink).failed c.run.result ⊎ ReportsThreads (g.K.Sink.state c.args.sink.now).contents (g.K.Sink.state c.run.new.sink).contents ((g.T.Source.state c.args.tables.now).failed + (g.C.Source.state c.args.certificate.now).failed) ((g.T.Source.state c.run.new.given.first.now).failed + (g.C.Source.state c.run.new.given.rest.first.now).failed) (g.K.Sink.state c.args.sink.now).failed (g.K.Sink.state c.run.new.sink).failed c.run.result) c.bench_engine-engine.ensures.marks
+    (subst (λ n. ReportsBench rows text n c.bench_engine-engine.result.0.0.marks (g.K.Sink.state c.args.sink.now).contents (g.K.Sink.state c.run.new.sink).contents ((g.T.Source.state c.args.tables.now).failed + (g.C.Source.state c.args.certificate.now).failed) ((g.T.Source.state c.run.new.given.first.now).failed + (g.C.Source.state c.run.new.given.rest.first.now).failed) (g.K.Sink.state c.args.sink.now).failed (g.K.Sink.state c.run.new.sink).failed c.run.result ⊎ ReportsThreads (g.K.Sink.state c.args.sink.now).contents (g.K.Sink.state c.run.new.sink).contents ((g.T.Source.state c.args.tables.now).failed + (g.C.Source.state c.args.certificate.now).failed) ((g.T.Source.state c.run.new.given.first.now).failed + (g.C.Source.state c.run.new.given.rest.first.now).failed) (g.K.Sink.state c.args.sink.now).failed (g.K.Sink.state c.run.new.sink).failed c.run.result) c.bench_engine-engine.ensures.ticks
+    (bench_reports_or c.bench_engine-engine.result.0.0.ticks c.bench_engine-engine.result.0.0.marks rows text _ _ _ _ _ _ _ _ _ (c.run.ensures.reports (rows ∷ text ∷ []) (e, (f, tt)))))))
 
 pub returns-clause-reported : goal.returns-clause-reported
 returns-clause-reported g c =

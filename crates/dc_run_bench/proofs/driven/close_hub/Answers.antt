@@ -14,7 +14,7 @@ judge_book-requires-clause-driven g c =
     c.in-Ok.ensures.same.0 c.requires.roles c.in-Ok.ensures.ok.0 c.in-Ok.ensures.ok.1
 
 pub returns-in-Ok-clause-answer : goal.returns-in-Ok-clause-answer
-returns-in-Ok-clause-answer g c = subst (λ o. IfSome o (λ x. Keeps (AnswersRun x c.args.ticks) c.judge_book.new.text.items c.judge_book.result)) (sym c.in-Ok.ensures.same.0) c.judge_book.ensures.answer
+returns-in-Ok-clause-answer g c = subst (λ o. IfSome o (λ x. Keeps (AnswersRun x c.args.ticks c.args.marks) c.judge_book.new.page c.judge_book.result)) (sym c.in-Ok.ensures.same.0) c.judge_book.ensures.answer
 
 pub refuse_hub-requires : goal.refuse_hub-requires
 refuse_hub-requires g c =
