@@ -1,11 +1,14 @@
-/* Laid before the C library by scripts/hostile and scripts/refused. By its environment it refuses one allocation
-   (REFUSE), fails one read (FAIL_READ) or one write (FAIL_WRITE), each by its number from 1, and no other. Where READ_FROM
-   is given, only reads of that descriptor count. Where COUNT is given, the numbers of allocations, reads and writes are
-   written to the file of that name at the end. */
+/* Laid before the C library by scripts/hostile and scripts/refused. By its environment it refuses one allocation (REFUSE), or
+   one of the first thread (REFUSE_FIRST) or of the others (REFUSE_BESIDE), fails one read (FAIL_READ), one write (FAIL_WRITE)
+   or the start of one thread (FAIL_START), each by its number from 1, and no other. Where READ_FROM is given, only reads of
+   that descriptor count. Where COUNT is given, the numbers of allocations, reads, writes, starts, allocations of the first
+   thread and of the others are written to the file of that name at the end, and then the numbers of those with which the
+   first thread started others: its last before each start, and each within it. */
 #define _GNU_SOURCE
 #include <dlfcn.h>
 #include <errno.h>
 #include <fcntl.h>
+#include <pthread.h>
 #include <stdio.h>
 #include <stdlib.h>
 #include <sys/syscall.h>
@@ -25,26 +28,49 @@ static int is_one(const char *name, long *wanted, long *asked) {
     return __atomic_add_fetch(asked, 1, __ATOMIC_SEQ_CST) == *wanted;
 }
 
-static long refused, allocations, unread, reads, unwritten, writes;
+static long refused, allocations, refused_first, first, refused_beside, beside, unread, reads, unwritten, writes, unstarted, starts;
+
+/* Whether the first thread calls. */
+static int is_first(void) { return syscall(SYS_gettid) == getpid(); }
+
+/* Whether an allocation is refused. */
+static int is_refused(void) {
+    int own = is_first() ? is_one("REFUSE_FIRST", &refused_first, &first) : is_one("REFUSE_BESIDE", &refused_beside, &beside);
+    return is_one("REFUSE", &refused, &allocations) || own;
+}
 
 void *malloc(size_t size) {
     void *(*give)(size_t) = (void *(*)(size_t))dlsym(RTLD_NEXT, "malloc");
-    return is_one("REFUSE", &refused, &allocations) ? NULL : give(size);
+    return is_refused() ? NULL : give(size);
 }
 
 void *realloc(void *block, size_t size) {
     void *(*give)(void *, size_t) = (void *(*)(void *, size_t))dlsym(RTLD_NEXT, "realloc");
-    return is_one("REFUSE", &refused, &allocations) ? NULL : give(block, size);
+    return is_refused() ? NULL : give(block, size);
 }
 
 void *aligned_alloc(size_t align, size_t size) {
     void *(*give)(size_t, size_t) = (void *(*)(size_t, size_t))dlsym(RTLD_NEXT, "aligned_alloc");
-    return is_one("REFUSE", &refused, &allocations) ? NULL : give(align, size);
+    return is_refused() ? NULL : give(align, size);
 }
 
 int posix_memalign(void **block, size_t align, size_t size) {
     int (*give)(void **, size_t, size_t) = (int (*)(void **, size_t, size_t))dlsym(RTLD_NEXT, "posix_memalign");
-    return is_one("REFUSE", &refused, &allocations) ? ENOMEM : give(block, align, size);
+    return is_refused() ? ENOMEM : give(block, align, size);
+}
+
+/* The allocations with which the first thread started others. */
+static long of_starts[1024];
+static int of_starts_count;
+
+int pthread_create(pthread_t *thread, const pthread_attr_t *attributes, void *(*run)(void *), void *given) {
+    int (*next)(pthread_t *, const pthread_attr_t *, void *(*)(void *), void *) =
+        (int (*)(pthread_t *, const pthread_attr_t *, void *(*)(void *), void *))dlsym(RTLD_NEXT, "pthread_create");
+    long number = first;
+    int fault = is_one("FAIL_START", &unstarted, &starts) ? EAGAIN : next(thread, attributes, run, given);
+    for (; is_first() && number <= first && of_starts_count < 1024; number++)
+        of_starts[of_starts_count++] = number;
+    return fault;
 }
 
 /* Whether a read of this descriptor fails. */
@@ -92,8 +118,11 @@ __attribute__((destructor)) static void count(void) {
     const char *path = getenv("COUNT");
     if (!path)
         return;
-    char line[96];
-    int length = snprintf(line, sizeof line, "%ld %ld %ld\n", allocations, reads, writes);
+    static char line[16384];
+    int length = snprintf(line, sizeof line, "%ld %ld %ld %ld %ld %ld", allocations, reads, writes, starts, first, beside);
+    for (int at = 0; at < of_starts_count; at++)
+        length += snprintf(line + length, sizeof line - length, " %ld", of_starts[at]);
+    length += snprintf(line + length, sizeof line - length, "\n");
     int file = open(path, O_WRONLY | O_CREAT | O_TRUNC, 0600);
     ssize_t (*next)(int, const void *, size_t) = (ssize_t (*)(int, const void *, size_t))dlsym(RTLD_NEXT, "write");
     if (file >= 0 && next(file, line, length) == length)
