@@ -2,12 +2,16 @@
 //! speaks of it but that it ends and is safe.
 #![tactic(auto)]
 
+mod explanation;
 mod likeness;
 mod place;
 mod shown;
 mod tell;
+mod value;
 
+pub use explanation::Explanation;
 pub use likeness::nearest;
 pub use place::{Place, line_of, place_at};
 pub use shown::{Several, Shown};
 pub use tell::{File, begin, help, list, locate, name_file, note, show, words};
+pub use value::Value;

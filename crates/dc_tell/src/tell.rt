@@ -64,6 +64,28 @@ fn indent(out: &mut String, part: &str, letters: usize) -> Result<(), AllocError
     Ok(())
 }
 
+/// Writes where a text has what was told, by an arrow, the name of its file, the number of its line and a column in this
+/// line, all from 1, then the line itself with a mark below the place.
+pub(crate) fn locate_line(
+    out: &mut String,
+    arrow: &str,
+    name: &str,
+    number: u64,
+    line: &[u8],
+    column: usize,
+) -> Result<(), AllocError> {
+    let name = Shown(name);
+    write!(out, "  {arrow} {name}:{number}:{column}\n")?;
+    let Ok(whole) = str::from_utf8(line) else {
+        return Ok(());
+    };
+    let (part, at) = around(whole, column);
+    let shown = Shown(part);
+    write!(out, "   | {shown}\n   | ")?;
+    indent(out, part, at)?;
+    out.push_str("^\n")
+}
+
 /// Ends the line and writes where a text has what was told, by the name of its file, the number of its line and a column
 /// in this line, all from 1, then the line itself with a mark below the place.
 ///
@@ -76,16 +98,8 @@ pub fn show(
     line: &[u8],
     column: usize,
 ) -> Result<(), AllocError> {
-    let name = Shown(name);
-    write!(out, "\n  --> {name}:{number}:{column}\n")?;
-    let Ok(whole) = str::from_utf8(line) else {
-        return Ok(());
-    };
-    let (part, at) = around(whole, column);
-    let shown = Shown(part);
-    write!(out, "   | {shown}\n   | ")?;
-    indent(out, part, at)?;
-    out.push_str("^\n")
+    out.push_str("\n")?;
+    locate_line(out, "-->", name, number, line, column)
 }
 
 /// Ends the line and writes where a text has what was told, behind so many of its bytes: file, line and column, then
