@@ -26,14 +26,14 @@ pub fn explain_unread(
     if answer.code.starts_with('K') {
         let text = ran.second.text.as_slice();
         let name = certificate;
-        return match explain_certificate(alloc, File { name, text })? {
+        return match explain_certificate(alloc, File { name, text }) {
             Some(told) => Ok(Some(told)),
             None => explain_plainly(alloc, Kind::Certificate, answer.code),
         };
     }
     let text = ran.first.text.as_slice();
     let name = tables;
-    match explain_tables(alloc, File { name, text })? {
+    match explain_tables(alloc, File { name, text }) {
         Some(told) => Ok(Some(told)),
         None => explain_plainly(alloc, Kind::Table, answer.code),
     }

@@ -1,55 +1,107 @@
 //! Certificates that were refused.
-use crate::document::explain_no_document;
-use crate::keys::{index_of, list_of, section_of};
-use crate::refused::Refused;
-use crate::shape::{tell, tell_plainly};
-use crate::walker::layout_of;
-use dc_cert::{CertFault, CertRule, Fault, read_cert};
-use dc_tell::{File, begin};
-use std::alloc::{AllocError, Global};
+use crate::document::tell_no_document;
+use dc_cert::{CertFault, CertRule, Fault, LIST_LIMIT, TextPlace, read_cert};
+use dc_document::TEXT_LIMIT;
+use dc_explain_text::{
+    Fact, Misfit, Refused, tell_absent, tell_misfit, tell_no_table, tell_unknown, tell_version,
+};
+use dc_layout::{Kind, layout_of};
+use dc_tell::{Explanation, File};
+use std::alloc::Global;
 
-/// Explains a fault of a document.
-fn explain_fault(
-    alloc: Global,
-    out: &mut String,
-    file: File<'_>,
-    fault: Fault,
-) -> Result<(), AllocError> {
-    let layout = layout_of(alloc, file.text)?;
-    let section = section_of(fault.place);
-    let index = index_of(fault.place);
-    let item = layout.item(list_of(section), index);
-    let rule = fault.rule;
-    let refused = Refused {
-        alloc,
-        file,
-        layout: &layout,
-        rule,
-        section,
-        index,
-        item,
-    };
-    if !tell(out, refused)? {
-        tell_plainly(out, refused)?;
+/// The kind of the object at a place, and its number among those of its kind.
+fn object_at(place: TextPlace) -> (Kind, usize) {
+    match place {
+        TextPlace::Top => (Kind::Certificate, 0),
+        TextPlace::Inputs(index) => (Kind::InputClaim, index),
+        TextPlace::Outputs(index) => (Kind::OutputClaim, index),
+        TextPlace::Labels(index) => (Kind::LabelClaim, index),
     }
-    Ok(())
+}
+
+/// The lists of a certificate.
+static LISTS: [(Kind, &'static str); 3] = [
+    (Kind::InputClaim, "inputs"),
+    (Kind::OutputClaim, "outputs"),
+    (Kind::LabelClaim, "labels"),
+];
+
+/// Tells of a list that is too long.
+fn tell_long_list(refused: &mut Refused<'_>) -> bool {
+    for (kind, name) in &LISTS {
+        let count = refused.tables_of(*kind);
+        if count > LIST_LIMIT {
+            refused.say(
+                "`{}` has {}, and {} are the most{}\nhelp: tables that can be read have no more of any kind",
+                &[
+                    Fact::Word(name),
+                    Fact::Several(count as u64, "member", "members"),
+                    Fact::Number(LIST_LIMIT as u64),
+                    Fact::Place(0, name),
+                ],
+            );
+            return true;
+        }
+    }
+    false
+}
+
+/// Tells what there is to say of a rule.
+fn tell(refused: &mut Refused<'_>, rule: CertRule) -> bool {
+    match rule {
+        CertRule::VersionUnknown => tell_version(refused),
+        CertRule::KeyAbsent => tell_absent(refused),
+        CertRule::KeyUnknown => tell_unknown(refused),
+        CertRule::WrongKind => tell_no_table(refused) || tell_misfit(refused, Misfit::Kind),
+        CertRule::ListOrNameOutOfBounds if refused.row == 0 => tell_long_list(refused),
+        CertRule::ListOrNameOutOfBounds => tell_misfit(refused, Misfit::Spelling),
+        CertRule::NotJson => {
+            tell_no_document(refused);
+            true
+        }
+    }
+}
+
+/// Tells the rule alone, where its object stands.
+fn tell_plainly(refused: &mut Refused<'_>, code: &'static str) {
+    let row = refused.row;
+    refused.say(
+        "{} is not what a certificate has there{}\nhelp: `dc429 explain {}` says what this rule asks for",
+        &[Fact::Row(row), Fact::Place(row, ""), Fact::Word(code)],
+    );
+}
+
+/// What is told of a text that is refused by a fault; nothing where memory was refused.
+fn explain(alloc: Global, file: File<'_>, fault: Fault) -> Option<String> {
+    let is_long = file.text.len() > TEXT_LIMIT;
+    let layout = layout_of(alloc, if is_long { b"" } else { file.text }, true)?;
+    let (kind, index) = object_at(fault.place);
+    let row = layout.row(kind, index);
+    let mut refused = Refused {
+        alloc,
+        out: Explanation::new(alloc),
+        file,
+        layout,
+        row: row.unwrap_or(0),
+    };
+    refused.out.begin(fault.rule.code());
+    if row.is_none() || !tell(&mut refused, fault.rule) {
+        tell_plainly(&mut refused, fault.rule.code());
+    }
+    if fault.rule != CertRule::NotJson {
+        refused.say(
+            "\nhelp: or let `dc429 find TABLES > FILE` write a certificate",
+            &[],
+        );
+    }
+    let Refused { out, .. } = refused;
+    out.finish()
 }
 
 /// Explains why a text gives no certificate; nothing where it does, or where memory was refused.
-///
-/// # Errors
-/// Where memory is refused.
-pub fn explain_certificate(alloc: Global, file: File<'_>) -> Result<Option<String>, AllocError> {
-    let fault = match read_cert(alloc, file.text) {
-        Err(CertFault::Unreadable(fault)) => fault,
-        _ => return Ok(None),
-    };
-    let mut out = String::new(alloc);
-    begin(&mut out, fault.rule.code())?;
-    if fault.rule == CertRule::NotJson {
-        explain_no_document(alloc, &mut out, file)?;
-    } else {
-        explain_fault(alloc, &mut out, file, fault)?;
+pub fn explain_certificate(alloc: Global, file: File<'_>) -> Option<String> {
+    match read_cert(alloc, file.text) {
+        Err(CertFault::Unreadable(fault)) => explain(alloc, file, fault),
+        _ => None,
     }
-    Ok(Some(out))
 }

@@ -1,56 +1,70 @@
 //! Texts in the place of a certificate that are something else.
-use crate::syntax::explain_syntax;
+use crate::syntax::tell_syntax;
 use dc_document::TEXT_LIMIT;
-use dc_tell::{File, help, locate, name_file};
-use std::alloc::{AllocError, Global};
+use dc_explain_text::{Fact, Refused, tell_bytes, tell_length, tell_other};
+use dc_layout::Span;
 
-/// How many bytes of a text are UTF-8 before the first that is not.
-fn valid_up_to(text: &[u8]) -> usize {
-    match str::from_utf8(text) {
-        Ok(_) => text.len(),
-        Err(error) => error.valid_up_to(),
+/// How a text begins that the program printed, or that has a mark before it, and what is told of it: its place, and the
+/// second word of it.
+static PRINTED: [(&'static str, &'static str); 6] = [
+    (
+        "refused F",
+        "this is what `find` printed when it refused the tables, and not a certificate{}\nhelp: it refused the tables as they were then: change them, run `dc429 find TABLES > FILE` again, and see that it ends with status 0\nhelp: `dc429 explain {}` says what {} means",
+    ),
+    (
+        "unreadable ",
+        "this is what was printed where the tables could not be read, and not a certificate{}\nhelp: they could not be read as they were then: mend them, run `dc429 find TABLES > FILE` again, and see that it ends with status 0\nhelp: `dc429 explain {}` says what {} means",
+    ),
+    (
+        "refused ",
+        "this is what `check` prints of a certificate, and not the certificate{}\nhelp: name the file that holds the certificate itself, as `dc429 find TABLES > FILE` writes it\nhelp: `dc429 explain {}` says what {} means",
+    ),
+    (
+        "accepted ",
+        "this is what `check` prints of a certificate, and not the certificate{}\nhelp: name the file that holds the certificate itself, as `dc429 find TABLES > FILE` writes it",
+    ),
+    (
+        "failed ",
+        "this is what was printed where a run failed, and not a certificate{}\nhelp: run `dc429 find TABLES > FILE` again, and see that it ends with status 0\nhelp: `dc429 explain {}` says what {} means",
+    ),
+    (
+        "\u{FEFF}",
+        "the text begins with a byte order mark, which JSON does not have{}\nhelp: save the file as UTF-8 without it (\"UTF-8\", and not \"UTF-8 with BOM\")",
+    ),
+];
+
+/// The second word of the first line of a text.
+fn second_word(text: &[u8]) -> Span {
+    let mut from = 0usize;
+    for (at, byte) in text.iter().enumerate() {
+        if !byte.is_ascii_whitespace() {
+            continue;
+        }
+        if from != 0 || *byte == b'\n' {
+            return Span { from, to: at };
+        }
+        from = at.saturating_add(1);
+    }
+    Span {
+        from,
+        to: text.len(),
     }
 }
 
-/// Explains a text that is not UTF-8.
-fn explain_bytes(out: &mut String, file: File<'_>) -> Result<(), AllocError> {
-    let at = valid_up_to(file.text);
-    let byte = file.text.get(at).copied().unwrap_or(0);
-    write!(
-        out,
-        "the text is not UTF-8: its byte 0x{byte:02X} stands for no letter"
-    )?;
-    locate(out, file, at)?;
-    help(out)?;
-    match file.text.get(..2) {
-        Some([0xFF, 0xFE] | [0xFE, 0xFF]) => out.push_str(
-            "this looks like UTF-16, as some shells write it: save the file as UTF-8\n",
-        ),
-        _ => out.push_str("save the file as UTF-8\n"),
+/// Tells of a text that the program printed, or that has a mark before it.
+fn tell_printed(refused: &mut Refused<'_>, text: &str) -> bool {
+    for (beginning, sentence) in &PRINTED {
+        if text.starts_with(*beginning) {
+            let word = second_word(text.as_bytes());
+            let start = Span { from: 0, to: 0 };
+            refused.say(
+                sentence,
+                &[Fact::Here(start), Fact::Piece(word), Fact::Piece(word)],
+            );
+            return true;
+        }
     }
-}
-
-/// What a line of the program that stands in place of a certificate says, where the text begins with one.
-fn line_of_program(text: &str) -> Option<&'static str> {
-    if text.starts_with("refused F") {
-        Some(
-            "`find` refused these tables, since no certificate is accepted for them: change the tables (`dc429 explain` with the code of this line says how), and let `find` write anew",
-        )
-    } else if text.starts_with("refused ") || text.starts_with("accepted ") {
-        Some(
-            "this is what `check` prints of a certificate: name the file that holds the certificate itself, as `dc429 find TABLES > FILE` writes it",
-        )
-    } else if text.starts_with("unreadable ") {
-        Some(
-            "the tables could not be read when this was written: mend them (`dc429 explain` with the code of this line says how), and let `dc429 find TABLES > FILE` write anew",
-        )
-    } else if text.starts_with("failed ") {
-        Some(
-            "the run that wrote this failed: let `dc429 find TABLES > FILE` write anew, and see that it ends with status 0",
-        )
-    } else {
-        None
-    }
+    false
 }
 
 /// Whether a line begins a table of TOML, or gives a key a value.
@@ -82,86 +96,39 @@ fn is_tables(text: &str) -> bool {
     false
 }
 
-/// Explains a text with nothing in it.
-fn explain_empty(out: &mut String, file: File<'_>) -> Result<(), AllocError> {
-    out.push_str("the text is empty, and a certificate is wanted")?;
-    name_file(out, file.name)?;
-    help(out)?;
-    out.push_str("let `dc429 find TABLES > FILE` write one, and see that it ends with status 0\n")
-}
-
-/// Explains what another text is, and says what to do.
-fn explain_other(
-    out: &mut String,
-    file: File<'_>,
-    what: &str,
-    todo: &str,
-) -> Result<(), AllocError> {
-    out.push_str(what)?;
-    locate(out, file, 0)?;
-    help(out)?;
-    write!(out, "{todo}\n")
-}
-
-/// Explains a text that is UTF-8 and no JSON.
-fn explain_text(
-    alloc: Global,
-    out: &mut String,
-    file: File<'_>,
-    text: &str,
-) -> Result<(), AllocError> {
+/// Tells of a text that is UTF-8.
+fn tell_text(refused: &mut Refused<'_>, text: &str) {
     if text.trim().is_empty() {
-        return explain_empty(out, file);
-    }
-    if text.starts_with('\u{FEFF}') {
-        let what = "the text begins with a byte order mark, which JSON does not have";
-        return explain_other(
-            out,
-            file,
-            what,
-            "save the file as UTF-8 without it (\"UTF-8\", and not \"UTF-8 with BOM\")",
+        refused
+            .out
+            .say("the text is empty, and a certificate is wanted", &[]);
+        refused.out.name_file(refused.file.name);
+        refused.say(
+            "\nhelp: let `dc429 find TABLES > FILE` write one, and see that it ends with status 0",
+            &[],
         );
-    }
-    if let Some(todo) = line_of_program(text) {
-        return explain_other(
-            out,
-            file,
-            "this is a line that dc429 printed, and not a certificate",
-            todo,
+    } else if tell_printed(refused, text) {} else if is_tables(text) {
+        tell_other(
+            refused,
+            "this looks like tables, which are TOML, and a certificate is wanted here, which is JSON{}\nhelp: name the tables first, and then the certificate, as in: dc429 check tables.toml certificate.json",
         );
+    } else {
+        tell_syntax(refused);
     }
-    if is_tables(text) {
-        let what =
-            "this looks like tables, which are TOML, and a certificate is wanted here, which is JSON";
-        return explain_other(
-            out,
-            file,
-            what,
-            "name the tables first, and then the certificate, as in: dc429 check tables.toml certificate.json",
-        );
-    }
-    explain_syntax(alloc, out, file)
 }
 
-/// Explains a text that is no JSON.
-pub fn explain_no_document(
-    alloc: Global,
-    out: &mut String,
-    file: File<'_>,
-) -> Result<(), AllocError> {
-    if file.text.len() > TEXT_LIMIT {
-        write!(
-            out,
-            "the text is longer than {TEXT_LIMIT} bytes, and no more is read"
-        )?;
-        name_file(out, file.name)?;
-        help(out)?;
-        return out.push_str(
-            "a certificate of the largest tables is shorter: let `dc429 find TABLES > FILE` write one\n",
+/// Tells of a text that is no JSON.
+pub(crate) fn tell_no_document(refused: &mut Refused<'_>) {
+    let bytes = refused.file.text;
+    if bytes.len() > TEXT_LIMIT {
+        return tell_length(
+            refused,
+            TEXT_LIMIT,
+            "\nhelp: a certificate of the largest tables is shorter: let `dc429 find TABLES > FILE` write one",
         );
     }
-    match str::from_utf8(file.text) {
-        Err(_) => explain_bytes(out, file),
-        Ok(text) => explain_text(alloc, out, file, text),
+    match str::from_utf8(bytes) {
+        Err(_) => tell_bytes(refused),
+        Ok(text) => tell_text(refused, text),
     }
 }

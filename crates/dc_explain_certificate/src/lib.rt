@@ -4,13 +4,6 @@
 
 mod certificate;
 mod document;
-mod keys;
-mod layout;
-mod refused;
-mod shape;
 mod syntax;
-mod tokens;
-mod values;
-mod walker;
 
 pub use certificate::explain_certificate;

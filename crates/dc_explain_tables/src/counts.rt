@@ -1,135 +1,120 @@
 //! Lists that are empty or too long, and totals that are passed.
-use crate::keys::{Wanted, keys_of, section_at, wanted_at};
-use crate::refused::{Refused, told};
-use crate::values::tell_wanted;
-use dc_document::Section;
-use dc_tell::{Several, help};
-use std::alloc::AllocError;
+use dc_explain_text::{Fact, Refused, Wanted, key_of, tell_wanted};
+use dc_layout::{Kind, kind_at};
 
 /// The most streams of all buses, the most labels of all outputs, and the most offsets of one output.
 const MOST_IN_ALL: u64 = 1_024;
 
-impl<'a> Refused<'a> {
-    /// How many tables of a kind stand in a table.
-    fn tables_in(self, row: usize, section: Section) -> u64 {
-        let mut count = 0u64;
-        for (number, it) in self.layout.rows.iter().enumerate() {
-            if it.section == section && it.parent == row && number != 0 {
-                count = count.saturating_add(1);
-            }
-        }
-        count
-    }
-
-    /// How many tables of a kind there are in all.
-    fn tables_of(self, section: Section) -> u64 {
-        let mut count = 0u64;
-        for it in self.layout.rows.as_slice() {
-            if it.section == section {
-                count = count.saturating_add(1);
-            }
-        }
-        count
-    }
-
-    /// How many offsets the labels of an output have together.
-    fn offsets_in(self, output: usize) -> Result<u64, AllocError> {
-        let mut count = 0u64;
-        for (number, it) in self.layout.rows.iter().enumerate() {
-            if it.section == Section::Label && it.parent == output {
-                let offsets = self.members(number, "offsets")?;
-                count = count.saturating_add(offsets.len() as u64);
-            }
-        }
-        Ok(count)
-    }
-}
-
 /// How many members the list at a key has, and how many it may have; none where it is no list.
-fn members_at(refused: Refused<'_>, name: &str) -> Result<Option<(u64, u64)>, AllocError> {
-    let section = refused.fault.section;
-    let most = match wanted_at(section, name) {
+fn members_at(refused: &Refused<'_>, name: &str, wanted: Wanted) -> Option<(u64, u64)> {
+    let row = refused.row;
+    let most = match wanted {
         Wanted::Names(most, _) => most,
         Wanted::Offsets => 256,
         Wanted::Tables(most, _) => {
-            return Ok(match section_at(section, name.as_bytes()) {
-                None => None,
-                Some(kind) => Some((refused.tables_in(refused.row, kind), most)),
-            });
+            let kind = kind_at(refused.kind(row), name.as_bytes());
+            let own = refused
+                .layout
+                .rows
+                .iter()
+                .filter(|it| it.kind == kind && it.parent == row);
+            return Some((own.count() as u64, most));
         }
-        _ => return Ok(None),
+        _ => return None,
     };
-    let members = refused.members(refused.row, name)?;
-    Ok(Some((members.len() as u64, most)))
+    Some((refused.layout.members(row, name).len() as u64, most))
 }
 
 /// Writes of a list that is empty or too long.
-fn tell_list(
-    out: &mut String,
-    refused: Refused<'_>,
-    name: &str,
-    count: u64,
-) -> Result<(), AllocError> {
-    refused.name_key(out, name)?;
-    if count == 0 {
-        out.push_str(" is an empty list")?;
+fn tell_list(refused: &mut Refused<'_>, name: &'static str, wanted: Wanted, count: u64) {
+    let row = refused.row;
+    let sentence = if count == 0 {
+        "`{}` of {} has {}, and at least one is wanted{}\nhelp: write `{}` as "
     } else {
-        let count = Several(count, "member", "members");
-        write!(out, " has {count}, more than it may have")?;
-    }
-    refused.locate_at(out, refused.row, name)?;
-    help(out)?;
-    write!(out, "write `{name}` as ")?;
-    tell_wanted(out, wanted_at(refused.fault.section, name))?;
-    out.push_str("\n")
+        "`{}` of {} has {}, more than it may have{}\nhelp: write `{}` as "
+    };
+    refused.say(
+        sentence,
+        &[
+            Fact::Word(name),
+            Fact::Row(row),
+            Fact::Several(count, "member", "members"),
+            Fact::Place(row, name),
+            Fact::Word(name),
+        ],
+    );
+    tell_wanted(refused, wanted);
 }
 
 /// Writes of a total that is passed.
-fn tell_total(
-    out: &mut String,
-    refused: Refused<'_>,
-    what: &str,
-    count: u64,
-) -> Result<(), AllocError> {
-    write!(
-        out,
-        "there are {count} {what}, where {MOST_IN_ALL} are the most: "
-    )?;
-    refused.name(out, refused.row)?;
-    out.push_str(" passes that")?;
-    refused.locate_row(out)?;
-    help(out)?;
-    out.push_str("split the tables: two concentrators, each with tables of its own\n")
+fn tell_total(refused: &mut Refused<'_>, count: u64, what: &'static str) {
+    let row = refused.row;
+    refused.say(
+        "there are {} {}, where {} are the most: {} passes that{}\nhelp: split the tables: two concentrators, each with tables of its own",
+        &[
+            Fact::Number(count),
+            Fact::Word(what),
+            Fact::Number(MOST_IN_ALL),
+            Fact::Row(row),
+            Fact::Place(row, ""),
+        ],
+    );
+}
+
+/// How many offsets the labels of an output have together.
+fn offsets_in(refused: &Refused<'_>, output: usize) -> u64 {
+    let mut count = 0u64;
+    for (row, it) in refused.layout.rows.iter().enumerate() {
+        if it.kind == Kind::Label && it.parent == output {
+            count = count.saturating_add(refused.layout.members(row, "offsets").len() as u64);
+        }
+    }
+    count
 }
 
 /// Tells of a total that is passed.
-fn tell_totals(out: &mut String, refused: Refused<'_>) -> Result<bool, AllocError> {
-    let streams = refused.tables_of(Section::Stream);
-    if refused.fault.section == Section::Bus && streams > MOST_IN_ALL {
-        return told(tell_total(out, refused, "streams in the whole file", streams));
+fn tell_totals(refused: &mut Refused<'_>) -> bool {
+    let kind = refused.kind(refused.row);
+    let streams = refused.tables_of(Kind::Stream) as u64;
+    let labels = refused.tables_of(Kind::Label) as u64;
+    let offsets = offsets_in(refused, refused.row);
+    if kind == Kind::Bus && streams > MOST_IN_ALL {
+        tell_total(refused, streams, "streams in the whole file");
+    } else if kind == Kind::Output && labels > MOST_IN_ALL {
+        tell_total(refused, labels, "labels in the whole file");
+    } else if offsets > MOST_IN_ALL {
+        tell_total(refused, offsets, "offsets of one output");
+    } else {
+        return false;
     }
-    let labels = refused.tables_of(Section::Label);
-    if refused.fault.section == Section::Output && labels > MOST_IN_ALL {
-        return told(tell_total(out, refused, "labels in the whole file", labels));
+    true
+}
+
+/// The first list of the table with the fault that is empty or too long: its key, what is wanted, and its members.
+fn list_past(refused: &Refused<'_>, keys: &[&'static str]) -> Option<(&'static str, Wanted, u64)> {
+    for name in keys {
+        let Some((wanted, _)) = key_of(refused.kind(refused.row), name.as_bytes(), true) else {
+            continue;
+        };
+        let Some((count, most)) = members_at(refused, name, wanted) else {
+            continue;
+        };
+        let is_there = refused.layout.key(refused.row, name.as_bytes()).is_some();
+        if is_there && (count == 0 || count > most) {
+            return Some((*name, wanted, count));
+        }
     }
-    let offsets = refused.offsets_in(refused.row)?;
-    if offsets > MOST_IN_ALL {
-        return told(tell_total(out, refused, "offsets of one output", offsets));
-    }
-    Ok(false)
+    None
 }
 
 /// Tells of a list that is empty or too long, or of a total that is passed.
-pub fn tell_count(out: &mut String, refused: Refused<'_>) -> Result<bool, AllocError> {
-    for name in keys_of(refused.fault.section, true) {
-        if refused.layout.key(refused.row, name).is_none() {
-            continue;
-        }
-        if let Some((count, most)) = members_at(refused, name)? {
-            if count == 0 || count > most {
-                return told(tell_list(out, refused, name, count));
-            }
+pub(crate) fn tell_count(refused: &mut Refused<'_>) -> bool {
+    let keys = refused.keys();
+    match list_past(refused, keys.as_slice()) {
+        None => tell_totals(refused),
+        Some((name, wanted, count)) => {
+            tell_list(refused, name, wanted, count);
+            true
         }
     }
-    tell_totals(out, refused)
 }

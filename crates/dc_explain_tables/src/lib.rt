@@ -4,18 +4,13 @@
 
 mod counts;
 mod document;
-mod keys;
-mod layout;
-mod lists;
+mod names;
 mod numbers;
+mod offsets;
 mod pace;
-mod pairs;
-mod refused;
-mod shape;
+mod related;
 mod tables;
-mod tokens;
-mod values;
+mod twins;
 mod visits;
-mod walker;
 
 pub use tables::explain_tables;

@@ -1,7 +1,6 @@
 //! Intervals that do not go together with one another, or with the tick.
-use crate::refused::{Refused, told};
-use dc_tell::{help, note};
-use std::alloc::AllocError;
+use crate::related::parameter_of;
+use dc_explain_text::{Fact, Refused};
 
 /// The shortest tick, in microseconds.
 const SHORTEST: u64 = 100;
@@ -13,53 +12,55 @@ const LONGEST: u64 = 10_000;
 const LONGEST_US: u64 = 60_000_000;
 
 /// Tells that the least interval is over the greatest.
-pub fn tell_reversed(out: &mut String, refused: Refused<'_>) -> Result<bool, AllocError> {
-    let least = refused.count(refused.row, "min_us");
-    let greatest = refused.count(refused.row, "max_us");
-    write!(out, "`min_us` of ")?;
-    refused.name(out, refused.row)?;
-    write!(out, " is {least}, more than its `max_us` of {greatest}")?;
-    refused.locate_at(out, refused.row, "min_us")?;
-    help(out)?;
-    out.push_str(
-        "exchange the two: `min_us` is the least time between two words of the label, `max_us` the greatest\n",
-    )?;
-    Ok(true)
+pub(crate) fn tell_reversed(refused: &mut Refused<'_>) {
+    let row = refused.row;
+    refused.say(
+        "`min_us` of {} is {}, more than its `max_us` of {}{}\nhelp: exchange the two (line {}): `min_us` is the least time between two words of the label, `max_us` the greatest, both in microseconds",
+        &[
+            Fact::Row(row),
+            Fact::Number(refused.count(row, "min_us")),
+            Fact::Number(refused.count(row, "max_us")),
+            Fact::Place(row, "min_us"),
+            Fact::Line(row, "max_us"),
+        ],
+    );
 }
 
 /// Tells of a stream whose words may come within one tick.
-pub fn tell_quick(out: &mut String, refused: Refused<'_>) -> Result<bool, AllocError> {
-    let Some(parameter) = refused.parameter(refused.row) else {
-        return Ok(false);
-    };
+pub(crate) fn tell_quick(refused: &mut Refused<'_>, parameter: usize) {
+    let row = refused.row;
     let least = refused.count(parameter, "min_us");
     let tick = refused.count(0, "tick_us");
-    refused.name(out, refused.row)?;
-    write!(
-        out,
-        " may bring a word every {least} microseconds, less than one tick: the `min_us` of "
-    )?;
-    refused.name(out, parameter)?;
-    write!(out, " is {least}, and `tick_us` is {tick}")?;
-    refused.locate_at(out, parameter, "min_us")?;
-    note(out)?;
-    refused.name(out, refused.row)?;
-    out.push_str(" is here")?;
-    refused.locate_at(out, refused.row, "label")?;
-    help(out)?;
-    if least < SHORTEST {
-        return told(write!(
-            out,
-            "write a `min_us` of {tick} or more in this parameter (no tick is shorter than {SHORTEST} microseconds)\n"
-        ));
+    refused.say(
+        "{} may bring a word every {} microseconds, less than one tick: the `min_us` of {} is {}, and `tick_us` is {}{}\nnote: {} is here{}",
+        &[
+            Fact::Row(row),
+            Fact::Number(least),
+            Fact::Row(parameter),
+            Fact::Number(least),
+            Fact::Number(tick),
+            Fact::Place(parameter, "min_us"),
+            Fact::Row(row),
+            Fact::Place(row, "label"),
+        ],
+    );
+    if least >= SHORTEST {
+        refused.say(
+            "\nhelp: write `tick_us = {}` or less (line {}; {} at least)",
+            &[
+                Fact::Number(least),
+                Fact::Line(0, "tick_us"),
+                Fact::Number(SHORTEST),
+            ],
+        );
     }
-    told(write!(
-        out,
-        "write `tick_us = {least}` or less ({SHORTEST} at least), or a `min_us` of {tick} or more in this parameter\n"
-    ))
+    refused.say(
+        "\nhelp: write a `min_us` of {} or more in this parameter, where its words do come no sooner (no tick is shorter than {} microseconds)",
+        &[Fact::Number(tick), Fact::Number(SHORTEST)],
+    );
 }
 
-/// The least number of ticks between two words that are sent, for a tick of this length.
+/// The fewest ticks between two words that are sent, for a tick of this length.
 fn fewest(least: u64, tick: u64) -> u64 {
     if tick == 0 {
         return u64::MAX;
@@ -67,7 +68,7 @@ fn fewest(least: u64, tick: u64) -> u64 {
     least.div_ceil(tick).saturating_add(1)
 }
 
-/// The greatest number of ticks between two words that are sent, for a tick of this length.
+/// The most ticks between two words that are sent, for a tick of this length.
 fn most(greatest: u64, tick: u64) -> u64 {
     if tick == 0 {
         return 0;
@@ -75,98 +76,89 @@ fn most(greatest: u64, tick: u64) -> u64 {
     (greatest / tick).saturating_sub(1)
 }
 
-/// The longest tick that leaves an interval, where one does.
-fn longest_tick(least: u64, greatest: u64) -> Option<u64> {
-    let mut longest = None;
+/// The longest tick that leaves an interval; 0 where none does.
+fn longest_tick(least: u64, greatest: u64) -> u64 {
+    let mut longest = 0u64;
     for tick in SHORTEST..LONGEST.saturating_add(1) {
         if fewest(least, tick) <= most(greatest, tick) {
-            longest = Some(tick);
+            longest = tick;
         }
     }
     longest
 }
 
-/// The least `max_us` that leaves an interval, for a tick of this length.
-fn least_maximum(least: u64, tick: u64) -> u64 {
-    fewest(least, tick).saturating_add(1).saturating_mul(tick)
-}
-
-/// The greatest `min_us` that leaves an interval, for a tick of this length.
-fn greatest_minimum(greatest: u64, tick: u64) -> u64 {
-    most(greatest, tick).saturating_sub(1).saturating_mul(tick)
-}
-
 /// Writes which changes leave an interval.
-fn tell_ways(out: &mut String, least: u64, greatest: u64, tick: u64) -> Result<(), AllocError> {
-    help(out)?;
-    match longest_tick(least, greatest) {
-        Some(longest) => write!(
-            out,
-            "shorten the tick: `tick_us = {longest}` is the longest that serves this label\n"
-        )?,
-        None if least == greatest => out.push_str(
-            "no tick serves this label, since its `min_us` and `max_us` are the same\n",
-        )?,
-        None => write!(
-            out,
-            "no tick from {SHORTEST} to {LONGEST} serves this label, since its `min_us` and `max_us` are too near\n"
-        )?,
-    }
-    let maximum = least_maximum(least, tick);
-    let minimum = greatest_minimum(greatest, tick);
-    help(out)?;
-    write!(out, "with ticks of {tick} the parameter wants")?;
-    if maximum <= LONGEST_US {
-        write!(out, " a `max_us` of {maximum} or more")?;
-    }
-    if maximum <= LONGEST_US && minimum >= 1 {
-        out.push_str(", or")?;
-    }
+fn tell_ways(refused: &mut Refused<'_>, least: u64, greatest: u64, tick: u64) {
+    let longest = longest_tick(least, greatest);
+    let sentence = if longest != 0 {
+        "\nhelp: shorten the tick (line {}): `tick_us = {}` is the longest that serves this label"
+    } else if least == greatest {
+        "\nnote: no tick serves this label, since its `min_us` and `max_us` are the same"
+    } else {
+        "\nnote: no tick serves this label, since its `min_us` and `max_us` are too near"
+    };
+    refused.say(sentence, &[Fact::Line(0, "tick_us"), Fact::Number(longest)]);
+    let maximum = fewest(least, tick).saturating_add(1).saturating_mul(tick);
+    let minimum = most(greatest, tick).saturating_sub(1).saturating_mul(tick);
     if minimum >= 1 {
-        write!(out, " a `min_us` of {minimum} or less")?;
+        refused.say(
+            "\nhelp: with ticks of {} write a `min_us` of {} or less: words may then come and be sent sooner after one another",
+            &[Fact::Number(tick), Fact::Number(minimum)],
+        );
     }
-    out.push_str("\n")
-}
-
-/// Writes where the fewest and the most ticks come from.
-fn tell_bounds(out: &mut String, least: u64, greatest: u64, tick: u64) -> Result<(), AllocError> {
-    let (low, high) = (fewest(least, tick), most(greatest, tick));
-    note(out)?;
-    write!(
-        out,
-        "the fewest are `min_us / tick_us` rounded up, and one more: {least} / {tick} gives {low}\n"
-    )?;
-    note(out)?;
-    write!(
-        out,
-        "the most are `max_us / tick_us` rounded down, less one: {greatest} / {tick} gives {high}\n"
-    )
+    if maximum <= LONGEST_US {
+        refused.say(
+            "\nhelp: with ticks of {} write a `max_us` of {} or more; this weakens what is promised: words may be further apart",
+            &[Fact::Number(tick), Fact::Number(maximum)],
+        );
+    }
 }
 
 /// Tells of a label that no whole number of ticks serves.
-pub fn tell_narrow(out: &mut String, refused: Refused<'_>) -> Result<bool, AllocError> {
-    let Some(parameter) = refused.parameter(refused.row) else {
-        return Ok(false);
-    };
+pub(crate) fn tell_narrow(refused: &mut Refused<'_>, parameter: usize) {
+    let row = refused.row;
     let least = refused.count(parameter, "min_us");
     let greatest = refused.count(parameter, "max_us");
     let tick = refused.count(0, "tick_us");
     let (low, high) = (fewest(least, tick), most(greatest, tick));
-    refused.name(out, refused.row)?;
-    write!(
-        out,
-        " cannot be sent every {least} to {greatest} microseconds, as "
-    )?;
-    refused.name(out, parameter)?;
-    write!(
-        out,
-        " wants, in ticks of {tick}: it would have at least {low} and at most {high} ticks between two words"
-    )?;
-    refused.locate_at(out, parameter, "min_us")?;
-    tell_bounds(out, least, greatest, tick)?;
-    note(out)?;
-    refused.name(out, refused.row)?;
-    out.push_str(" is here")?;
-    refused.locate_at(out, refused.row, "label")?;
-    told(tell_ways(out, least, greatest, tick))
+    refused.say(
+        "{} cannot be sent every {} to {} microseconds, as {} wants, in ticks of {}: it would have at least {} and at most {} ticks between two words{}",
+        &[
+            Fact::Row(row),
+            Fact::Number(least),
+            Fact::Number(greatest),
+            Fact::Row(parameter),
+            Fact::Number(tick),
+            Fact::Number(low),
+            Fact::Number(high),
+            Fact::Place(parameter, "min_us"),
+        ],
+    );
+    refused.say(
+        "\nnote: the fewest are `min_us / tick_us` rounded up, and one more: {} / {} gives {}\nnote: the most are `max_us / tick_us` rounded down, less one: {} / {} gives {}\nnote: {} is here{}",
+        &[
+            Fact::Number(least),
+            Fact::Number(tick),
+            Fact::Number(low),
+            Fact::Number(greatest),
+            Fact::Number(tick),
+            Fact::Number(high),
+            Fact::Row(row),
+            Fact::Place(row, "label"),
+        ],
+    );
+    tell_ways(refused, least, greatest, tick);
+}
+
+/// Tells of a stream or a label by its parameter, where it has one.
+pub(crate) fn tell_interval(refused: &mut Refused<'_>, is_stream: bool) -> bool {
+    let Some(parameter) = parameter_of(refused, refused.row) else {
+        return false;
+    };
+    if is_stream {
+        tell_quick(refused, parameter);
+    } else {
+        tell_narrow(refused, parameter);
+    }
+    true
 }

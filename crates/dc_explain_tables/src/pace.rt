@@ -1,10 +1,12 @@
 //! Routers and outputs that could never make the steps that they are to make.
-use crate::refused::{Refused, told};
-use dc_tell::{Several, help, note};
-use std::alloc::AllocError;
+use dc_explain_text::{Fact, Refused};
 
 /// The most steps, and the longest time in ticks.
 const MOST: u64 = 1_000;
+
+/// That a way out satisfies one rule and perhaps no other.
+const ALONE: &str =
+    "\nnote: these numbers satisfy this rule alone: `dc429 find TABLES` then tells whether they are enough";
 
 /// A number divided by another, rounded up; that number where the other is 0.
 fn parts(number: u64, by: u64) -> u64 {
@@ -17,93 +19,106 @@ fn times(number: u64, by: u64) -> u64 {
 }
 
 /// Tells of a router that makes more steps in its ticks than it may.
-pub fn tell_router(out: &mut String, refused: Refused<'_>) -> Result<bool, AllocError> {
-    let steps = refused.count(refused.row, "steps");
-    let within = refused.count(refused.row, "within");
-    let most = refused.count(refused.row, "most");
+pub(crate) fn tell_router(refused: &mut Refused<'_>) {
+    let row = refused.row;
+    let steps = refused.count(row, "steps");
+    let within = refused.count(row, "within");
+    let most = refused.count(row, "most");
     let room = most.saturating_mul(within);
-    refused.name(out, refused.row)?;
-    let ticks = Several(within, "tick", "ticks");
-    let wanted = Several(steps, "step", "steps");
-    write!(
-        out,
-        " must make {wanted} within {ticks}, and with its `most` of {most} a tick it can make {room} in that time"
-    )?;
-    refused.locate_at(out, refused.row, "steps")?;
-    help(out)?;
-    write!(out, "write `steps` of {room} or less")?;
+    refused.say(
+        "{} must make at least {} within {}, and with its `most` of {} a tick it can make {} in that time{}",
+        &[
+            Fact::Row(row),
+            Fact::Several(steps, "step", "steps"),
+            Fact::Several(within, "tick", "ticks"),
+            Fact::Number(most),
+            Fact::Number(room),
+            Fact::Place(row, "steps"),
+        ],
+    );
     let (more, longer) = (parts(steps, within), parts(steps, most));
     if more <= MOST {
-        write!(out, ", or a `most` of {more} or more")?;
+        refused.say(
+            "\nhelp: write a `most` of {} or more (line {})",
+            &[Fact::Number(more), Fact::Line(row, "most")],
+        );
     }
+    refused.say(
+        "\nhelp: write `steps` of {} or less; this weakens what is promised: the router makes fewer steps",
+        &[Fact::Number(room)],
+    );
     if longer <= MOST {
-        write!(out, ", or a `within` of {longer} or more")?;
+        refused.say(
+            "\nhelp: write a `within` of {} or more; this weakens what is promised: the router makes them in a longer time",
+            &[Fact::Number(longer)],
+        );
     }
-    told(out.push_str("\n"))
+    refused.say(ALONE, &[]);
 }
 
 /// The least time from one word of an output to the next, in microseconds.
-fn spacing(speed: &[u8]) -> u64 {
-    if speed == b"low".as_slice() {
-        3_050
-    } else {
-        365
-    }
+fn spacing(is_low: bool) -> u64 {
+    if is_low { 3_050 } else { 365 }
 }
 
 /// Writes which changes let an output keep its pace.
-fn tell_paces(out: &mut String, refused: Refused<'_>, gap: u64) -> Result<(), AllocError> {
-    let steps = refused.count(refused.row, "steps");
-    let within = refused.count(refused.row, "within");
-    let tick = refused.count(0, "tick_us");
-    let longer = steps.saturating_mul(gap);
-    let fewer = times(within, gap);
-    help(out)?;
-    let mut lead = "write ";
+fn tell_paces(refused: &mut Refused<'_>, gap: u64, is_low: bool) {
+    let row = refused.row;
+    let steps = refused.count(row, "steps");
+    let within = refused.count(row, "within");
+    let quick = steps.saturating_mul(parts(spacing(false), refused.count(0, "tick_us")));
+    let (longer, fewer) = (steps.saturating_mul(gap), times(within, gap));
+    if is_low && quick <= within {
+        refused.say(
+            "\nhelp: write `speed = \"high\"` (line {}), where the bus is of that speed",
+            &[Fact::Line(row, "speed")],
+        );
+    }
     if fewer >= 1 {
-        write!(out, "{lead}`steps` of {fewer} or less")?;
-        lead = ", or ";
+        refused.say(
+            "\nhelp: write `steps` of {} or less; this weakens what is promised: the output sends fewer words",
+            &[Fact::Number(fewer)],
+        );
     }
     if longer <= MOST {
-        write!(out, "{lead}a `within` of {longer} or more")?;
-        lead = ", or ";
+        refused.say(
+            "\nhelp: write a `within` of {} or more; this weakens what is promised: the output sends them in a longer time",
+            &[Fact::Number(longer)],
+        );
     }
-    let quick = steps.saturating_mul(parts(spacing(b"high"), tick));
-    if refused.value(refused.row, "speed") == b"low".as_slice() && quick <= within {
-        write!(out, "{lead}`speed = \"high\"`")?;
-    }
-    out.push_str("\n")
+    refused.say(ALONE, &[]);
 }
 
 /// Tells of an output that its wire lets send less than it is to.
-pub fn tell_output(out: &mut String, refused: Refused<'_>) -> Result<bool, AllocError> {
-    let steps = refused.count(refused.row, "steps");
-    let within = refused.count(refused.row, "within");
+pub(crate) fn tell_output(refused: &mut Refused<'_>) {
+    let row = refused.row;
+    let steps = refused.count(row, "steps");
+    let within = refused.count(row, "within");
     let tick = refused.count(0, "tick_us");
-    let speed = refused.value(refused.row, "speed");
-    let spacing = spacing(speed);
-    let gap = parts(spacing, tick);
-    let word = if speed == b"low".as_slice() {
-        "low"
-    } else {
-        "high"
-    };
-    let (wanted, ticks) = (
-        Several(steps, "word", "words"),
-        Several(within, "tick", "ticks"),
+    let is_low = refused.layout.value(row, "speed") == b"low".as_slice();
+    let gap = parts(spacing(is_low), tick);
+    let taken = steps.saturating_mul(gap);
+    refused.say(
+        "{} must send at least {} within {}, and its wire takes {} for them{}",
+        &[
+            Fact::Row(row),
+            Fact::Several(steps, "word", "words"),
+            Fact::Several(within, "tick", "ticks"),
+            Fact::Several(taken, "tick", "ticks"),
+            Fact::Place(row, "steps"),
+        ],
     );
-    let (apart, taken) = (Several(gap, "tick", "ticks"), steps.saturating_mul(gap));
-    let taken = Several(taken, "tick", "ticks");
-    refused.name(out, refused.row)?;
-    write!(
-        out,
-        " must send {wanted} within {ticks}, and its wire takes {taken} for them"
-    )?;
-    refused.locate_at(out, refused.row, "steps")?;
-    note(out)?;
-    write!(
-        out,
-        "at {word} speed words are sent {spacing} microseconds apart or more, with ticks of {tick} at least {apart}: {steps} x {gap} makes {taken}\n"
-    )?;
-    told(tell_paces(out, refused, gap))
+    refused.say(
+        "\nnote: at {} speed words are sent {} microseconds apart or more, with ticks of {} at least {}: {} x {} makes {}",
+        &[
+            Fact::Word(if is_low { "low" } else { "high" }),
+            Fact::Number(spacing(is_low)),
+            Fact::Number(tick),
+            Fact::Several(gap, "tick", "ticks"),
+            Fact::Number(steps),
+            Fact::Number(gap),
+            Fact::Number(taken),
+        ],
+    );
+    tell_paces(refused, gap, is_low);
 }

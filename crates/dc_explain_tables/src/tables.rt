@@ -1,98 +1,123 @@
 //! Tables that were refused.
 use crate::counts::tell_count;
-use crate::document::{explain_no_document, without_mark};
-use crate::lists::tell_misfit;
-use crate::numbers::{tell_narrow, tell_quick, tell_reversed};
+use crate::document::{tell_no_document, without_mark};
+use crate::names::{tell_no_name, tell_no_parameter};
+use crate::numbers::{tell_interval, tell_reversed};
+use crate::offsets::{tell_offset, tell_offset_twice};
 use crate::pace::{tell_output, tell_router};
-use crate::pairs::tell_pair;
-use crate::refused::Refused;
-use crate::shape::{tell_absent, tell_unknown, tell_version};
-use crate::visits::{tell_formats, tell_offset, tell_offset_twice, tell_visits};
-use crate::walker::layout_of;
+use crate::twins::{tell_source_twice, tell_twin};
+use crate::visits::{tell_formats, tell_visits};
 use dc_build::read_tables;
-use dc_document::{BuildError, TableFault, TableRule};
-use dc_tell::{File, begin, help};
-use std::alloc::{AllocError, Global};
+use dc_document::{BuildError, Section, TableFault, TableRule};
+use dc_explain_text::{
+    Fact, Misfit, Refused, tell_absent, tell_misfit, tell_no_table, tell_unknown, tell_version,
+};
+use dc_layout::{Kind, layout_of};
+use dc_tell::{Explanation, File};
+use std::alloc::Global;
+
+/// The kind of a table.
+fn kind_of(section: Section) -> Kind {
+    match section {
+        Section::Top => Kind::Top,
+        Section::Parameter => Kind::Parameter,
+        Section::Bus => Kind::Bus,
+        Section::Stream => Kind::Stream,
+        Section::Router => Kind::Router,
+        Section::Output => Kind::Output,
+        Section::Label => Kind::Label,
+    }
+}
+
+/// Tells of a rule of which there is always something to say.
+fn tell_always(refused: &mut Refused<'_>, rule: TableRule) -> bool {
+    match rule {
+        TableRule::IntervalReversed => tell_reversed(refused),
+        TableRule::ParameterAbsent => tell_no_parameter(refused),
+        TableRule::BusNotVisitedByOne => tell_visits(refused),
+        TableRule::RouterCannotKeepPace => tell_router(refused),
+        TableRule::OutputCannotKeepPace => tell_output(refused),
+        _ => return false,
+    }
+    true
+}
 
 /// Tells what there is to say of a rule on several values.
-fn tell_rule(out: &mut String, refused: Refused<'_>) -> Result<bool, AllocError> {
-    match refused.fault.rule {
-        TableRule::IntervalReversed => tell_reversed(out, refused),
-        TableRule::MinimumBelowOneTick => tell_quick(out, refused),
-        TableRule::NoOutputInterval => tell_narrow(out, refused),
-        TableRule::BusNotVisitedByOne => tell_visits(out, refused),
-        TableRule::FormatsDiffer => tell_formats(out, refused),
-        TableRule::OffsetPastFrame => tell_offset(out, refused),
-        TableRule::OffsetDoubled => tell_offset_twice(out, refused),
-        TableRule::RouterCannotKeepPace => tell_router(out, refused),
-        TableRule::OutputCannotKeepPace => tell_output(out, refused),
-        _ => tell_pair(out, refused),
+fn tell_rule(refused: &mut Refused<'_>, rule: TableRule) -> bool {
+    match rule {
+        TableRule::MinimumBelowOneTick => tell_interval(refused, true),
+        TableRule::NoOutputInterval => tell_interval(refused, false),
+        TableRule::FormatsDiffer => tell_formats(refused),
+        TableRule::OffsetPastFrame => tell_offset(refused),
+        TableRule::OffsetDoubled => tell_offset_twice(refused),
+        TableRule::NameAbsent => tell_no_name(refused),
+        TableRule::SourceDoubled => tell_source_twice(refused),
+        TableRule::ParameterDoubled
+        | TableRule::NameDoubled
+        | TableRule::StreamsOverlap
+        | TableRule::LabelDoubled => tell_twin(refused, rule),
+        _ => tell_always(refused, rule),
     }
 }
 
 /// Tells what there is to say of a rule. Of what is written by escape sequences only its shape is told.
-fn tell(out: &mut String, refused: Refused<'_>) -> Result<bool, AllocError> {
-    match refused.fault.rule {
-        TableRule::VersionUnknown => tell_version(out, refused),
-        TableRule::KeyAbsent => tell_absent(out, refused),
-        TableRule::KeyUnknown => tell_unknown(out, refused),
-        TableRule::WrongKind | TableRule::NumberOutOfRange | TableRule::WrongSpelling =>
-            tell_misfit(out, refused),
-        TableRule::CountOutOfRange => tell_count(out, refused),
-        _ if refused.layout.is_escaped => Ok(false),
-        _ => tell_rule(out, refused),
+fn tell(refused: &mut Refused<'_>, rule: TableRule) -> bool {
+    match rule {
+        TableRule::VersionUnknown => tell_version(refused),
+        TableRule::KeyAbsent => tell_absent(refused),
+        TableRule::KeyUnknown => tell_unknown(refused),
+        TableRule::WrongKind => tell_no_table(refused) || tell_misfit(refused, Misfit::Kind),
+        TableRule::NumberOutOfRange => tell_misfit(refused, Misfit::Range),
+        TableRule::WrongSpelling => tell_misfit(refused, Misfit::Spelling),
+        TableRule::CountOutOfRange => tell_count(refused),
+        _ if refused.layout.is_escaped => false,
+        _ => tell_rule(refused, rule),
     }
 }
 
 /// Tells the rule alone, where its table stands.
-fn tell_plainly(out: &mut String, refused: Refused<'_>) -> Result<(), AllocError> {
-    let what = refused.fault.rule.explanation();
-    let code = refused.fault.rule.code();
-    refused.name(out, refused.row)?;
-    write!(out, ": {what}")?;
-    refused.locate_row(out)?;
-    help(out)?;
-    write!(out, "`dc429 explain {code}` says more of this rule\n")
+fn tell_plainly(refused: &mut Refused<'_>, rule: TableRule) {
+    let row = refused.row;
+    refused.say(
+        "{}: {}{}\nhelp: `dc429 explain {}` says more of this rule",
+        &[
+            Fact::Row(row),
+            Fact::Word(rule.explanation()),
+            Fact::Place(row, ""),
+            Fact::Word(rule.code()),
+        ],
+    );
 }
 
-/// Explains a fault of a document.
-fn explain_fault(
-    alloc: Global,
-    out: &mut String,
-    file: File<'_>,
-    fault: TableFault,
-) -> Result<(), AllocError> {
-    let file = without_mark(file);
-    let layout = layout_of(alloc, file.text)?;
-    let row = layout.row(fault.section, fault.index).unwrap_or(0);
-    let refused = Refused {
+/// What is told of a text that is refused by a fault; nothing where memory was refused.
+fn explain(alloc: Global, file: File<'_>, fault: TableFault) -> Option<String> {
+    let is_document = fault.rule != TableRule::NotToml;
+    let is_short = file.text.len() <= dc_document::TEXT_LIMIT;
+    let file = if is_short { without_mark(file) } else { file };
+    let text = if is_document { file.text } else { b"" };
+    let layout = layout_of(alloc, text, false)?;
+    let row = layout.row(kind_of(fault.section), fault.index).unwrap_or(0);
+    let mut refused = Refused {
         alloc,
+        out: Explanation::new(alloc),
         file,
-        layout: &layout,
-        fault,
+        layout,
         row,
     };
-    if !tell(out, refused)? {
-        tell_plainly(out, refused)?;
+    refused.out.begin(fault.rule.code());
+    if !is_document {
+        tell_no_document(&mut refused);
+    } else if !tell(&mut refused, fault.rule) {
+        tell_plainly(&mut refused, fault.rule);
     }
-    Ok(())
+    let Refused { out, .. } = refused;
+    out.finish()
 }
 
 /// Explains why a text gives no tables; nothing where it does, or where memory was refused.
-///
-/// # Errors
-/// Where memory is refused.
-pub fn explain_tables(alloc: Global, file: File<'_>) -> Result<Option<String>, AllocError> {
-    let fault = match read_tables(alloc, file.text) {
-        Err(BuildError::Refused(fault)) => fault,
-        _ => return Ok(None),
-    };
-    let mut out = String::new(alloc);
-    begin(&mut out, fault.rule.code())?;
-    if fault.rule == TableRule::NotToml {
-        explain_no_document(alloc, &mut out, file)?;
-    } else {
-        explain_fault(alloc, &mut out, file, fault)?;
+pub fn explain_tables(alloc: Global, file: File<'_>) -> Option<String> {
+    match read_tables(alloc, file.text) {
+        Err(BuildError::Refused(fault)) => explain(alloc, file, fault),
+        _ => None,
     }
-    Ok(Some(out))
 }

@@ -1,0 +1,116 @@
+//! Offsets past the frame, or that two entries have.
+use dc_explain_text::{Fact, Refused, number};
+use dc_layout::{Kind, Span};
+
+/// The first offset of the label with the fault that is not below a frame, and where it stands.
+fn past(refused: &Refused<'_>, frame: u64) -> Option<(Span, u64)> {
+    for member in refused.layout.members(refused.row, "offsets") {
+        let offset = number(refused.layout.piece(*member)).unwrap_or(0);
+        if offset >= frame {
+            return Some((*member, offset));
+        }
+    }
+    None
+}
+
+/// Tells of an offset that is not below the frame of its output.
+pub(crate) fn tell_offset(refused: &mut Refused<'_>) -> bool {
+    let output = refused.parent(refused.row);
+    let frame = refused.count(output, "frame");
+    let Some((member, offset)) = past(refused, frame) else {
+        return false;
+    };
+    let last = frame.saturating_sub(1);
+    refused.say(
+        "`offsets` of {} has {}, and the ticks of the frame of {} are counted from 0 to {}, by its `frame` of {}{}\nhelp: write an offset of 0 to {}\nhelp: or a `frame` of {} or more, up to 100000 (line {}); this weakens what is promised: all labels of this output are then sent less often",
+        &[
+            Fact::Row(refused.row),
+            Fact::Number(offset),
+            Fact::Row(output),
+            Fact::Number(last),
+            Fact::Number(frame),
+            Fact::Here(member),
+            Fact::Number(last),
+            Fact::Number(offset.saturating_add(1)),
+            Fact::Line(output, "frame"),
+        ],
+    );
+    true
+}
+
+/// The offsets of an output, each with its label and where it stands; nothing where memory was refused.
+fn taken(refused: &Refused<'_>, output: usize) -> Option<Vec<(u64, usize, Span)>> {
+    let mut taken = Vec::new(refused.alloc);
+    for (row, it) in refused.layout.rows.iter().enumerate() {
+        if it.kind != Kind::Label || it.parent != output {
+            continue;
+        }
+        for member in refused.layout.members(row, "offsets") {
+            let offset = number(refused.layout.piece(*member)).unwrap_or(0);
+            if taken.push((offset, row, *member)).is_err() {
+                return None;
+            }
+        }
+    }
+    Some(taken)
+}
+
+/// The first offset of an output that no entry has.
+fn free(taken: &[(u64, usize, Span)], frame: u64) -> Option<u64> {
+    for at in 0..frame {
+        if !taken.iter().any(|(offset, _, _)| *offset == at) {
+            return Some(at);
+        }
+    }
+    None
+}
+
+/// The first entry of a label that has the offset of an earlier entry, and the label of that one.
+fn doubled(taken: &[(u64, usize, Span)], label: usize) -> Option<(u64, Span, usize)> {
+    for (number, (offset, row, member)) in taken.iter().enumerate() {
+        if *row != label {
+            continue;
+        }
+        for (other, holder, _) in taken.iter().take(number) {
+            if other == offset {
+                return Some((*offset, *member, *holder));
+            }
+        }
+    }
+    None
+}
+
+/// Tells of two entries of an output that have one offset.
+pub(crate) fn tell_offset_twice(refused: &mut Refused<'_>) -> bool {
+    let output = refused.parent(refused.row);
+    let Some(taken) = taken(refused, output) else {
+        refused.out.lose();
+        return false;
+    };
+    let Some((offset, member, holder)) = doubled(taken.as_slice(), refused.row) else {
+        return false;
+    };
+    refused.say(
+        "`offsets` of {} has {}, where in {} there is an entry already, of {} in line {}{}",
+        &[
+            Fact::Row(refused.row),
+            Fact::Number(offset),
+            Fact::Row(output),
+            Fact::Row(holder),
+            Fact::Line(holder, "offsets"),
+            Fact::Here(member),
+        ],
+    );
+    let frame = refused.count(output, "frame");
+    match free(taken.as_slice(), frame) {
+        Some(at) => refused.say(
+            "\nhelp: move one of the two; the first free offset of this output is {}",
+            &[Fact::Number(at)],
+        ),
+        None => refused.say(
+            "\nhelp: each of the {} ticks of this frame has an entry: take one out, or write a longer `frame` (line {}); both weaken what is promised: labels are then sent less often",
+            &[Fact::Number(frame), Fact::Line(output, "frame")],
+        ),
+    }
+    true
+}

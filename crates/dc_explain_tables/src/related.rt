@@ -1,0 +1,46 @@
+//! How tables of a text have to do with one another.
+use dc_explain_text::{Refused, number};
+use dc_layout::{Kind, Span};
+
+/// Whether two tables have the same at a key, in upper or lower case.
+pub(crate) fn agree(refused: &Refused<'_>, one: usize, other: usize, key: &str) -> bool {
+    let (left, right) = (
+        refused.layout.value(one, key),
+        refused.layout.value(other, key),
+    );
+    match (number(left), number(right)) {
+        (Some(left), Some(right)) => left == right,
+        _ => left.eq_ignore_ascii_case(right),
+    }
+}
+
+/// The parameter that a stream or a label names.
+pub(crate) fn parameter_of(refused: &Refused<'_>, row: usize) -> Option<usize> {
+    for (parameter, it) in refused.layout.rows.iter().enumerate() {
+        let is_it = it.kind == Kind::Parameter && agree(refused, row, parameter, "label");
+        if is_it && agree(refused, row, parameter, "equipment") {
+            return Some(parameter);
+        }
+    }
+    None
+}
+
+/// The first member of the list at a key of a table that is this name.
+pub(crate) fn member(refused: &Refused<'_>, row: usize, key: &str, name: &[u8]) -> Option<Span> {
+    for member in refused.layout.members(row, key) {
+        if refused.layout.bare(*member) == name {
+            return Some(*member);
+        }
+    }
+    None
+}
+
+/// The first router from a table on that visits a bus of this name.
+pub(crate) fn visitor(refused: &Refused<'_>, from: usize, bus: &[u8]) -> Option<usize> {
+    for (row, it) in refused.layout.rows.iter().enumerate().skip(from) {
+        if it.kind == Kind::Router && member(refused, row, "visits", bus).is_some() {
+            return Some(row);
+        }
+    }
+    None
+}

@@ -1,0 +1,231 @@
+//! A text that was refused, and what is told of it.
+use crate::keys::{Wanted, keys_of};
+use crate::values::{is_spelled, number};
+use dc_layout::{Form, Key, Kind, Layout, Span, called, unquoted};
+use dc_tell::{Explanation, File, Value, place_at};
+use std::alloc::Global;
+
+/// A text that was refused, the table of it that has the fault, and what is told.
+#[derive(Drop)]
+pub struct Refused<'a> {
+    /// What gives memory.
+    pub alloc: Global,
+    /// What is told.
+    pub out: Explanation,
+    /// The text.
+    pub file: File<'a>,
+    /// Where its tables stand.
+    pub layout: Layout<'a>,
+    /// The number of the table with the fault among all of the text.
+    pub row: usize,
+}
+
+/// What stands in a hole of a sentence.
+#[derive(Clone, Copy)]
+pub enum Fact {
+    /// A number.
+    Number(u64),
+    /// So many of what the first word names in the singular, the second in the plural.
+    Several(u64, &'static str, &'static str),
+    /// A word.
+    Word(&'static str),
+    /// A table by its kind, its number and its name.
+    Row(usize),
+    /// What stands at a key of a table, without quotes.
+    At(usize, &'static str),
+    /// A piece of the text.
+    Piece(Span),
+    /// The line in which a table has a key.
+    Line(usize, &'static str),
+    /// Where a table has a key, or where it stands itself: the line is shown, and the sentence ends.
+    Place(usize, &'static str),
+    /// Where a piece of the text stands, in the same way.
+    Here(Span),
+}
+
+/// The key of the name of a table.
+pub fn naming(kind: Kind) -> &'static str {
+    match kind {
+        Kind::InputClaim => "bus",
+        Kind::OutputClaim => "output",
+        Kind::LabelClaim => "label",
+        _ => "name",
+    }
+}
+
+impl<'a> Refused<'a> {
+    /// The kind of a table.
+    pub fn kind(&self, row: usize) -> Kind {
+        match self.layout.rows.get(row) {
+            None => Kind::None,
+            Some(it) => it.kind,
+        }
+    }
+
+    /// The table that a table stands in.
+    pub fn parent(&self, row: usize) -> usize {
+        match self.layout.rows.get(row) {
+            None => 0,
+            Some(it) => it.parent,
+        }
+    }
+
+    /// The number at a key of a table; 0 where there is none.
+    pub fn count(&self, row: usize, key: &str) -> u64 {
+        number(self.layout.value(row, key)).unwrap_or(0)
+    }
+
+    /// Whether the tables are of version 2.
+    pub fn is_policed(&self) -> bool {
+        self.count(0, "version") == 2
+    }
+
+    /// How many tables of a kind there are.
+    pub fn tables_of(&self, kind: Kind) -> usize {
+        self.layout
+            .rows
+            .iter()
+            .filter(|row| row.kind == kind)
+            .count()
+    }
+
+    /// The table of a kind that has this name.
+    pub fn named(&self, kind: Kind, name: &[u8]) -> Option<usize> {
+        for (row, it) in self.layout.rows.iter().enumerate() {
+            if it.kind == kind && self.layout.value(row, "name") == name {
+                return Some(row);
+            }
+        }
+        None
+    }
+
+    /// The names of the tables of a kind.
+    pub fn names(&mut self, kind: Kind) -> Vec<&'a str> {
+        match self.layout.names(self.alloc, kind) {
+            Some(names) => names,
+            None => {
+                self.out.lose();
+                Vec::new(self.alloc)
+            }
+        }
+    }
+
+    /// The names of the keys of the table with the fault.
+    pub fn keys(&mut self) -> Vec<&'static str> {
+        match keys_of(self.alloc, self.kind(self.row), self.is_policed()) {
+            Some(names) => names,
+            None => {
+                self.out.lose();
+                Vec::new(self.alloc)
+            }
+        }
+    }
+
+    /// Writes a table by its kind, its number and its name; a parameter has its label and its code for one.
+    fn put_row(&mut self, row: usize) {
+        let Some(it) = self.layout.rows.get(row).copied() else {
+            return;
+        };
+        let (kind, _) = called(it.kind);
+        let name = self.layout.value(row, naming(it.kind));
+        if row == 0 {
+            self.out.say(kind, &[]);
+            return;
+        }
+        let name = if is_spelled(Wanted::Name, name) {
+            str::from_utf8(name).unwrap_or("")
+        } else {
+            ""
+        };
+        let count = self.tables_of(it.kind);
+        self.out.put(Value::Thing(kind, it.index, count, name));
+        self.put_codes(row);
+    }
+
+    /// Writes the label and the equipment code of a parameter, where they are spelled as such.
+    fn put_codes(&mut self, row: usize) {
+        let label = self.layout.value(row, "label");
+        let equipment = self.layout.value(row, "equipment");
+        let is_spelled = is_spelled(Wanted::Label, label)
+            && is_spelled(Wanted::Equipment, equipment);
+        if self.kind(row) == Kind::Parameter && is_spelled {
+            let codes = [Value::Brief(label), Value::Brief(equipment)];
+            self.out.say(" (label {}, equipment {})", &codes);
+        }
+    }
+
+    /// The value at a key of a table, the key where it heads tables, or the table itself where it has no such key.
+    pub fn place(&self, row: usize, key: &str) -> usize {
+        if let Some(key) = self.layout.key(row, key.as_bytes()) {
+            return place_of(key);
+        }
+        match self.layout.rows.get(row) {
+            None => 0,
+            Some(it) => it.at.from,
+        }
+    }
+
+    /// Writes a fact.
+    fn put(&mut self, fact: Fact) {
+        match fact {
+            Fact::Number(number) => self.out.put(Value::Number(number)),
+            Fact::Several(count, one, many) => self.out.put(Value::Several(count, one, many)),
+            Fact::Word(word) => self.out.put(Value::Text(word)),
+            Fact::Row(row) => self.put_row(row),
+            Fact::At(row, key) => {
+                let value = self.layout.value(row, key);
+                self.out.put(Value::Brief(value));
+            }
+            Fact::Piece(span) => {
+                let piece = self.layout.piece(span);
+                self.out.put(Value::Brief(piece));
+            }
+            Fact::Line(row, key) => {
+                let place = place_at(self.file.text, self.place(row, key));
+                self.out.put(Value::Number(place.line as u64));
+            }
+            Fact::Place(row, key) => {
+                let place = self.place(row, key);
+                self.out.at(self.file, place);
+            }
+            Fact::Here(span) => self.out.at(self.file, span.from),
+        }
+    }
+
+    /// Goes on in the explanation with a sentence, in which each `{}` is a hole for the next fact; behind a line feed it
+    /// begins a line of its own, as `help: ..`.
+    pub fn say(&mut self, sentence: &'static str, facts: &[Fact]) {
+        let mut next = 0usize;
+        for (number, line) in sentence.split("\n").enumerate() {
+            if number != 0 {
+                self.out.end_line();
+                self.out.say("   = ", &[]);
+            }
+            for (hole, piece) in line.split("{}").enumerate() {
+                if hole != 0 {
+                    if let Some(fact) = facts.get(next) {
+                        self.put(*fact);
+                    }
+                    next = next.saturating_add(1);
+                }
+                if !piece.is_empty() {
+                    self.out.say(piece, &[]);
+                }
+            }
+        }
+    }
+}
+
+/// Where a key is shown: at its value, or at itself where it heads tables.
+pub fn place_of(key: Key) -> usize {
+    if key.form == Form::Value {
+        key.value.from
+    } else {
+        key.name.from
+    }
+}
+
+/// A key without the quotes round it.
+pub fn name_of(refused: &Refused<'_>, key: Key) -> Span {
+    unquoted(key.name, refused.layout.text)
+}

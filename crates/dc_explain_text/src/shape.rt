@@ -1,0 +1,304 @@
+//! Keys that are unknown or absent, and what stands in the place of a table.
+use crate::keys::{Wanted, key_of, other_with};
+use crate::refused::{Fact, Refused, name_of};
+use crate::wanted::tell_wanted;
+use dc_layout::{Form, Key, Kind, Span, called, is_of_certificate};
+use dc_tell::Value;
+
+/// The first key of the table with the fault that is unknown.
+fn unknown_key(refused: &Refused<'_>) -> Option<Key> {
+    let kind = refused.kind(refused.row);
+    let is_policed = refused.is_policed();
+    for key in refused.layout.keys.as_slice() {
+        let is_own = key.row == Some(refused.row);
+        if is_own && key_of(kind, refused.layout.bare(key.name), is_policed).is_none() {
+            return Some(*key);
+        }
+    }
+    None
+}
+
+/// What to do with a key of lists, or with one that has a value, that stands in a table of another kind.
+static ELSEWHERE: [(Kind, bool, &'static str); 4] = [
+    (
+        Kind::Top,
+        false,
+        "\nhelp: this is a key of the top: write it above the first line that begins with `[`, since a key belongs to the last such line above it",
+    ),
+    (
+        Kind::Top,
+        true,
+        "\nhelp: this is a list of the top: write `[[{}]]`",
+    ),
+    (
+        Kind::Bus,
+        true,
+        "\nhelp: streams stand in their bus: write `[[bus.stream]]`, below the `[[bus]]` that carries them",
+    ),
+    (
+        Kind::Output,
+        true,
+        "\nhelp: labels stand in their output: write `[[output.label]]`, below the `[[output]]` that sends them",
+    ),
+];
+
+/// Writes what to do with a key that another kind of table has.
+fn tell_elsewhere(refused: &mut Refused<'_>, key: Key, other: Kind) {
+    let is_list = key.form != Form::Value;
+    for (kind, is_of_lists, sentence) in &ELSEWHERE {
+        if *kind == other && *is_of_lists == is_list {
+            let name = name_of(refused, key);
+            return refused.say(sentence, &[Fact::Piece(name)]);
+        }
+    }
+    let (_, article) = called(other);
+    refused.say(
+        "\nhelp: {} has this key: write it in one, or take it out",
+        &[Fact::Word(article)],
+    );
+}
+
+/// Writes which keys the table with the fault has.
+fn tell_keys(refused: &mut Refused<'_>) {
+    let (_, article) = called(refused.kind(refused.row));
+    let names = refused.keys();
+    refused.out.put(Value::Text(article));
+    refused.out.say(" has ", &[]);
+    refused.out.put(Value::Names(names.as_slice()));
+}
+
+/// Writes which known key is most like an unknown one, and which keys there are.
+fn tell_known(refused: &mut Refused<'_>, key: Key) {
+    let names = refused.keys();
+    let name = str::from_utf8(refused.layout.bare(key.name)).unwrap_or("");
+    refused.say("\nhelp: ", &[]);
+    if let Some(like) = refused.out.nearest(name, names.as_slice()) {
+        refused.say("there is a key `{}`; ", &[Fact::Word(like)]);
+    }
+    tell_keys(refused);
+    refused.say(" and no other", &[]);
+}
+
+/// Tells of a key that is unknown.
+pub fn tell_unknown(refused: &mut Refused<'_>) -> bool {
+    let Some(key) = unknown_key(refused) else {
+        return false;
+    };
+    let kind = refused.kind(refused.row);
+    let bare = refused.layout.bare(key.name);
+    let is_late = key_of(kind, bare, true).is_some();
+    let other = other_with(kind, bare, key.form != Form::Value);
+    let what = if is_late || other != Kind::None {
+        "does not belong there"
+    } else if is_of_certificate(kind) {
+        "certificates do not know"
+    } else {
+        "tables do not know"
+    };
+    let name = name_of(refused, key);
+    refused.say(
+        "{} has a key `{}` that {}{}",
+        &[
+            Fact::Row(refused.row),
+            Fact::Piece(name),
+            Fact::Word(what),
+            Fact::Here(key.name),
+        ],
+    );
+    if is_late {
+        refused.say(
+            "\nhelp: tables of version 2 have this key: write `version = 2` at the top, or take the key out",
+            &[],
+        );
+    } else if other != Kind::None {
+        tell_elsewhere(refused, key, other);
+    } else {
+        tell_known(refused, key);
+    }
+    true
+}
+
+/// The first key that the table with the fault lacks.
+fn lacked(refused: &mut Refused<'_>) -> Option<&'static str> {
+    let is_top = refused.kind(refused.row) == Kind::Top;
+    for name in refused.keys().as_slice() {
+        let may_lack = is_top && *name != "version" && *name != "tick_us";
+        if !may_lack && refused.layout.key(refused.row, name.as_bytes()).is_none() {
+            return Some(*name);
+        }
+    }
+    None
+}
+
+/// How many tables of the kind of that with the fault, but this one, have this at a key.
+fn holders(refused: &Refused<'_>, key: &str, value: &[u8]) -> u64 {
+    let kind = refused.kind(refused.row);
+    let mut count = 0u64;
+    for (row, it) in refused.layout.rows.iter().enumerate() {
+        if it.kind == kind && row != refused.row && refused.layout.value(row, key) == value {
+            count = count.saturating_add(1);
+        }
+    }
+    count
+}
+
+/// How many values are counted at most, to find which one most tables have.
+const COUNTED: usize = 32;
+
+/// A table of the kind of that with the fault that has at a key what most others have there, and how many have it.
+fn usual(refused: &Refused<'_>, key: &str) -> Option<(usize, u64)> {
+    let kind = refused.kind(refused.row);
+    let mut usual = None;
+    let mut most = 0u64;
+    let mut counted = 0usize;
+    for (row, it) in refused.layout.rows.iter().enumerate() {
+        let value = refused.layout.value(row, key);
+        if it.kind != kind || row == refused.row || value.is_empty() || counted >= COUNTED {
+            continue;
+        }
+        counted = counted.saturating_add(1);
+        let count = holders(refused, key, value);
+        if count > most {
+            most = count;
+            usual = Some((row, count));
+        }
+    }
+    usual
+}
+
+/// Writes what most other tables of the kind have at a key.
+fn tell_usual(refused: &mut Refused<'_>, key: &'static str) {
+    let Some((usual, most)) = usual(refused, key) else {
+        return;
+    };
+    let kind = refused.kind(refused.row);
+    let (name, _) = called(kind);
+    let others = (refused.tables_of(kind) as u64).saturating_sub(1);
+    if others == 1 {
+        refused.say(
+            "; the other {} has {}",
+            &[Fact::Word(name), Fact::At(usual, key)],
+        );
+    } else if others == most {
+        refused.say(
+            "; the other {} tables have {}",
+            &[Fact::Word(name), Fact::At(usual, key)],
+        );
+    } else {
+        refused.say(
+            "; {} of the {} other {} tables have {}",
+            &[
+                Fact::Number(most),
+                Fact::Number(others),
+                Fact::Word(name),
+                Fact::At(usual, key),
+            ],
+        );
+    }
+}
+
+/// Where a key of the top stands below a heading.
+fn misplaced(refused: &Refused<'_>, name: &str) -> Option<Span> {
+    for key in refused.layout.keys.as_slice() {
+        let is_it = refused.layout.bare(key.name) == name.as_bytes() && key.form == Form::Value;
+        if key.row != Some(0) && is_it {
+            return Some(key.name);
+        }
+    }
+    None
+}
+
+/// Writes where a key of the top stands that stands below a heading.
+fn tell_misplaced(refused: &mut Refused<'_>, name: &'static str) {
+    let Some(place) = misplaced(refused, name) else {
+        return;
+    };
+    refused.say(
+        "\nnote: there is a `{}`, but below a line that begins with `[`, and so in that table: move it above the first such line{}",
+        &[Fact::Word(name), Fact::Here(place)],
+    );
+}
+
+/// Tells of a key that is not there.
+pub fn tell_absent(refused: &mut Refused<'_>) -> bool {
+    let Some(name) = lacked(refused) else {
+        return false;
+    };
+    let kind = refused.kind(refused.row);
+    let Some((wanted, meaning)) = key_of(kind, name.as_bytes(), true) else {
+        return false;
+    };
+    refused.say(
+        "{} has no key `{}`{}\nhelp: add `{}` ({}): ",
+        &[
+            Fact::Row(refused.row),
+            Fact::Word(name),
+            Fact::Place(refused.row, ""),
+            Fact::Word(name),
+            Fact::Word(meaning),
+        ],
+    );
+    tell_wanted(refused, wanted);
+    if matches!(
+        wanted,
+        Wanted::Number(_, _, _) | Wanted::Word(_) | Wanted::Truth
+    ) {
+        tell_usual(refused, name);
+    }
+    if kind == Kind::Top {
+        tell_misplaced(refused, name);
+    }
+    true
+}
+
+/// Tells of what stands in the place of a table.
+pub fn tell_no_table(refused: &mut Refused<'_>) -> bool {
+    let Some(row) = refused.layout.rows.get(refused.row).copied() else {
+        return false;
+    };
+    let Some(instead) = row.instead else {
+        return false;
+    };
+    let what = if refused.layout.is_json {
+        "an object in braces"
+    } else {
+        "a table with keys, under a heading of its own or in braces,"
+    };
+    refused.say(
+        "{} is {}, and {} is wanted{}\nhelp: in place of it write one: ",
+        &[
+            Fact::Row(refused.row),
+            Fact::Piece(instead),
+            Fact::Word(what),
+            Fact::Here(instead),
+        ],
+    );
+    tell_keys(refused);
+    true
+}
+
+/// Tells of a version that is none.
+pub fn tell_version(refused: &mut Refused<'_>) -> bool {
+    let is_json = refused.layout.is_json;
+    let todo = if is_json {
+        "{}\nhelp: write `\"version\":1`, the number without quotes, whatever the version of the tables is"
+    } else {
+        "{}\nhelp: begin the file with a line `version = 1`, or with `version = 2` for tables whose buses have `police` and whose streams have `jitter_us`"
+    };
+    match refused.layout.key(0, b"version") {
+        None => refused.say("{} has no `version`", &[Fact::Row(0)]),
+        Some(key) if is_json => refused.say(
+            "`version` is {}, and there are certificates of version 1 alone",
+            &[Fact::Piece(key.value)],
+        ),
+        Some(key) => refused.say(
+            "`version` is {}, and there are versions 1 and 2",
+            &[Fact::Piece(key.value)],
+        ),
+    }
+    refused.say(todo, &[Fact::Place(0, "version")]);
+    if !is_json {
+        tell_misplaced(refused, "version");
+    }
+    true
+}
