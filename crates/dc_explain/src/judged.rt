@@ -3,9 +3,10 @@ use crate::output::Answer;
 use crate::plain::explain_plainly;
 use crate::ran::Ran;
 use dc_build::read_tables;
-use dc_cert::{Certificate, read_cert};
+use dc_cert::{CertFault, Certificate, read_cert};
 use dc_codes::Kind;
 use dc_command::Order;
+use dc_document::BuildError;
 use dc_explain_certificate::explain_certificate;
 use dc_explain_tables::explain_tables;
 use dc_explain_verdict::{Files, explain_find, explain_verdict};
@@ -26,14 +27,22 @@ pub fn explain_unread(
     if answer.code.starts_with('K') {
         let text = ran.second.text.as_slice();
         let name = certificate;
-        return match explain_certificate(alloc, File { name, text }) {
+        let told = match read_cert(alloc, text) {
+            Err(CertFault::Unreadable(fault)) => explain_certificate(alloc, File { name, text }, fault),
+            _ => None,
+        };
+        return match told {
             Some(told) => Ok(Some(told)),
             None => explain_plainly(alloc, Kind::Certificate, answer.code),
         };
     }
     let text = ran.first.text.as_slice();
     let name = tables;
-    match explain_tables(alloc, File { name, text }) {
+    let told = match read_tables(alloc, text) {
+        Err(BuildError::Refused(fault)) => explain_tables(alloc, File { name, text }, fault),
+        _ => None,
+    };
+    match told {
         Some(told) => Ok(Some(told)),
         None => explain_plainly(alloc, Kind::Table, answer.code),
     }

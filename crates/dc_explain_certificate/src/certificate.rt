@@ -1,6 +1,6 @@
 //! Certificates that were refused.
 use crate::document::tell_no_document;
-use dc_cert::{CertFault, CertRule, Fault, LIST_LIMIT, TextPlace, read_cert};
+use dc_cert::{CertRule, Fault, LIST_LIMIT, TextPlace};
 use dc_document::TEXT_LIMIT;
 use dc_explain_text::{
     Fact, Misfit, Refused, tell_absent, tell_misfit, tell_no_table, tell_unknown, tell_version,
@@ -71,8 +71,8 @@ fn tell_plainly(refused: &mut Refused<'_>, code: &'static str) {
     );
 }
 
-/// What is told of a text that is refused by a fault; nothing where memory was refused.
-fn explain(alloc: Global, file: File<'_>, fault: Fault) -> Option<String> {
+/// Explains why a text gives no certificate, by its fault; nothing where memory was refused.
+pub fn explain_certificate(alloc: Global, file: File<'_>, fault: Fault) -> Option<String> {
     let is_long = file.text.len() > TEXT_LIMIT;
     let layout = layout_of(alloc, if is_long { b"" } else { file.text }, true)?;
     let (kind, index) = object_at(fault.place);
@@ -96,12 +96,4 @@ fn explain(alloc: Global, file: File<'_>, fault: Fault) -> Option<String> {
     }
     let Refused { out, .. } = refused;
     out.finish()
-}
-
-/// Explains why a text gives no certificate; nothing where it does, or where memory was refused.
-pub fn explain_certificate(alloc: Global, file: File<'_>) -> Option<String> {
-    match read_cert(alloc, file.text) {
-        Err(CertFault::Unreadable(fault)) => explain(alloc, file, fault),
-        _ => None,
-    }
 }

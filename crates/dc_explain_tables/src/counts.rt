@@ -5,6 +5,17 @@ use dc_layout::{Kind, kind_at};
 /// The most streams of all buses, the most labels of all outputs, and the most offsets of one output.
 const MOST_IN_ALL: u64 = 1_024;
 
+/// How many tables of a kind stand in a table.
+fn tables_in(refused: &Refused<'_>, row: usize, kind: Kind) -> u64 {
+    let mut count = 0u64;
+    for it in refused.layout.rows.as_slice() {
+        if it.kind == kind && it.parent == row {
+            count = count.saturating_add(1);
+        }
+    }
+    count
+}
+
 /// How many members the list at a key has, and how many it may have; none where it is no list.
 fn members_at(refused: &Refused<'_>, name: &str, wanted: Wanted) -> Option<(u64, u64)> {
     let row = refused.row;
@@ -13,12 +24,7 @@ fn members_at(refused: &Refused<'_>, name: &str, wanted: Wanted) -> Option<(u64,
         Wanted::Offsets => 256,
         Wanted::Tables(most, _) => {
             let kind = kind_at(refused.kind(row), name.as_bytes());
-            let own = refused
-                .layout
-                .rows
-                .iter()
-                .filter(|it| it.kind == kind && it.parent == row);
-            return Some((own.count() as u64, most));
+            return Some((tables_in(refused, row, kind), most));
         }
         _ => return None,
     };

@@ -85,12 +85,15 @@ pub(crate) fn tell_no_parameter(refused: &mut Refused<'_>) {
 /// The names that may stand in the list at a key in the place of one that no table has: none that stands there already,
 /// and of buses those that no router visits; nothing where memory was refused.
 fn candidates<'a>(refused: &Refused<'a>, key: &str, kind: Kind) -> Option<Vec<&'a str>> {
-    let mut names = refused.layout.names(refused.alloc, kind)?;
-    names.retain(|name| {
+    let mut names = Vec::new(refused.alloc);
+    for name in refused.layout.names(refused.alloc, kind)?.as_slice() {
         let bytes = name.as_bytes();
         let is_listed = member(refused, refused.row, key, bytes).is_some();
-        !is_listed && (kind != Kind::Bus || visitor(refused, 0, bytes).is_none())
-    });
+        let is_taken = kind == Kind::Bus && visitor(refused, 0, bytes).is_some();
+        if !is_listed && !is_taken && names.push(*name).is_err() {
+            return None;
+        }
+    }
     Some(names)
 }
 

@@ -55,10 +55,20 @@ fn taken(refused: &Refused<'_>, output: usize) -> Option<Vec<(u64, usize, Span)>
     Some(taken)
 }
 
+/// Whether an entry has this offset.
+fn is_taken(taken: &[(u64, usize, Span)], at: u64) -> bool {
+    for (offset, _, _) in taken {
+        if *offset == at {
+            return true;
+        }
+    }
+    false
+}
+
 /// The first offset of an output that no entry has.
 fn free(taken: &[(u64, usize, Span)], frame: u64) -> Option<u64> {
     for at in 0..frame {
-        if !taken.iter().any(|(offset, _, _)| *offset == at) {
+        if !is_taken(taken, at) {
             return Some(at);
         }
     }

@@ -7,8 +7,7 @@ use crate::offsets::{tell_offset, tell_offset_twice};
 use crate::pace::{tell_output, tell_router};
 use crate::twins::{tell_source_twice, tell_twin};
 use crate::visits::{tell_formats, tell_visits};
-use dc_build::read_tables;
-use dc_document::{BuildError, Section, TableFault, TableRule};
+use dc_document::{Section, TEXT_LIMIT, TableFault, TableRule};
 use dc_explain_text::{
     Fact, Misfit, Refused, tell_absent, tell_misfit, tell_no_table, tell_unknown, tell_version,
 };
@@ -89,10 +88,10 @@ fn tell_plainly(refused: &mut Refused<'_>, rule: TableRule) {
     );
 }
 
-/// What is told of a text that is refused by a fault; nothing where memory was refused.
-fn explain(alloc: Global, file: File<'_>, fault: TableFault) -> Option<String> {
+/// Explains why a text gives no tables, by its fault; nothing where memory was refused.
+pub fn explain_tables(alloc: Global, file: File<'_>, fault: TableFault) -> Option<String> {
     let is_document = fault.rule != TableRule::NotToml;
-    let is_short = file.text.len() <= dc_document::TEXT_LIMIT;
+    let is_short = file.text.len() <= TEXT_LIMIT;
     let file = if is_short { without_mark(file) } else { file };
     let text = if is_document { file.text } else { b"" };
     let layout = layout_of(alloc, text, false)?;
@@ -112,12 +111,4 @@ fn explain(alloc: Global, file: File<'_>, fault: TableFault) -> Option<String> {
     }
     let Refused { out, .. } = refused;
     out.finish()
-}
-
-/// Explains why a text gives no tables; nothing where it does, or where memory was refused.
-pub fn explain_tables(alloc: Global, file: File<'_>) -> Option<String> {
-    match read_tables(alloc, file.text) {
-        Err(BuildError::Refused(fault)) => explain(alloc, file, fault),
-        _ => None,
-    }
 }

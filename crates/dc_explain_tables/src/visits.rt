@@ -48,11 +48,7 @@ fn tell_unvisited(refused: &mut Refused<'_>) {
         "{} is visited by no router: no router takes the words from its queue{}",
         &[Fact::Row(row), Fact::Place(row, "name")],
     );
-    let first = refused
-        .layout
-        .rows
-        .iter()
-        .position(|it| it.kind == Kind::Router);
+    let first = refused.layout.row(Kind::Router, 0);
     let count = refused.tables_of(Kind::Router);
     match first {
         None => refused.say(

@@ -82,11 +82,13 @@ impl<'a> Refused<'a> {
 
     /// How many tables of a kind there are.
     pub fn tables_of(&self, kind: Kind) -> usize {
-        self.layout
-            .rows
-            .iter()
-            .filter(|row| row.kind == kind)
-            .count()
+        let mut count = 0usize;
+        for it in self.layout.rows.as_slice() {
+            if it.kind == kind {
+                count = count.saturating_add(1);
+            }
+        }
+        count
     }
 
     /// The table of a kind that has this name.

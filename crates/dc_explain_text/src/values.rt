@@ -106,7 +106,22 @@ fn may_have(wanted: Wanted, byte: u8) -> bool {
 
 /// How many bytes of a text may stand there, before the first that may not; nothing where all may.
 pub fn wrong_at(wanted: Wanted, text: &[u8]) -> Option<usize> {
-    text.iter().position(|byte| !may_have(wanted, *byte))
+    for (at, byte) in text.iter().enumerate() {
+        if !may_have(wanted, *byte) {
+            return Some(at);
+        }
+    }
+    None
+}
+
+/// Whether a text is one of these words.
+fn is_among(text: &[u8], words: &[&str]) -> bool {
+    for word in words {
+        if word.as_bytes() == text {
+            return true;
+        }
+    }
+    false
 }
 
 /// Whether a text is in the spelling that is wanted.
@@ -119,7 +134,7 @@ pub fn is_spelled(wanted: Wanted, text: &[u8]) -> bool {
             && text.first() <= Some(&b'3')
             && text != b"000".as_slice(),
         Wanted::Equipment => fits && text.len() == 3,
-        Wanted::Word(words) => words.iter().any(|word| word.as_bytes() == text),
+        Wanted::Word(words) => is_among(text, words),
         Wanted::Sdi => text == b"any".as_slice(),
         _ => true,
     }

@@ -98,9 +98,12 @@ impl<'a> Layout<'a> {
 
     /// The table of this kind and number.
     pub fn row(&self, kind: Kind, index: usize) -> Option<usize> {
-        self.rows
-            .iter()
-            .position(|row| row.kind == kind && row.index == index)
+        for (number, row) in self.rows.iter().enumerate() {
+            if row.kind == kind && row.index == index {
+                return Some(number);
+            }
+        }
+        None
     }
 
     /// The key of this name of a table.

@@ -122,13 +122,14 @@ impl<'a> Walker<'a> {
     /// The table that a heading stands in, and the last key of its path.
     fn path(&self, path: Span) -> (Option<usize>, Span) {
         let text = self.layout.piece(path);
-        let Some(dot) = text.iter().position(|byte| *byte == b'.') else {
-            return (Some(0), path);
-        };
-        let kind = kind_at(Kind::Top, text.get(..dot).unwrap_or(b""));
-        let last = self.last_of(kind);
-        let from = path.from.saturating_add(dot).saturating_add(1);
-        (last, Span { from, to: path.to })
+        for (dot, byte) in text.iter().enumerate() {
+            if *byte == b'.' {
+                let kind = kind_at(Kind::Top, text.get(..dot).unwrap_or(b""));
+                let from = path.from.saturating_add(dot).saturating_add(1);
+                return (self.last_of(kind), Span { from, to: path.to });
+            }
+        }
+        (Some(0), path)
     }
 
     /// Takes a heading: `path` is what stands between its brackets.

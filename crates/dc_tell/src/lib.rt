@@ -10,8 +10,6 @@ mod tell;
 mod value;
 
 pub use explanation::Explanation;
-pub use likeness::nearest;
-pub use place::{Place, line_of, place_at};
-pub use shown::{Several, Shown};
-pub use tell::{File, begin, help, list, locate, name_file, note, show, words};
+pub use place::{Place, place_at};
+pub use tell::File;
 pub use value::Value;

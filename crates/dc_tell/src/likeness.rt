@@ -7,10 +7,7 @@ const LIKE: f64 = 0.7;
 
 /// The one of these names that is most like a text, upper and lower case being alike, where one is like it. The same
 /// name but for its case is before all others.
-///
-/// # Errors
-/// Where memory is refused.
-pub fn nearest<'a>(
+pub(crate) fn nearest<'a>(
     alloc: Global,
     text: &str,
     names: &[&'a str],

@@ -1,7 +1,7 @@
 //! Places in a text.
 
 /// The line and the column of a place, both from 1; a column counts letters.
-#[derive(Clone, Copy, Debug, PartialEq, Eq)]
+#[derive(Clone, Copy)]
 pub struct Place {
     /// The line.
     pub line: usize,
@@ -29,7 +29,7 @@ pub fn place_at(text: &[u8], offset: usize) -> Place {
 }
 
 /// The line of this number, from 1, without its end.
-pub fn line_of(text: &[u8], number: usize) -> &[u8] {
+pub(crate) fn line_of(text: &[u8], number: usize) -> &[u8] {
     let mut line = 1usize;
     let mut from = 0usize;
     for (at, byte) in text.iter().enumerate() {

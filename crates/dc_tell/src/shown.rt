@@ -4,7 +4,7 @@ use std::fmt;
 /// Text of which no letter but a printed one reaches a terminal: what would move its cursor, or is not seen, stands as
 /// its escape.
 #[derive(Clone, Copy)]
-pub struct Shown<'a>(pub &'a str);
+pub(crate) struct Shown<'a>(pub(crate) &'a str);
 
 /// Whether a letter is seen where it is printed, and changes nothing else.
 fn is_seen(letter: char) -> bool {
@@ -42,17 +42,5 @@ impl<'a> fmt::Display for Shown<'a> {
             write!(f, "{own}")?;
         }
         Ok(())
-    }
-}
-
-/// A number with what it counts, in the singular or the plural.
-#[derive(Clone, Copy)]
-pub struct Several<'a>(pub u64, pub &'a str, pub &'a str);
-
-impl<'a> fmt::Display for Several<'a> {
-    fn fmt<W: fmt::Write>(&self, f: &mut fmt::Formatter<W>) -> fmt::Result {
-        let count = self.0;
-        let word = if count == 1 { self.1 } else { self.2 };
-        write!(f, "{count} {word}")
     }
 }
