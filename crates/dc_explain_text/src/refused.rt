@@ -1,7 +1,7 @@
 //! A text that was refused, and what is told of it.
 use crate::keys::{Wanted, keys_of};
 use crate::values::{is_spelled, number};
-use dc_layout::{Form, Key, Kind, Layout, Span, called, unquoted};
+use dc_layout::{Form, Key, Kind, Layout, Span, called, naming, unquoted};
 use dc_tell::{Explanation, File, Value, place_at};
 use std::alloc::Global;
 
@@ -41,16 +41,6 @@ pub enum Fact {
     Place(usize, &'static str),
     /// Where a piece of the text stands, in the same way.
     Here(Span),
-}
-
-/// The key of the name of a table.
-pub fn naming(kind: Kind) -> &'static str {
-    match kind {
-        Kind::InputClaim => "bus",
-        Kind::OutputClaim => "output",
-        Kind::LabelClaim => "label",
-        _ => "name",
-    }
 }
 
 impl<'a> Refused<'a> {

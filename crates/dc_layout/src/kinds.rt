@@ -80,6 +80,23 @@ static KINDS: [(Kind, &'static str, &'static str, Kind, &'static str); 11] = [
     ),
 ];
 
+/// The kinds of objects whose name stands at another key than `name`.
+static NAMED_BY: [(Kind, &'static str); 3] = [
+    (Kind::InputClaim, "bus"),
+    (Kind::OutputClaim, "output"),
+    (Kind::LabelClaim, "label"),
+];
+
+/// The key of the name of a table of a kind.
+pub fn naming(kind: Kind) -> &'static str {
+    for (own, key) in &NAMED_BY {
+        if *own == kind {
+            return key;
+        }
+    }
+    "name"
+}
+
 /// What a table of a kind is called, and that with its article.
 pub fn called(kind: Kind) -> (&'static str, &'static str) {
     for (own, name, article, _, _) in &KINDS {

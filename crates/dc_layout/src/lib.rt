@@ -7,7 +7,7 @@ mod layout;
 mod tokens;
 mod walker;
 
-pub use kinds::{Kind, called, is_of_certificate, kind_at};
+pub use kinds::{Kind, called, is_of_certificate, kind_at, naming};
 pub use layout::{Form, Key, Layout, Row, unquoted};
 pub use tokens::{Span, Token, tokens_of};
 pub use walker::layout_of;

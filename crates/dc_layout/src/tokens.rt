@@ -48,6 +48,18 @@ enum Mode {
     Long(usize, u8, u8),
 }
 
+/// The signs of one byte, and whether TOML and JSON have each.
+static SIGNS: [(u8, Token, bool, bool); 8] = [
+    (b'[', Token::Open, true, true),
+    (b']', Token::Close, true, true),
+    (b'{', Token::OpenTable, true, true),
+    (b'}', Token::CloseTable, true, true),
+    (b',', Token::Comma, true, true),
+    (b'=', Token::Equals, true, false),
+    (b'\n', Token::Line, true, false),
+    (b':', Token::Equals, false, true),
+];
+
 /// What makes tokens of a text, byte by byte.
 #[derive(Drop)]
 struct Scanner<'a> {
@@ -76,17 +88,17 @@ impl<'a> Scanner<'a> {
 
     /// The sign that a byte is by itself.
     fn sign(&self, byte: u8) -> Option<Token> {
-        match byte {
-            b'[' => Some(Token::Open),
-            b']' => Some(Token::Close),
-            b'{' => Some(Token::OpenTable),
-            b'}' => Some(Token::CloseTable),
-            b',' => Some(Token::Comma),
-            b':' if self.is_json => Some(Token::Equals),
-            b'=' if !self.is_json => Some(Token::Equals),
-            b'\n' if !self.is_json => Some(Token::Line),
-            _ => None,
+        for (own, token, is_of_toml, is_of_json) in &SIGNS {
+            let is_sign = if self.is_json {
+                *is_of_json
+            } else {
+                *is_of_toml
+            };
+            if is_sign && *own == byte {
+                return Some(*token);
+            }
         }
+        None
     }
 
     /// The mode behind a quote that begins a text.

@@ -163,10 +163,13 @@ impl<'a> Walker<'a> {
     /// Lets the value of a key go on up to the end of a token; it begins with it where it has not begun.
     fn grow(&mut self, key: usize, token: Span) {
         if let Some(key) = self.layout.keys.get_mut(key) {
-            if key.value.from == key.value.to {
-                key.value.from = token.from;
-            }
-            key.value.to = token.to;
+            let has_begun = key.value.from != key.value.to;
+            let from = if has_begun {
+                key.value.from
+            } else {
+                token.from
+            };
+            key.value = Span { from, to: token.to };
         }
     }
 
