@@ -1,13 +1,14 @@
 //! What an audit found wanting.
 use crate::lines::Line;
 use crate::output::Answer;
-use crate::plain::tell_mend;
+use crate::steps::tell_budget;
 use dc_codes::{Kind, meaning_of};
 use dc_document::Name;
+use dc_keep::Kept;
 use dc_tables::Tables;
-use dc_tell::Several;
+use dc_tell::Explanation;
+use dc_tell::Value::{Number, Text, Ticks};
 use dc_word::Word;
-use std::alloc::AllocError;
 
 /// The word and the bus of a line that says that a word comes.
 fn arrival(line: &[u8], tables: &Tables) -> Option<(usize, Word)> {
@@ -23,56 +24,56 @@ fn arrival(line: &[u8], tables: &Tables) -> Option<(usize, Word)> {
 }
 
 /// Tells which stream sent too soon, where the line is a word of one.
-fn tell_source(out: &mut String, line: Line<'_>, tables: &Tables) -> Result<bool, AllocError> {
+fn tell_source(out: &mut Explanation, line: Line<'_>, tables: &Tables) -> bool {
     let Some((bus, word)) = arrival(line.bytes, tables) else {
-        return Ok(false);
+        return false;
     };
     let Some(stream) = tables.stream_of(bus, word) else {
-        return Ok(false);
+        return false;
     };
     if bus >= tables.bus_count() {
-        return Ok(false);
+        return false;
     }
     let row = tables.stream(stream);
-    let least = Several(u64::from(row.minimum), "tick", "ticks");
-    let jitter = Several(u64::from(row.jitter), "tick", "ticks");
-    let name = tables.stream_name(stream).as_str();
-    let bus = tables.bus_name(bus).as_str();
-    let tick = line.tick;
-    write!(
-        out,
-        "in tick {tick} a word of stream `{name}` comes sooner than it may: its words come {least} apart or more"
-    )?;
+    let tick_us = u64::from(tables.tick_us());
+    out.say(
+        "in tick {} a word of stream `{}` comes sooner than it may: its words come {} apart or more",
+        &[
+            Number(line.tick),
+            Text(tables.stream_name(stream).as_str()),
+            Ticks(u64::from(row.minimum), tick_us),
+        ],
+    );
     if row.jitter > 0 {
-        write!(out, ", with a jitter of {jitter}")?;
+        out.say(", with a jitter of ", &[]);
+        out.put(Ticks(u64::from(row.jitter), tick_us));
     }
-    write!(
-        out,
-        "; or it is one word more than the wire of bus `{bus}` carries"
-    )?;
-    Ok(true)
+    out.say(
+        "; or it is one word more than the wire of bus `{}` carries",
+        &[Text(tables.bus_name(bus).as_str())],
+    );
+    true
 }
 
 /// Tells what an audit found wanting, at the line that it names.
-///
-/// # Errors
-/// Where memory is refused.
-pub fn tell_failing(
-    out: &mut String,
+pub(crate) fn tell_failing(
+    out: &mut Explanation,
     answer: Answer<'_>,
     line: Line<'_>,
+    kept: &Kept,
     tables: &Tables,
-) -> Result<(), AllocError> {
+) {
+    if answer.verb == "budgets" && tell_budget(out, line, kept, tables) {
+        return;
+    }
     let meaning = meaning_of(Kind::Audit, answer.verb);
-    let is_told = answer.verb == "sources" && tell_source(out, line, tables)?;
+    let is_told = answer.verb == "sources" && tell_source(out, line, tables);
     if !is_told {
         let means = meaning.map_or("", |it| it.means);
-        let tick = line.tick;
-        write!(out, "in tick {tick}: {means}")?;
+        out.say("in tick {}: {}", &[Number(line.tick), Text(means)]);
     }
-    line.show(out, 0)?;
-    match meaning {
-        None => Ok(()),
-        Some(meaning) => tell_mend(out, meaning.mend),
+    line.show(out, 0);
+    if let Some(meaning) = meaning {
+        out.help("{}", &[Text(meaning.mend)]);
     }
 }

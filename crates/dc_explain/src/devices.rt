@@ -1,8 +1,9 @@
 //! What kept the program from its work.
 use crate::ran::Ran;
 use dc_keep::Kept;
-use dc_tell::{Shown, begin, help};
-use std::alloc::{AllocError, Global};
+use dc_tell::Explanation;
+use dc_tell::Value::Text;
+use std::alloc::Global;
 use std::io::{Error, ErrorKind};
 
 /// What to do where a call on a file or a device failed.
@@ -19,20 +20,32 @@ fn mend_of(kind: ErrorKind) -> &'static str {
     }
 }
 
+/// Tells what kept the program from its work, and what to do.
+fn explain_so(alloc: Global, what: &'static str, mend: &'static str) -> Option<String> {
+    let mut out = Explanation::new(alloc);
+    out.begin("");
+    out.say("{}", &[Text(what)]);
+    out.help("{}", &[Text(mend)]);
+    out.finish()
+}
+
 /// Tells that a call on what has this name failed.
-fn explain_cause(alloc: Global, name: &str, error: Error) -> Result<Option<String>, AllocError> {
-    let mut out = String::new(alloc);
-    begin(&mut out, "")?;
-    let name = Shown(name);
-    write!(out, "{name}: {error}\n")?;
-    help(&mut out)?;
-    let mend = mend_of(error.kind());
-    write!(out, "{mend}\n")?;
-    Ok(Some(out))
+fn explain_cause(alloc: Global, name: &str, error: Error) -> Option<String> {
+    let mut cause = String::new(alloc);
+    if write!(&mut cause, "{error}").is_err() {
+        return None;
+    }
+    let mut out = Explanation::new(alloc);
+    out.begin("");
+    out.put(Text(name));
+    out.say(": ", &[]);
+    out.put(Text(cause.as_str()));
+    out.help("{}", &[Text(mend_of(error.kind()))]);
+    out.finish()
 }
 
 /// Explains that a call on a file or a device failed.
-fn explain_device(alloc: Global, ran: &Ran<'_>) -> Result<Option<String>, AllocError> {
+fn explain_device(alloc: Global, ran: &Ran<'_>) -> Option<String> {
     let (first, second) = ran.names();
     let places: [(&str, &Kept); 4] = [
         (first, ran.first),
@@ -45,36 +58,22 @@ fn explain_device(alloc: Global, ran: &Ran<'_>) -> Result<Option<String>, AllocE
             return explain_cause(alloc, name, error);
         }
     }
-    Ok(None)
+    None
 }
 
 /// Explains what kept the program from its work, by the word that it wrote.
-///
-/// # Errors
-/// Where memory is refused.
-pub fn explain_failure(
-    alloc: Global,
-    ran: &Ran<'_>,
-    word: &str,
-) -> Result<Option<String>, AllocError> {
-    let mut out = String::new(alloc);
+pub(crate) fn explain_failure(alloc: Global, ran: &Ran<'_>, word: &str) -> Option<String> {
     match word {
-        "memory" => {
-            begin(&mut out, "")?;
-            out.push_str("memory was refused\n")?;
-            help(&mut out)?;
-            out.push_str("give the process more memory, as by `ulimit -v`\n")?;
-            Ok(Some(out))
-        }
-        "threads" => {
-            begin(&mut out, "")?;
-            out.push_str("a thread could not be started\n")?;
-            help(&mut out)?;
-            out.push_str(
-                "fewer `--workers`, or none: the verdict is the same; or a higher limit of threads, as by `ulimit -u`\n",
-            )?;
-            Ok(Some(out))
-        }
+        "memory" => explain_so(
+            alloc,
+            "memory was refused",
+            "give the process more memory, as by `ulimit -v`",
+        ),
+        "threads" => explain_so(
+            alloc,
+            "a thread could not be started",
+            "fewer `--workers`, or none: the verdict is the same; or a higher limit of threads, as by `ulimit -u`",
+        ),
         _ => explain_device(alloc, ran),
     }
 }

@@ -1,6 +1,6 @@
-//! Texts that can't be read, and events that were refused.
+//! Lines of standard input: those that can't be read, and events that were refused.
 use crate::audits::tell_failing;
-use crate::lines::line_of;
+use crate::lines::{Line, line_of};
 use crate::output::Answer;
 use crate::plain::explain_plainly;
 use crate::ran::Ran;
@@ -9,101 +9,47 @@ use crate::trace::tell_event;
 use crate::words::{tell_long, tell_no_word, tell_unended, tell_unseen};
 use dc_build::read_tables;
 use dc_codes::Kind;
-use dc_tell::begin;
-use std::alloc::{AllocError, Global};
+use dc_tell::Explanation;
+use std::alloc::Global;
 
-/// Explains why `decode` could not read a line.
-///
-/// # Errors
-/// Where memory is refused.
-pub fn explain_word(
-    alloc: Global,
-    ran: &Ran<'_>,
-    answer: Answer<'_>,
-) -> Result<Option<String>, AllocError> {
-    let number = answer.line().unwrap_or(0);
-    let Some(line) = line_of(ran.input, number) else {
-        return explain_plainly(alloc, Kind::Decoded, answer.code);
-    };
-    let mut out = String::new(alloc);
-    begin(&mut out, answer.code)?;
-    match answer.code {
-        "E1" => tell_long(&mut out, line, "word")?,
-        "E6" => tell_unended(&mut out, line)?,
-        _ => {
-            if !tell_unseen(&mut out, line)? {
-                tell_no_word(&mut out, line, 0)?;
-            }
-        }
+/// Tells why `decode` could not read a line.
+fn tell_word(out: &mut Explanation, code: &str, line: Line<'_>) {
+    match code {
+        "E1" => tell_long(out, line, "word"),
+        "E6" => tell_unended(out, line),
+        _ if tell_unseen(out, line) => {}
+        _ => tell_no_word(out, line, 0),
     }
-    Ok(Some(out))
 }
 
-/// Explains why a line of a trace could not be read.
-///
-/// # Errors
-/// Where memory is refused.
-pub fn explain_event(
+/// Explains what is wrong at a line of standard input, by what its code is a code of.
+pub(crate) fn explain_line(
     alloc: Global,
     ran: &Ran<'_>,
     answer: Answer<'_>,
-) -> Result<Option<String>, AllocError> {
-    let number = answer.line().unwrap_or(0);
-    let Ok(tables) = read_tables(alloc, ran.first.text.as_slice()) else {
-        return explain_plainly(alloc, Kind::Trace, answer.code);
+    kind: Kind,
+) -> Option<String> {
+    let code = if kind == Kind::Audit {
+        answer.verb
+    } else {
+        answer.code
     };
-    let Some(line) = line_of(ran.input, number) else {
-        return explain_plainly(alloc, Kind::Trace, answer.code);
+    let Some(line) = line_of(ran.input, answer.line().unwrap_or(0)) else {
+        return explain_plainly(alloc, kind, code);
     };
-    let mut out = String::new(alloc);
-    begin(&mut out, answer.code)?;
-    tell_event(alloc, &mut out, answer.code, line, &tables)?;
-    Ok(Some(out))
-}
-
-/// Explains why an event may not follow those before it.
-///
-/// # Errors
-/// Where memory is refused.
-pub fn explain_step(
-    alloc: Global,
-    ran: &Ran<'_>,
-    answer: Answer<'_>,
-) -> Result<Option<String>, AllocError> {
-    if answer.code == "ticks" {
-        return explain_plainly(alloc, Kind::Step, answer.code);
+    let mut out = Explanation::new(alloc);
+    out.begin(code);
+    if kind == Kind::Decoded {
+        tell_word(&mut out, code, line);
+        return out.finish();
     }
-    let number = answer.line().unwrap_or(0);
     let Ok(tables) = read_tables(alloc, ran.first.text.as_slice()) else {
-        return explain_plainly(alloc, Kind::Step, answer.code);
+        return explain_plainly(alloc, kind, code);
     };
-    let Some(line) = line_of(ran.input, number) else {
-        return explain_plainly(alloc, Kind::Step, answer.code);
-    };
-    let mut out = String::new(alloc);
-    begin(&mut out, answer.code)?;
-    tell_step(&mut out, answer.code, answer.name(), line, &tables)?;
-    Ok(Some(out))
-}
-
-/// Explains what an audit found wanting.
-///
-/// # Errors
-/// Where memory is refused.
-pub fn explain_failing(
-    alloc: Global,
-    ran: &Ran<'_>,
-    answer: Answer<'_>,
-) -> Result<Option<String>, AllocError> {
-    let number = answer.line().unwrap_or(0);
-    let Ok(tables) = read_tables(alloc, ran.first.text.as_slice()) else {
-        return explain_plainly(alloc, Kind::Audit, answer.verb);
-    };
-    let Some(line) = line_of(ran.input, number) else {
-        return explain_plainly(alloc, Kind::Audit, answer.verb);
-    };
-    let mut out = String::new(alloc);
-    begin(&mut out, answer.verb)?;
-    tell_failing(&mut out, answer, line, &tables)?;
-    Ok(Some(out))
+    match kind {
+        Kind::Trace => tell_event(alloc, &mut out, code, line, &tables),
+        Kind::Step => tell_step(&mut out, answer, line, ran.input, &tables),
+        _ => tell_failing(&mut out, answer, line, ran.input, &tables),
+    }
+    out.finish()
 }

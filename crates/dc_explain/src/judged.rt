@@ -3,7 +3,7 @@ use crate::output::Answer;
 use crate::plain::explain_plainly;
 use crate::ran::Ran;
 use dc_build::read_tables;
-use dc_cert::{CertFault, Certificate, read_cert};
+use dc_cert::{CertFault, read_cert};
 use dc_codes::Kind;
 use dc_command::Order;
 use dc_document::BuildError;
@@ -12,74 +12,58 @@ use dc_explain_tables::explain_tables;
 use dc_explain_verdict::{Files, explain_find, explain_verdict};
 use dc_tables::Tables;
 use dc_tell::File;
-use std::alloc::{AllocError, Global};
+use std::alloc::Global;
 
-/// Explains tables or a certificate that can't be read.
-///
-/// # Errors
-/// Where memory is refused.
-pub fn explain_unread(
-    alloc: Global,
-    ran: &Ran<'_>,
-    answer: Answer<'_>,
-) -> Result<Option<String>, AllocError> {
-    let (tables, certificate) = ran.names();
-    if answer.code.starts_with('K') {
-        let text = ran.second.text.as_slice();
-        let name = certificate;
-        let told = match read_cert(alloc, text) {
-            Err(CertFault::Unreadable(fault)) => explain_certificate(alloc, File { name, text }, fault),
-            _ => None,
-        };
-        return match told {
-            Some(told) => Ok(Some(told)),
-            None => explain_plainly(alloc, Kind::Certificate, answer.code),
-        };
-    }
-    let text = ran.first.text.as_slice();
-    let name = tables;
-    let told = match read_tables(alloc, text) {
-        Err(BuildError::Refused(fault)) => explain_tables(alloc, File { name, text }, fault),
+/// Explains tables that can't be read.
+fn explain_unread_tables(alloc: Global, file: File<'_>) -> Option<String> {
+    match read_tables(alloc, file.text) {
+        Err(BuildError::Refused(fault)) => explain_tables(alloc, file, fault),
         _ => None,
-    };
-    match told {
-        Some(told) => Ok(Some(told)),
-        None => explain_plainly(alloc, Kind::Table, answer.code),
     }
 }
 
-/// The certificate that was judged.
-fn certificate_of(alloc: Global, ran: &Ran<'_>) -> Option<Certificate> {
-    read_cert(alloc, ran.second.text.as_slice()).ok()
+/// Explains a certificate that can't be read.
+fn explain_unread_certificate(alloc: Global, file: File<'_>) -> Option<String> {
+    match read_cert(alloc, file.text) {
+        Err(CertFault::Unreadable(fault)) => explain_certificate(alloc, file, fault),
+        _ => None,
+    }
+}
+
+/// Explains tables or a certificate that can't be read.
+pub(crate) fn explain_unread(alloc: Global, ran: &Ran<'_>, answer: Answer<'_>) -> Option<String> {
+    let (tables, certificate) = ran.files();
+    let (told, kind) = if answer.code.starts_with('K') {
+        (
+            explain_unread_certificate(alloc, certificate),
+            Kind::Certificate,
+        )
+    } else {
+        (explain_unread_tables(alloc, tables), Kind::Table)
+    };
+    match told {
+        Some(told) => Some(told),
+        None => explain_plainly(alloc, kind, answer.code),
+    }
 }
 
 /// Explains why the certificate that was handed in was refused.
-fn explain_given(
-    alloc: Global,
-    ran: &Ran<'_>,
-    tables: &Tables,
-) -> Result<Option<String>, AllocError> {
-    let Some(certificate) = certificate_of(alloc, ran) else {
-        return Ok(None);
+fn explain_given(alloc: Global, ran: &Ran<'_>, tables: &Tables) -> Option<String> {
+    let (first, second) = ran.files();
+    let Ok(certificate) = read_cert(alloc, second.text) else {
+        return None;
     };
-    let (first, second) = ran.names();
     let files = Files {
         tables: first,
-        certificate: Some(second),
+        certificate: second,
     };
     explain_verdict(alloc, tables, &certificate, files)
 }
 
 /// Explains a certificate that was refused, or tables that have none.
-///
-/// # Errors
-/// Where memory is refused.
-pub fn explain_refused(
-    alloc: Global,
-    ran: &Ran<'_>,
-    answer: Answer<'_>,
-) -> Result<Option<String>, AllocError> {
-    let Ok(tables) = read_tables(alloc, ran.first.text.as_slice()) else {
+pub(crate) fn explain_refused(alloc: Global, ran: &Ran<'_>, answer: Answer<'_>) -> Option<String> {
+    let (first, _) = ran.files();
+    let Ok(tables) = read_tables(alloc, first.text) else {
         return explain_plainly(alloc, Kind::Condition, answer.code);
     };
     match ran.order {
@@ -91,10 +75,7 @@ pub fn explain_refused(
         | Order::Margins {
             certificate: None,
             ..
-        } => {
-            let (name, _) = ran.names();
-            explain_find(alloc, &tables, name)
-        }
+        } => explain_find(alloc, &tables, first),
         _ => explain_given(alloc, ran, &tables),
     }
 }

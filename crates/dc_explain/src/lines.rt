@@ -1,70 +1,76 @@
 //! The lines of standard input.
 use dc_keep::Kept;
-use dc_tell::show;
-use std::alloc::AllocError;
+use dc_tell::Explanation;
 
 /// What standard input is called.
-pub const INPUT: &str = "<stdin>";
+pub(crate) const INPUT: &str = "<stdin>";
+
+/// A line that ends a tick.
+const TICK: &[u8] = b"T";
 
 /// A line of standard input.
-#[derive(Clone, Copy, Debug)]
-pub struct Line<'a> {
+#[derive(Clone, Copy)]
+pub(crate) struct Line<'a> {
     /// Its bytes, without its line feed.
-    pub bytes: &'a [u8],
+    pub(crate) bytes: &'a [u8],
     /// Its number, from 1.
-    pub number: u64,
+    pub(crate) number: u64,
     /// How many lines before it are a Tick.
-    pub tick: u64,
+    pub(crate) tick: u64,
 }
 
 impl<'a> Line<'a> {
     /// Writes where the line has what was told, behind so many of its bytes.
-    ///
-    /// # Errors
-    /// Where memory is refused.
-    pub fn show(self, out: &mut String, offset: usize) -> Result<(), AllocError> {
+    pub(crate) fn show(self, out: &mut Explanation, offset: usize) {
         let before = self.bytes.get(..offset).unwrap_or(b"");
         let letters = str::from_utf8(before).map_or(offset, |text| text.chars().count());
-        show(
-            out,
-            INPUT,
-            self.number,
-            self.bytes,
-            letters.saturating_add(1),
-        )
+        let column = letters.saturating_add(1);
+        out.show("-->", INPUT, self.number, self.bytes, column);
     }
 }
 
 /// The line of this number, from 1, where it was kept.
-pub fn line_of(kept: &Kept, number: u64) -> Option<Line<'_>> {
-    let text = kept.text.as_slice();
-    let mut passed = kept.before;
-    let mut from = 0usize;
-    let mut tick = passed.ticks;
-    for (at, byte) in text.iter().enumerate() {
-        if *byte == b'\n' {
-            if passed.lines.saturating_add(1) == number {
-                let bytes = text.get(from..at)?;
-                return Some(Line {
-                    bytes,
-                    number,
-                    tick,
-                });
-            }
-            from = at.saturating_add(1);
+pub(crate) fn line_of(kept: &Kept, number: u64) -> Option<Line<'_>> {
+    let mut lines = kept.before.lines;
+    let mut tick = kept.before.ticks;
+    for bytes in kept.text.as_slice().split(|byte| *byte == b'\n') {
+        lines = lines.saturating_add(1);
+        if lines == number {
+            return Some(Line {
+                bytes,
+                number,
+                tick,
+            });
         }
-        passed.pass(*byte);
-        if *byte == b'\n' {
-            tick = passed.ticks;
-        }
+        tick = tick.saturating_add(u64::from(bytes == TICK));
     }
-    if passed.lines.saturating_add(1) != number {
+    None
+}
+
+/// How many lines before a line are an event of this letter and name, from a tick on, where all of these were kept.
+pub(crate) fn events_since(
+    kept: &Kept,
+    line: Line<'_>,
+    tick: u64,
+    letter: &str,
+    name: &str,
+) -> Option<u64> {
+    let mut lines = kept.before.lines;
+    let mut now = kept.before.ticks;
+    if lines > 0 && now >= tick {
         return None;
     }
-    let bytes = text.get(from..)?;
-    Some(Line {
-        bytes,
-        number,
-        tick,
-    })
+    let mut count = 0u64;
+    for bytes in kept.text.as_slice().split(|byte| *byte == b'\n') {
+        lines = lines.saturating_add(1);
+        if lines >= line.number {
+            break;
+        }
+        let is_one = now >= tick
+            && bytes.starts_with(letter.as_bytes())
+            && bytes.get(2..) == Some(name.as_bytes());
+        count = count.saturating_add(u64::from(is_one));
+        now = now.saturating_add(u64::from(bytes == TICK));
+    }
+    if now == line.tick { Some(count) } else { None }
 }

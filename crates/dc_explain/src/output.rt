@@ -1,7 +1,7 @@
 //! The lines that a run wrote last.
 
 /// A line that says what ended a run: a word, a code, and the words behind it.
-#[derive(Clone, Copy, Debug)]
+#[derive(Clone, Copy)]
 pub struct Answer<'a> {
     /// The first word of the line.
     pub verb: &'a str,

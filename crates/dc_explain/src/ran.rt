@@ -1,6 +1,6 @@
 //! A run that has ended, and what there is to say of its end.
 use crate::devices::explain_failure;
-use crate::faults::{explain_event, explain_failing, explain_step, explain_word};
+use crate::faults::explain_line;
 use crate::judged::{explain_refused, explain_unread};
 use crate::output::{Answer, answer_of};
 use crate::plain::explain_plainly;
@@ -8,6 +8,7 @@ use dc_answer::Exit;
 use dc_codes::Kind;
 use dc_command::Order;
 use dc_keep::{Kept, Notes};
+use dc_tell::File;
 use std::alloc::{AllocError, Global};
 use std::io::ErrorKind;
 
@@ -71,6 +72,21 @@ impl<'a> Ran<'a> {
         }
     }
 
+    /// Its files, as far as they were kept.
+    pub(crate) fn files(&self) -> (File<'a>, File<'a>) {
+        let (first, second) = self.names();
+        (
+            File {
+                name: first,
+                text: self.first.text.as_slice(),
+            },
+            File {
+                name: second,
+                text: self.second.text.as_slice(),
+            },
+        )
+    }
+
     /// Whether the reader of its output is gone.
     fn is_unread(&self) -> bool {
         match self.output.cause {
@@ -81,49 +97,40 @@ impl<'a> Ran<'a> {
 }
 
 /// Explains a text that can't be read.
-fn explain_text(
-    alloc: Global,
-    ran: &Ran<'_>,
-    answer: Answer<'_>,
-) -> Result<Option<String>, AllocError> {
+fn explain_text(alloc: Global, ran: &Ran<'_>, answer: Answer<'_>) -> Option<String> {
     if !answer.code.starts_with('E') {
         return explain_unread(alloc, ran, answer);
     }
-    match ran.order {
-        Order::Decode(_) => explain_word(alloc, ran, answer),
-        _ => explain_event(alloc, ran, answer),
-    }
+    let kind = match ran.order {
+        Order::Decode(_) => Kind::Decoded,
+        _ => Kind::Trace,
+    };
+    explain_line(alloc, ran, answer, kind)
 }
 
 /// Explains what was judged and refused.
-fn explain_judged(
-    alloc: Global,
-    ran: &Ran<'_>,
-    answer: Answer<'_>,
-) -> Result<Option<String>, AllocError> {
+fn explain_judged(alloc: Global, ran: &Ran<'_>, answer: Answer<'_>) -> Option<String> {
     match answer.code {
-        "spent" | "early" | "owed" | "ticks" => explain_step(alloc, ran, answer),
+        "spent" | "early" | "owed" => explain_line(alloc, ran, answer, Kind::Step),
+        "ticks" => explain_plainly(alloc, Kind::Step, answer.code),
         "hub" => explain_plainly(alloc, Kind::Bench, answer.code),
         _ => match answer.verb {
-            "budgets" | "sources" | "claim" => explain_failing(alloc, ran, answer),
+            "budgets" | "sources" | "claim" => explain_line(alloc, ran, answer, Kind::Audit),
             _ => explain_refused(alloc, ran, answer),
         },
     }
 }
 
 /// What there is to say of the end of a run: nothing where all is well, or where nobody reads what it wrote.
-///
-/// # Errors
-/// Where memory is refused.
-fn explain(alloc: Global, ran: &Ran<'_>) -> Result<Option<String>, AllocError> {
+fn explain(alloc: Global, ran: &Ran<'_>) -> Option<String> {
     if ran.is_unread() {
-        return Ok(None);
+        return None;
     }
     let Some(answer) = answer_of(ran.output.text.as_slice()) else {
-        return Ok(None);
+        return None;
     };
     match ran.exit {
-        Exit::Done => Ok(None),
+        Exit::Done => None,
         Exit::Failed if answer.verb == "failed" => explain_failure(alloc, ran, answer.code),
         Exit::Failed => explain_failure(alloc, ran, "device"),
         Exit::Unreadable => explain_text(alloc, ran, answer),
@@ -153,5 +160,5 @@ pub fn explain_end(
         input: &input,
         output: &output,
     };
-    explain(alloc, &ran)
+    Ok(explain(alloc, &ran))
 }

@@ -1,9 +1,12 @@
 //! Events that may not follow those before them.
-use crate::lines::Line;
+use crate::lines::{Line, events_since};
+use crate::output::Answer;
+use crate::trace::field;
 use dc_document::Name;
+use dc_keep::Kept;
 use dc_tables::{Output, Router, Tables};
-use dc_tell::{Several, help, words};
-use std::alloc::AllocError;
+use dc_tell::Explanation;
+use dc_tell::Value::{Number, Several, Text, Ticks};
 
 /// The router of this name, where the tables have one.
 fn router_of<'t>(tables: &'t Tables, name: &Name) -> Option<&'t Router> {
@@ -24,119 +27,203 @@ fn output_of<'t>(tables: &'t Tables, name: &Name) -> Option<&'t Output> {
 }
 
 /// Tells of a router that made too many steps in a tick.
-fn tell_spent(
-    out: &mut String,
-    line: Line<'_>,
-    tables: &Tables,
-    name: &Name,
-) -> Result<(), AllocError> {
+fn tell_spent(out: &mut Explanation, line: Line<'_>, tables: &Tables, name: &Name) {
     let Some(router) = router_of(tables, name) else {
-        return Ok(());
+        return;
     };
-    let most = Several(u64::from(router.most), "step", "steps");
-    let name = name.as_str();
-    let tick = line.tick;
-    write!(
-        out,
-        "router `{name}` has made {most} in tick {tick} already, which is the `most` of one tick"
-    )?;
-    line.show(out, 0)?;
-    help(out)?;
-    out.push_str(
-        "put the step behind the next `T`, or write a greater `most` of this router in the tables\n",
-    )
+    out.say(
+        "router `{}` has made {} in tick {} already, which is the `most` of one tick",
+        &[
+            Text(name.as_str()),
+            Several(u64::from(router.most), "step", "steps"),
+            Number(line.tick),
+        ],
+    );
+    line.show(out, 0);
+    out.help("put the step behind the next `T`", &[]);
+    out.help(
+        "or weaken a promise: write a greater `most` of router `{}` in the tables",
+        &[Text(name.as_str())],
+    );
 }
 
 /// Tells of an output that sent too soon.
-fn tell_early(
-    out: &mut String,
-    line: Line<'_>,
-    tables: &Tables,
-    name: &Name,
-) -> Result<(), AllocError> {
+fn tell_early(out: &mut Explanation, line: Line<'_>, tables: &Tables, name: &Name) {
     let Some(output) = output_of(tables, name) else {
-        return Ok(());
+        return;
     };
-    let gap = Several(u64::from(output.gap), "tick", "ticks");
-    let name = name.as_str();
-    let tick = line.tick;
-    write!(
-        out,
-        "output `{name}` sends in tick {tick}, less than {gap} after its last send"
-    )?;
-    line.show(out, 0)?;
-    help(out)?;
-    write!(
-        out,
-        "its wire takes one word in {gap}: put the send behind more lines `T`\n"
-    )
+    let gap = Ticks(u64::from(output.gap), u64::from(tables.tick_us()));
+    out.say(
+        "output `{}` sends in tick {}, less than {} after its last send",
+        &[Text(name.as_str()), Number(line.tick), gap],
+    );
+    line.show(out, 0);
+    out.help("its wire takes one word in ", &[]);
+    out.put(gap);
+    out.say(": put the send behind more lines `T`", &[]);
 }
 
-/// Tells of an actor that made too few steps, by what it made and how one is written.
-fn tell_owed_by(
-    out: &mut String,
-    line: Line<'_>,
-    named: (&str, &str),
-    steps: Several<'_>,
-    within: u32,
-) -> Result<(), AllocError> {
-    let within = Several(u64::from(within), "tick", "ticks");
-    let (actor, name) = named;
-    let tick = line.tick;
-    write!(
-        out,
-        "tick {tick} cannot end: {actor} `{name}` has made fewer than its {steps} in the last {within}, this one included"
-    )?;
-    line.show(out, 0)
+/// A router or an output, and what it is to make.
+#[derive(Clone, Copy)]
+struct Actor {
+    /// What it is called.
+    kind: &'static str,
+    /// What begins a line of a trace that is a step of it.
+    letter: &'static str,
+    /// So many steps are made at least ..
+    steps: u64,
+    /// .. in each so many ticks.
+    within: u64,
+}
+
+/// The router or the output of this name.
+fn actor_of(tables: &Tables, name: &Name) -> Option<Actor> {
+    if let Some(row) = router_of(tables, name) {
+        return Some(Actor {
+            kind: "router",
+            letter: "R ",
+            steps: u64::from(row.steps),
+            within: u64::from(row.within),
+        });
+    }
+    let row = output_of(tables, name)?;
+    Some(Actor {
+        kind: "output",
+        letter: "S ",
+        steps: u64::from(row.steps),
+        within: u64::from(row.within),
+    })
+}
+
+/// Tells how many steps an actor made, where that is known, and in which ticks it owes so many.
+fn tell_made(out: &mut Explanation, actor: Actor, made: Option<u64>, first: u64, last: u64) {
+    let owed = Several(actor.steps, "step", "steps");
+    match made {
+        Some(made) => out.say("{} of the {} that it owes", &[Number(made), owed]),
+        None => out.say("fewer than the {} that it owes", &[owed]),
+    }
+    if first == last {
+        return out.say(" in tick {}", &[Number(last)]);
+    }
+    out.say(" in ticks {} to {}", &[Number(first), Number(last)])
+}
+
+/// Tells which lines help, how many of them where that is known, and what else.
+fn tell_missing(out: &mut Explanation, actor: Actor, made: Option<u64>, name: &str) {
+    let missing = actor.steps.saturating_sub(made.unwrap_or(0));
+    let (letter, name) = (Text(actor.letter), Text(name));
+    match made {
+        Some(_) => out.help(
+            "put {} `{}{}` before this `T`",
+            &[Several(missing, "line", "lines"), letter, name],
+        ),
+        None => out.help("put lines `{}{}` before this `T`", &[letter, name]),
+    }
+    out.help(
+        "or weaken a promise: write smaller `steps` or a greater `within` of {} `{}` in the tables",
+        &[Text(actor.kind), name],
+    );
+}
+
+/// In which tick those begin in which an actor owes its steps, where a line ends the last of them.
+fn first_tick(line: Line<'_>, actor: Actor) -> u64 {
+    line.tick.saturating_add(1).saturating_sub(actor.within)
+}
+
+/// Whether an actor owes steps where a line ends a tick, as far as that is known.
+fn is_owing(line: Line<'_>, kept: &Kept, tables: &Tables, name: &Name) -> bool {
+    let Some(actor) = actor_of(tables, name) else {
+        return false;
+    };
+    let first = first_tick(line, actor);
+    let made = events_since(kept, line, first, actor.letter, name.as_str());
+    line.tick >= actor.within.saturating_sub(1) && made.unwrap_or(actor.steps) < actor.steps
+}
+
+/// The first router, or else the first output, that owes steps where a line ends a tick.
+fn owing_at(line: Line<'_>, kept: &Kept, tables: &Tables) -> Option<Name> {
+    for router in 0..tables.router_count() {
+        let name = *tables.router_name(router);
+        if is_owing(line, kept, tables, &name) {
+            return Some(name);
+        }
+    }
+    for output in 0..tables.output_count() {
+        let name = *tables.output_name(output);
+        if is_owing(line, kept, tables, &name) {
+            return Some(name);
+        }
+    }
+    None
 }
 
 /// Tells of a router or an output that made too few steps for the tick to end.
-fn tell_owed(
-    out: &mut String,
-    line: Line<'_>,
-    tables: &Tables,
-    name: &Name,
-) -> Result<(), AllocError> {
+fn tell_owed(out: &mut Explanation, line: Line<'_>, kept: &Kept, tables: &Tables, name: &Name) {
+    let Some(actor) = actor_of(tables, name) else {
+        return;
+    };
     let text = name.as_str();
-    if let Some(row) = router_of(tables, name) {
-        let steps = Several(u64::from(row.steps), "step", "steps");
-        tell_owed_by(out, line, ("router", text), steps, row.within)?;
-        help(out)?;
-        return write!(
-            out,
-            "put lines `R {text}` before this `T`, or write smaller `steps` or a greater `within` of router `{text}` in the tables\n"
-        );
+    let first = first_tick(line, actor);
+    let made = events_since(kept, line, first, actor.letter, text);
+    out.say(
+        "tick {} cannot end: {} `{}` has made ",
+        &[Number(line.tick), Text(actor.kind), Text(text)],
+    );
+    tell_made(out, actor, made, first, line.tick);
+    line.show(out, 0);
+    out.note(
+        "`steps` of {} `{}` is {}, in each `within` of {}",
+        &[
+            Text(actor.kind),
+            Text(text),
+            Number(actor.steps),
+            Ticks(actor.within, u64::from(tables.tick_us())),
+        ],
+    );
+    tell_missing(out, actor, made, text);
+}
+
+/// Tells which budget an event breaks; nothing where that is not known.
+pub(crate) fn tell_budget(
+    out: &mut Explanation,
+    line: Line<'_>,
+    kept: &Kept,
+    tables: &Tables,
+) -> bool {
+    let (kind, _) = field(line.bytes, 0);
+    let (name, _) = field(line.bytes, 1);
+    if kind == b"T".as_slice() {
+        let Some(name) = owing_at(line, kept, tables) else {
+            return false;
+        };
+        tell_owed(out, line, kept, tables, &name);
+        return true;
     }
-    if let Some(row) = output_of(tables, name) {
-        let steps = Several(u64::from(row.steps), "send", "sends");
-        tell_owed_by(out, line, ("output", text), steps, row.within)?;
-        help(out)?;
-        return write!(
-            out,
-            "put lines `S {text}` before this `T`, or write smaller `steps` or a greater `within` of output `{text}` in the tables\n"
-        );
+    let Some(name) = Name::new(name) else {
+        return false;
+    };
+    if kind == b"R".as_slice() {
+        tell_spent(out, line, tables, &name);
+    } else {
+        tell_early(out, line, tables, &name);
     }
-    Ok(())
+    true
 }
 
 /// Tells why an event may not follow those before it, by the word of its refusal and the name that it is about.
-///
-/// # Errors
-/// Where memory is refused.
-pub fn tell_step(
-    out: &mut String,
-    word: &str,
-    name: &str,
+pub(crate) fn tell_step(
+    out: &mut Explanation,
+    answer: Answer<'_>,
     line: Line<'_>,
+    kept: &Kept,
     tables: &Tables,
-) -> Result<(), AllocError> {
-    let Some(name) = Name::new(name.as_bytes()) else {
-        let word = words(word.as_bytes());
-        return write!(out, "{word}\n");
+) {
+    let Some(name) = Name::new(answer.name().as_bytes()) else {
+        return out.say("{}", &[Text(answer.code)]);
     };
-    match word {
+    match answer.code {
         "spent" => tell_spent(out, line, tables, &name),
         "early" => tell_early(out, line, tables, &name),
-        _ => tell_owed(out, line, tables, &name),
+        _ => tell_owed(out, line, kept, tables, &name),
     }
 }

@@ -1,10 +1,10 @@
 //! Lines that are no word, and what is not seen in a line.
 use crate::lines::Line;
-use dc_tell::{Several, help, words};
-use std::alloc::AllocError;
+use dc_tell::Explanation;
+use dc_tell::Value::{Bytes, Several, Text};
 
 /// What is not seen in a line and keeps it from being read: behind how many of its bytes, what it is, and what to do.
-#[derive(Clone, Copy, Debug)]
+#[derive(Clone, Copy)]
 struct Unseen {
     at: usize,
     what: &'static str,
@@ -45,20 +45,14 @@ fn unseen_in(line: &[u8]) -> Option<Unseen> {
 }
 
 /// Tells what of a line is not seen and does not belong there, where there is such.
-///
-/// # Errors
-/// Where memory is refused.
-pub fn tell_unseen(out: &mut String, line: Line<'_>) -> Result<bool, AllocError> {
+pub(crate) fn tell_unseen(out: &mut Explanation, line: Line<'_>) -> bool {
     let Some(unseen) = unseen_in(line.bytes) else {
-        return Ok(false);
+        return false;
     };
-    let what = unseen.what;
-    let mend = unseen.mend;
-    write!(out, "the line {what}")?;
-    line.show(out, unseen.at)?;
-    help(out)?;
-    write!(out, "{mend}\n")?;
-    Ok(true)
+    out.say("the line {}", &[Text(unseen.what)]);
+    line.show(out, unseen.at);
+    out.help("{}", &[Text(unseen.mend)]);
+    true
 }
 
 /// How many of the first bytes are hexadecimal digits.
@@ -70,58 +64,53 @@ fn digits_in(bytes: &[u8]) -> usize {
 }
 
 /// Tells why a piece of a line, from this byte on, is no word.
-///
-/// # Errors
-/// Where memory is refused.
-pub fn tell_no_word(out: &mut String, line: Line<'_>, from: usize) -> Result<(), AllocError> {
+pub(crate) fn tell_no_word(out: &mut Explanation, line: Line<'_>, from: usize) {
     let piece = line.bytes.get(from..).unwrap_or(b"");
-    let token = words(piece);
+    let token = Bytes(piece);
     let digits = digits_in(piece);
     let mut at = from;
     if piece.is_empty() {
-        out.push_str("there is no word: the line is empty")?;
+        out.say("there is no word: the line is empty", &[]);
     } else if piece.starts_with(b"0x") || piece.starts_with(b"0X") {
-        write!(out, "`{token}` is no word: it is written without `0x`")?;
+        out.say("`{}` is no word: it is written without `0x`", &[token]);
     } else if digits < piece.len() {
         at = from.saturating_add(digits);
-        write!(
-            out,
-            "`{token}` is no word: it has what is no hexadecimal digit"
-        )?;
+        out.say(
+            "`{}` is no word: it has what is no hexadecimal digit",
+            &[token],
+        );
     } else {
-        let several = Several(digits as u64, "hexadecimal digit", "hexadecimal digits");
-        write!(
-            out,
-            "`{token}` is no word: it has {several}, and a word has 8"
-        )?;
+        out.say(
+            "`{}` is no word: it has {}, and a word has 8",
+            &[
+                token,
+                Several(digits as u64, "hexadecimal digit", "hexadecimal digits"),
+            ],
+        );
     }
-    line.show(out, at)?;
-    help(out)?;
-    out.push_str("a word of 32 bits is written as 8 hexadecimal digits, as 600000C1\n")
+    line.show(out, at);
+    out.help(
+        "a word of 32 bits is written as 8 hexadecimal digits, as 600000C1",
+        &[],
+    );
 }
 
 /// Tells that a line is longer than lines may be.
-///
-/// # Errors
-/// Where memory is refused.
-pub fn tell_long(out: &mut String, line: Line<'_>, what: &str) -> Result<(), AllocError> {
-    let length = Several(line.bytes.len() as u64, "byte", "bytes");
-    write!(
-        out,
-        "the line has {length} or more, and a line has 64 at most"
-    )?;
-    line.show(out, 64)?;
-    help(out)?;
-    write!(out, "one {what} a line\n")
+pub(crate) fn tell_long(out: &mut Explanation, line: Line<'_>, what: &'static str) {
+    out.say(
+        "the line has {} or more, and a line has 64 at most",
+        &[Several(line.bytes.len() as u64, "byte", "bytes")],
+    );
+    line.show(out, 64);
+    out.help("one {} a line", &[Text(what)]);
 }
 
 /// Tells that a text ends inside a line.
-///
-/// # Errors
-/// Where memory is refused.
-pub fn tell_unended(out: &mut String, line: Line<'_>) -> Result<(), AllocError> {
-    out.push_str("the text ends inside a line: a line feed is missing behind it")?;
-    line.show(out, line.bytes.len())?;
-    help(out)?;
-    out.push_str("end the last line with a line feed\n")
+pub(crate) fn tell_unended(out: &mut Explanation, line: Line<'_>) {
+    out.say(
+        "the text ends inside a line: a line feed is missing behind it",
+        &[],
+    );
+    line.show(out, line.bytes.len());
+    out.help("end the last line with a line feed", &[]);
 }

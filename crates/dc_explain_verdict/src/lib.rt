@@ -4,14 +4,16 @@
 
 mod ages;
 mod bounds;
+mod fact;
 mod gaps;
 mod labels;
 mod misnamed;
+mod names;
 mod obstacles;
-mod phrases;
 mod refused;
 mod servers;
 mod steps;
+mod teller;
 mod waits;
 mod ways;
 

@@ -2,19 +2,20 @@
 
 ghost use Rattle.dc_find.specs.Ways.{IsFirstInTheWay};
 
-use crate::ages::{tell_oldest, tell_stale};
 use crate::bounds::{closing_of, counts_of};
-use crate::gaps::{tell_late, tell_soon};
+use crate::fact::Fact::{Number, Several};
 use crate::labels::{aging_of, sending_of};
-use crate::phrases::{add_closing, add_counts, add_first_tick, begin_queue};
-use crate::servers::{Server, server_of};
-use crate::waits::{Named, add_never, add_room_ways, claim_of};
+use crate::refused::tell_label;
+use crate::servers::{Server, begin_counts, place, server_of, tell_terms};
+use crate::teller::Teller;
+use crate::waits::{claim_of, tell_room_ways};
+use crate::ways::tell_never_ways;
 use dc_busy::LONGEST_WINDOW;
 use dc_cert::Certificate;
 use dc_check::Condition;
 use dc_find::{FindFault, Queue, find, reach};
 use dc_tables::Tables;
-use dc_tell::{Several, begin, help, name_file};
+use dc_tell::{Explanation, File};
 use std::alloc::{AllocError, Global};
 
 /// How many are told in full.
@@ -106,188 +107,142 @@ fn obstacles_of(
 }
 
 /// F1: no window of a queue closes.
-fn tell_never(
-    out: &mut String,
-    tables: &Tables,
-    server: &Server,
-    files: &Named<'_>,
-) -> Result<(), AllocError> {
-    let counts = counts_of(
-        tables,
-        server.queue,
-        LONGEST_WINDOW,
-        LONGEST_WINDOW.saturating_sub(1),
-    );
-    begin_queue(out, "F1", server)?;
-    add_counts(out, server, LONGEST_WINDOW, LONGEST_WINDOW, &counts)?;
-    out.push_str(": no window closes")?;
-    name_file(out, files.tables)?;
-    if !files.known {
-        add_first_tick(out, server)?;
-        add_closing(out)?;
-    }
-    add_never(out, tables, server)
+fn tell_never(told: &mut Teller<'_>, server: &Server) {
+    let longest = LONGEST_WINDOW;
+    let before = longest.saturating_sub(1);
+    let counts = counts_of(told.tables, server.queue, longest, before);
+    begin_counts(told, "F1", server, (longest, longest), &counts);
+    told.say(": no window closes{}", &[place(false, server.queue)]);
+    tell_terms(told, server);
+    told.tell_closing();
+    tell_never_ways(told, server);
 }
 
 /// F2: more may wait in the queue of a bus than it holds.
-fn tell_short(
-    out: &mut String,
-    tables: &Tables,
-    server: &Server,
-    files: &Named<'_>,
-) -> Result<(), AllocError> {
-    let Some(closing) = closing_of(tables, server.queue, None) else {
-        return Ok(());
+fn tell_short(told: &mut Teller<'_>, server: &Server) {
+    let Some(closing) = closing_of(told.tables, server.queue, None) else {
+        return;
     };
     let peak = closing.peaks.backlog;
     let by = peak.ticks;
-    let counts = counts_of(tables, server.queue, by, by.saturating_sub(2));
-    let least = peak.height;
-    let room = server.room;
-    begin_queue(out, "F2", server)?;
-    add_counts(out, server, by, by, &counts)?;
-    write!(out, ": {least} may wait, and its queue holds {room}")?;
-    name_file(out, files.tables)?;
-    if !files.known {
-        add_first_tick(out, server)?;
-    }
-    add_room_ways(out, tables, server, least)
-}
-
-/// F3: a rule on a label is broken.
-fn tell_rule(
-    out: &mut String,
-    tables: &Tables,
-    certificate: &Certificate,
-    label: usize,
-    rule: Condition,
-    files: &Named<'_>,
-) -> Result<(), AllocError> {
-    let Some(sending) = sending_of(tables, certificate, label) else {
-        return Ok(());
-    };
-    let Some(aging) = aging_of(tables, certificate, label) else {
-        return Ok(());
-    };
-    match rule {
-        Condition::SentTooSoon => tell_soon(out, "F3", tables, &sending, files),
-        Condition::SentTooLate => tell_late(out, "F3", tables, &sending, files),
-        Condition::AgeOverLimit => tell_oldest(out, tables, &aging, files),
-        Condition::SourceGoesStale => tell_stale(out, "F3", tables, &aging, files),
-        _ => Ok(()),
-    }
+    let counts = counts_of(told.tables, server.queue, by, by.saturating_sub(2));
+    begin_counts(told, "F2", server, (by, by), &counts);
+    told.say(
+        ": {} may wait, and its queue holds {}{}",
+        &[
+            Number(peak.height),
+            Number(u64::from(server.room)),
+            place(false, server.queue),
+        ],
+    );
+    tell_terms(told, server);
+    tell_room_ways(told, server, peak.height);
 }
 
 /// Tells one thing that stands in the way.
-fn tell_obstacle(
-    out: &mut String,
-    tables: &Tables,
-    certificate: &Certificate,
-    fault: FindFault,
-    files: &Named<'_>,
-) -> Result<(), AllocError> {
-    let queue = match fault {
-        FindFault::WindowNeverCloses(queue) => queue,
-        FindFault::QueueTooShort(bus) => Queue::Input(bus),
+fn tell_obstacle(told: &mut Teller<'_>, fault: FindFault) {
+    let (queue, is_short) = match fault {
+        FindFault::WindowNeverCloses(queue) => (queue, false),
+        FindFault::QueueTooShort(bus) => (Queue::Input(bus), true),
         FindFault::LabelRule(label, rule) => {
-            return tell_rule(out, tables, certificate, label, rule, files);
+            return tell_label(told, "F3", label, rule);
         }
-        FindFault::Memory => return Ok(()),
+        FindFault::Memory => return,
     };
-    let Some(server) = server_of(tables, queue) else {
-        return Ok(());
+    let Some(server) = server_of(told.tables, queue) else {
+        return;
     };
-    match fault {
-        FindFault::QueueTooShort(_) => tell_short(out, tables, &server, files),
-        _ => tell_never(out, tables, &server, files),
+    if is_short {
+        tell_short(told, &server)
+    } else {
+        tell_never(told, &server)
     }
 }
 
-/// Adds how many more stand in the way than were told.
-fn add_rest(out: &mut String, rest: usize, files: &Named<'_>) -> Result<(), AllocError> {
+/// Tells how many more stand in the way than were told.
+fn tell_rest(told: &mut Teller<'_>, rest: usize) {
     if rest == 0 {
-        return Ok(());
+        return;
     }
-    let more = Several(
-        rest as u64,
-        "more input, output or label stands",
-        "more inputs, outputs and labels stand",
+    told.out.say("\n", &[]);
+    told.out.begin("");
+    told.say(
+        "{} in the way of a certificate",
+        &[Several(
+            rest as u64,
+            "more input, output or label stands",
+            "more inputs, outputs and labels stand",
+        )],
     );
-    out.push_str("\n")?;
-    begin(out, "")?;
-    write!(out, "{more} in the way of a certificate")?;
-    name_file(out, files.tables)?;
-    help(out)?;
-    out.push_str("`dc429 margins` shows all of them: each line with a negative margin\n")
+    told.out.name_file(told.file.name);
+    told.out.help(
+        "`dc429 margins` shows all of them: each line with a negative margin",
+        &[],
+    );
 }
 
 /// Tells the first of what stands in the way, and how many more do.
-fn tell_all(
-    alloc: Global,
-    tables: &Tables,
-    certificate: &Certificate,
-    all: &[FindFault],
-    file: &str,
-) -> Result<String, AllocError> {
-    let mut files = Named {
-        tables: file,
-        certificate: file,
-        known: false,
-    };
-    let mut out = String::new(alloc);
+fn tell_all(mut told: Teller<'_>, all: &[FindFault]) -> Option<String> {
     for fault in all.iter().take(TOLD) {
-        let mut one = String::new(alloc);
-        tell_obstacle(&mut one, tables, certificate, *fault, &files)?;
-        if !out.is_empty() {
-            out.push_str("\n")?;
+        if told.is_known {
+            told.out.say("\n", &[]);
         }
-        out.push_str(one.as_str())?;
-        files.known = true;
+        tell_obstacle(&mut told, *fault);
+        told.tell_alone();
+        told.is_known = true;
     }
-    add_rest(&mut out, all.len().saturating_sub(TOLD), &files)?;
-    Ok(out)
+    tell_rest(&mut told, all.len().saturating_sub(TOLD));
+    let Teller { out, .. } = told;
+    out.finish()
 }
 
 /// Tells all that stands in the way of a certificate behind the first.
-fn explain_from(
-    alloc: Global,
-    tables: &Tables,
-    fault: FindFault,
-    file: &str,
-) -> Result<String, AllocError>
+fn explain_from(alloc: Global, tables: &Tables, fault: FindFault, file: File<'_>) -> Option<String>
     requires { IsFirstInTheWay tables.now fault }
 {
-    let reached = reach(alloc, tables, fault)?;
-    let all = obstacles_of(alloc, tables, &reached.certificate)?;
-    tell_all(alloc, tables, &reached.certificate, all.as_slice(), file)
+    let Ok(reached) = reach(alloc, tables, fault) else {
+        return None;
+    };
+    let Ok(all) = obstacles_of(alloc, tables, &reached.certificate) else {
+        return None;
+    };
+    let told = Teller {
+        alloc,
+        out: Explanation::new(alloc),
+        tables,
+        certificate: &reached.certificate,
+        file,
+        claims: file,
+        is_known: false,
+    };
+    tell_all(told, all.as_slice())
 }
 
 /// Why no certificate is accepted for tables: all inputs, outputs and labels that stand in the way, ten in full and how
-/// many more there are. `None` where one is accepted.
-///
-/// # Errors
-/// Where memory is refused.
-pub fn explain_find(
-    alloc: Global,
-    tables: &Tables,
-    file: &str,
-) -> Result<Option<String>, AllocError> {
+/// many more there are. `None` where one is accepted, and where memory is refused.
+pub fn explain_find(alloc: Global, tables: &Tables, file: File<'_>) -> Option<String> {
     let Some(fault) = find(alloc, tables).err() else {
-        return Ok(None);
+        return None;
     };
     match fault {
-        FindFault::Memory => Err(AllocError),
-        FindFault::WindowNeverCloses(queue) => {
-            let told = explain_from(alloc, tables, FindFault::WindowNeverCloses(queue), file)?;
-            Ok(Some(told))
-        }
-        FindFault::QueueTooShort(bus) => {
-            let told = explain_from(alloc, tables, FindFault::QueueTooShort(bus), file)?;
-            Ok(Some(told))
-        }
-        FindFault::LabelRule(label, rule) => {
-            let told = explain_from(alloc, tables, FindFault::LabelRule(label, rule), file)?;
-            Ok(Some(told))
-        }
+        FindFault::Memory => None,
+        FindFault::WindowNeverCloses(queue) => explain_from(
+            alloc,
+            tables,
+            FindFault::WindowNeverCloses(queue),
+            file,
+        ),
+        FindFault::QueueTooShort(bus) => explain_from(
+            alloc,
+            tables,
+            FindFault::QueueTooShort(bus),
+            file,
+        ),
+        FindFault::LabelRule(label, rule) => explain_from(
+            alloc,
+            tables,
+            FindFault::LabelRule(label, rule),
+            file,
+        ),
     }
 }

@@ -1,124 +1,104 @@
 //! Why a certificate is refused.
 
-use crate::ages::{tell_age, tell_limit, tell_stale};
-use crate::gaps::{tell_late, tell_soon};
+use crate::ages::{tell_age, tell_limit, tell_oldest, tell_stale};
+use crate::gaps::tell_gap;
 use crate::labels::{aging_of, sending_of};
 use crate::misnamed::tell_names;
 use crate::servers::server_of;
+use crate::teller::Teller;
 use crate::waits::{
-    Named, claim_of, tell_backlog, tell_delay, tell_long_delay, tell_open_window, tell_room,
-    tell_window,
+    claim_of, tell_backlog, tell_delay, tell_long_delay, tell_open_window, tell_room, tell_window,
 };
 use dc_cert::Certificate;
 use dc_check::{CertificateList, CheckFault, Condition, verdict};
 use dc_find::Queue;
 use dc_tables::Tables;
-use std::alloc::{AllocError, Global};
+use dc_tell::{Explanation, File};
+use std::alloc::Global;
 
-/// What the files are called that were read.
-#[derive(Clone, Copy, Debug)]
+/// The texts that were read.
+#[derive(Clone, Copy)]
 pub struct Files<'a> {
     /// The tables.
-    pub tables: &'a str,
-    /// The certificate; `None` where the least one was taken.
-    pub certificate: Option<&'a str>,
+    pub tables: File<'a>,
+    /// The certificate.
+    pub certificate: File<'a>,
 }
 
 /// Tells what is wrong with a queue.
-fn tell_queue(
-    out: &mut String,
-    tables: &Tables,
-    certificate: &Certificate,
-    fault: &CheckFault,
-    queue: Queue,
-    files: &Named<'_>,
-) -> Result<(), AllocError> {
-    let Some(server) = server_of(tables, queue) else {
-        return Ok(());
+fn tell_queue(told: &mut Teller<'_>, fault: &CheckFault, queue: Queue) {
+    let Some(server) = server_of(told.tables, queue) else {
+        return;
     };
-    let Some(claim) = claim_of(certificate, queue) else {
-        return Ok(());
+    let Some(claim) = claim_of(told.certificate, queue) else {
+        return;
     };
-    let first = fault.window;
     match fault.condition {
-        Condition::WindowOutOfRange => tell_window(out, tables, &server, &claim, files),
-        Condition::DelayOutOfRange => tell_long_delay(out, tables, &server, &claim, files),
-        Condition::WindowDoesNotClose => tell_open_window(out, tables, &server, &claim, files),
-        Condition::BacklogTooSmall => tell_backlog(out, tables, &server, &claim, first, files),
-        Condition::QueueTooShort => tell_room(out, tables, &server, &claim, files),
-        Condition::DelayTooSmall => tell_delay(out, tables, &server, &claim, first, files),
-        _ => Ok(()),
+        Condition::WindowOutOfRange => tell_window(told, &server, &claim),
+        Condition::DelayOutOfRange => tell_long_delay(told, &server, &claim),
+        Condition::WindowDoesNotClose => tell_open_window(told, &server, &claim),
+        Condition::BacklogTooSmall => tell_backlog(told, &server, &claim, fault.window),
+        Condition::QueueTooShort => tell_room(told, &server, &claim),
+        Condition::DelayTooSmall => tell_delay(told, &server, &claim, fault.window),
+        _ => {}
     }
 }
 
-/// Tells what is wrong with a label.
-fn tell_label(
-    out: &mut String,
-    tables: &Tables,
-    certificate: &Certificate,
-    fault: &CheckFault,
-    files: &Named<'_>,
-) -> Result<(), AllocError> {
-    let Some(sending) = sending_of(tables, certificate, fault.index) else {
-        return Ok(());
+/// Tells which rule a label breaks, as of this code.
+pub(crate) fn tell_label(told: &mut Teller<'_>, code: &str, label: usize, condition: Condition) {
+    let Some(sending) = sending_of(told.tables, told.certificate, label) else {
+        return;
     };
-    let Some(aging) = aging_of(tables, certificate, fault.index) else {
-        return Ok(());
+    let Some(aging) = aging_of(told.tables, told.certificate, label) else {
+        return;
     };
-    match fault.condition {
-        Condition::SentTooSoon => tell_soon(out, "C08", tables, &sending, files),
-        Condition::SentTooLate => tell_late(out, "C09", tables, &sending, files),
-        Condition::AgeTooSmall => tell_age(out, tables, &aging, files),
-        Condition::AgeOverLimit => tell_limit(out, tables, &aging, files),
-        Condition::SourceGoesStale => tell_stale(out, "C12", tables, &aging, files),
-        _ => Ok(()),
+    match condition {
+        Condition::SentTooSoon | Condition::SentTooLate => tell_gap(
+            told, code, &sending, condition,
+        ),
+        Condition::AgeTooSmall => tell_age(told, &aging),
+        Condition::AgeOverLimit if code == "F3" => tell_oldest(told, &aging),
+        Condition::AgeOverLimit => tell_limit(told, &aging),
+        Condition::SourceGoesStale => tell_stale(told, code, &aging),
+        _ => {}
     }
 }
 
 /// Tells a fault.
-fn tell_fault(
-    out: &mut String,
-    tables: &Tables,
-    certificate: &Certificate,
-    fault: &CheckFault,
-    files: &Named<'_>,
-) -> Result<(), AllocError> {
-    let list = fault.list;
-    if fault.condition == Condition::NamesDiffer {
-        return tell_names(out, tables, certificate, list, files);
+fn tell_fault(told: &mut Teller<'_>, fault: &CheckFault) {
+    let (list, condition, index) = (fault.list, fault.condition, fault.index);
+    if condition == Condition::NamesDiffer {
+        return tell_names(told, list);
     }
-    let index = fault.index;
     match list {
-        CertificateList::Inputs => {
-            tell_queue(out, tables, certificate, fault, Queue::Input(index), files)
-        }
-        CertificateList::Outputs => {
-            tell_queue(out, tables, certificate, fault, Queue::Output(index), files)
-        }
-        CertificateList::Labels => tell_label(out, tables, certificate, fault, files),
+        CertificateList::Inputs => tell_queue(told, fault, Queue::Input(index)),
+        CertificateList::Outputs => tell_queue(told, fault, Queue::Output(index)),
+        CertificateList::Labels => tell_label(told, condition.code(), index, condition),
     }
+    told.tell_alone();
 }
 
 /// Why a certificate is refused for tables: its first fault, with the numbers that decide it and what helps. `None`
-/// where it is accepted.
-///
-/// # Errors
-/// Where memory is refused.
+/// where it is accepted, and where memory is refused.
 pub fn explain_verdict(
     alloc: Global,
     tables: &Tables,
     certificate: &Certificate,
     files: Files<'_>,
-) -> Result<Option<String>, AllocError> {
+) -> Option<String> {
     let Some(fault) = verdict(tables, certificate).err() else {
-        return Ok(None);
+        return None;
     };
-    let named = Named {
-        tables: files.tables,
-        certificate: files.certificate.unwrap_or(files.tables),
-        known: false,
+    let mut told = Teller {
+        alloc,
+        out: Explanation::new(alloc),
+        tables,
+        certificate,
+        file: files.tables,
+        claims: files.certificate,
+        is_known: false,
     };
-    let mut out = String::new(alloc);
-    tell_fault(&mut out, tables, certificate, &fault, &named)?;
-    Ok(Some(out))
+    tell_fault(&mut told, &fault);
+    let Teller { out, .. } = told;
+    out.finish()
 }

@@ -1,6 +1,10 @@
 //! The queues of the tables: who serves each, and at what pace.
 
-use dc_document::{MOST_STEPS, Name};
+use crate::bounds::Counts;
+use crate::fact::Fact;
+use crate::fact::Fact::{Name, Number, Only, Several, Word};
+use crate::teller::Teller;
+use dc_document::{MOST_STEPS, Section};
 use dc_find::Queue;
 use dc_tables::Tables;
 
@@ -9,10 +13,8 @@ use dc_tables::Tables;
 pub(crate) struct Server {
     /// The queue.
     pub(crate) queue: Queue,
-    /// The name of the bus or of the output.
-    pub(crate) name: Name,
-    /// The name of the router or of the output.
-    pub(crate) by: Name,
+    /// The number of the router; of an output its own.
+    pub(crate) by: usize,
     /// So many steps are made at least ..
     pub(crate) steps: u32,
     /// .. in each so many ticks.
@@ -25,50 +27,47 @@ pub(crate) struct Server {
     pub(crate) room: u32,
 }
 
-/// What the members of a queue are called.
-#[derive(Clone, Copy)]
-pub(crate) struct Speech {
-    /// Its list.
-    pub(crate) kind: &'static str,
-    /// What comes to it, as `on bus`.
-    pub(crate) place: &'static str,
-    /// One of what comes.
-    pub(crate) one: &'static str,
-    /// Several.
-    pub(crate) many: &'static str,
-    /// How they come, as `may have come`.
-    pub(crate) come: &'static str,
-    /// How they leave, as `been taken`.
-    pub(crate) done: &'static str,
-    /// That none of them waits.
-    pub(crate) waits: &'static str,
-    /// What serves it.
-    pub(crate) serves: &'static str,
+/// The kind and the number of the table of a queue.
+pub(crate) fn table_of(queue: Queue) -> (Section, usize) {
+    match queue {
+        Queue::Input(bus) => (Section::Bus, bus),
+        Queue::Output(output) => (Section::Output, output),
+    }
 }
 
-/// The words for a receive queue, or for what is due at an output.
-pub(crate) fn speech_of(queue: Queue) -> Speech {
+/// The name of a queue.
+pub(crate) fn name(queue: Queue) -> Fact {
+    let (section, number) = table_of(queue);
+    Name(section, number)
+}
+
+/// The place of a queue in the tables, with whether it is mended in the certificate.
+pub(crate) fn place(is_claimed: bool, queue: Queue) -> Fact {
+    let (section, number) = table_of(queue);
+    Fact::Place(is_claimed, section, number)
+}
+
+/// The name of what serves a queue.
+pub(crate) fn server_name(server: &Server) -> Fact {
+    match server.queue {
+        Queue::Input(_) => Name(Section::Router, server.by),
+        Queue::Output(_) => Name(Section::Output, server.by),
+    }
+}
+
+/// So many of what comes to a queue.
+pub(crate) fn several(queue: Queue, count: u64) -> Fact {
     match queue {
-        Queue::Input(_) => Speech {
-            kind: "input",
-            place: "on bus",
-            one: "word",
-            many: "words",
-            come: "may have come",
-            done: "been taken",
-            waits: "no word waits in the queue",
-            serves: "router",
-        },
-        Queue::Output(_) => Speech {
-            kind: "output",
-            place: "at output",
-            one: "entry",
-            many: "entries",
-            come: "may have fallen due",
-            done: "been sent",
-            waits: "no entry waits to be sent",
-            serves: "output",
-        },
+        Queue::Input(_) => Several(count, "word", "words"),
+        Queue::Output(_) => Several(count, "entry", "entries"),
+    }
+}
+
+/// The first word where the queue is one of a bus, and the second where it is one of an output.
+pub(crate) fn either(queue: Queue, bus: &'static str, output: &'static str) -> Fact {
+    match queue {
+        Queue::Input(_) => Word(bus),
+        Queue::Output(_) => Word(output),
     }
 }
 
@@ -82,8 +81,7 @@ fn bus_server(tables: &Tables, bus: usize) -> Option<Server> {
     let router = tables.router(own.router);
     Some(Server {
         queue: Queue::Input(bus),
-        name: *tables.bus_name(bus),
-        by: *tables.router_name(own.router),
+        by: own.router,
         steps: router.steps,
         within: router.within,
         most: router.most,
@@ -98,11 +96,9 @@ fn output_server(tables: &Tables, output: usize) -> Option<Server> {
         return None;
     }
     let own = tables.output(output);
-    let name = *tables.output_name(output);
     Some(Server {
         queue: Queue::Output(output),
-        name,
-        by: name,
+        by: output,
         steps: own.steps,
         within: own.within,
         most: 0,
@@ -149,4 +145,48 @@ pub(crate) fn frame_of(tables: &Tables, output: usize) -> (usize, u32) {
     }
     let own = tables.output(output);
     (own.entries.len(), own.frame)
+}
+
+/// Begins the explanation of a queue by what may have come to it by some tick, and what has surely been served by
+/// another.
+pub(crate) fn begin_counts(
+    told: &mut Teller<'_>,
+    code: &str,
+    server: &Server,
+    ticks: (u32, u32),
+    counts: &Counts,
+) {
+    let queue = server.queue;
+    let kind = either(queue, "input", "output");
+    let may = either(queue, "may have come on", "may have fallen due at");
+    let done = either(queue, "taken", "sent");
+    let come = several(queue, counts.come);
+    let (own, served) = (name(queue), Only(counts.served));
+    let (first, last) = (u64::from(ticks.0), u64::from(ticks.1));
+    told.out.begin(code);
+    told.say(
+        "{} `{}`: {} {} it by tick {}",
+        &[kind, own, come, may, Number(first)],
+    );
+    if first == last {
+        return told.say(" and {} surely been {}", &[served, done]);
+    }
+    told.say(
+        ", and by tick {} {} surely been {}",
+        &[Number(last), served, done],
+    )
+}
+
+/// Tells from which tick the others are counted, and what is sure, where that was not told before.
+pub(crate) fn tell_terms(told: &mut Teller<'_>, server: &Server) {
+    if told.is_known {
+        return;
+    }
+    let sentence = match server.queue {
+        Queue::Input(_) =>
+            "\nnote: tick 1 is any tick before which no word waits in the queue; sure is what `steps` and `within` of router `{}` promise",
+        Queue::Output(_) =>
+            "\nnote: tick 1 is any tick before which no entry waits to be sent; sure is what `steps` and `within` of output `{}` promise",
+    };
+    told.say(sentence, &[server_name(server)]);
 }

@@ -1,17 +1,16 @@
 //! What is wrong with the window, the backlog or the delay of a queue: C02 to C07.
 
 use crate::bounds::{closing_of, counts_of};
-use crate::phrases::{Range, add_closing, add_counts, add_first_tick, begin_queue, ticks_of};
-use crate::servers::{Server, has_jitter, speech_of};
+use crate::fact::Fact;
+use crate::fact::Fact::{Number, Range, Several, Ticks};
+use crate::servers::{Server, begin_counts, either, has_jitter, name, place, several, tell_terms};
 use crate::steps::{ANY_WINDOW, Wish};
-use crate::ways::{add_other_ways, add_pace, add_steps, begin_way};
+use crate::teller::Teller;
+use crate::ways::{tell_never_ways, tell_no_steps, tell_steps};
 use dc_bound::GREATEST_QUEUE;
 use dc_busy::LONGEST_WINDOW;
 use dc_cert::Certificate;
 use dc_find::Queue;
-use dc_tables::Tables;
-use dc_tell::{Several, name_file, note};
-use std::alloc::AllocError;
 
 /// What a certificate claims of a queue; of an output its backlog is 0.
 #[derive(Clone, Copy)]
@@ -19,17 +18,6 @@ pub(crate) struct Claim {
     pub(crate) window: u32,
     pub(crate) backlog: u32,
     pub(crate) delay: u32,
-}
-
-/// The files that an explanation names.
-#[derive(Clone, Copy)]
-pub(crate) struct Named<'a> {
-    /// The tables.
-    pub(crate) tables: &'a str,
-    /// The certificate, or the tables where the least one was taken.
-    pub(crate) certificate: &'a str,
-    /// Whether it was told before what words mean.
-    pub(crate) known: bool,
 }
 
 /// What the certificate claims of the queue, where it does.
@@ -54,302 +42,226 @@ pub(crate) fn claim_of(certificate: &Certificate, queue: Queue) -> Option<Claim>
     }
 }
 
-/// Adds that no window closes, and what helps.
-pub(crate) fn add_never(
-    out: &mut String,
-    tables: &Tables,
-    server: &Server,
-) -> Result<(), AllocError> {
-    add_pace(out, tables, server)?;
-    add_steps(out, tables, server, &ANY_WINDOW)?;
-    add_other_ways(out, server)
+/// The longest window, and the longest delay.
+const LONGEST: u64 = LONGEST_WINDOW as u64;
+
+/// Tells the least window that closes, or that there is none.
+fn tell_least_window(told: &mut Teller<'_>, server: &Server) {
+    match closing_of(told.tables, server.queue, None) {
+        None => {
+            told.say("\nnote: no window up to {} closes", &[Ticks(LONGEST)]);
+            tell_never_ways(told, server)
+        }
+        Some(closing) => told.say(
+            "\nhelp: write a `window` of {}, the least that closes",
+            &[Ticks(u64::from(closing.window))],
+        ),
+    }
 }
 
-/// Adds the least window that closes, or that there is none.
-fn add_least_window(out: &mut String, tables: &Tables, server: &Server) -> Result<(), AllocError> {
-    let Some(closing) = closing_of(tables, server.queue, None) else {
-        note(out)?;
-        write!(out, "no window up to {LONGEST_WINDOW} ticks closes\n")?;
-        return add_never(out, tables, server);
-    };
-    let window = ticks_of(u64::from(closing.window));
-    begin_way(out)?;
-    write!(out, "write a `window` of {window}, the least that closes\n")
+/// Where to mend a window: in the certificate where some window closes.
+fn window_place(told: &Teller<'_>, server: &Server) -> Fact {
+    let is_closing = closing_of(told.tables, server.queue, None).is_some();
+    place(is_closing, server.queue)
+}
+
+/// Begins what is told of a window or a delay that is out of its range.
+fn begin_range(told: &mut Teller<'_>, code: &str, server: &Server, sentence: &str, claimed: u32) {
+    let kind = either(server.queue, "input", "output");
+    let (ticks, place) = (Ticks(u64::from(claimed)), window_place(told, server));
+    told.out.begin(code);
+    told.say("{} `{}`: the certificate has ", &[kind, name(server.queue)]);
+    told.say(sentence, &[ticks, Ticks(LONGEST), place]);
 }
 
 /// C02: the window is out of its range.
-pub(crate) fn tell_window(
-    out: &mut String,
-    tables: &Tables,
-    server: &Server,
-    claim: &Claim,
-    files: &Named<'_>,
-) -> Result<(), AllocError> {
-    let window = ticks_of(u64::from(claim.window));
-    begin_queue(out, "C02", server)?;
-    write!(
-        out,
-        "the certificate has a window of {window}; one of 1 to {LONGEST_WINDOW} ticks is wanted"
-    )?;
-    name_file(out, files.certificate)?;
-    add_closing(out)?;
-    add_least_window(out, tables, server)
+pub(crate) fn tell_window(told: &mut Teller<'_>, server: &Server, claim: &Claim) {
+    let sentence = "a window of {}; one of 1 tick to {} is wanted{}";
+    begin_range(told, "C02", server, sentence, claim.window);
+    told.tell_closing();
+    tell_least_window(told, server);
 }
 
 /// C07: the delay is out of its range.
-pub(crate) fn tell_long_delay(
-    out: &mut String,
-    tables: &Tables,
-    server: &Server,
-    claim: &Claim,
-    files: &Named<'_>,
-) -> Result<(), AllocError> {
-    let delay = ticks_of(u64::from(claim.delay));
-    begin_queue(out, "C07", server)?;
-    write!(
-        out,
-        "the certificate has a delay of {delay}; {LONGEST_WINDOW} ticks is the longest that is accepted"
-    )?;
-    name_file(out, files.certificate)?;
-    let own = closing_of(tables, server.queue, Some(claim.window));
-    let found = match own {
-        None => closing_of(tables, server.queue, None),
-        Some(closing) => Some(closing),
-    };
-    let Some(closing) = found else {
-        add_closing(out)?;
-        return add_least_window(out, tables, server);
-    };
-    add_delay(out, closing.peaks.delay.height)
+pub(crate) fn tell_long_delay(told: &mut Teller<'_>, server: &Server, claim: &Claim) {
+    let sentence = "a delay of {}; {} is the longest that is accepted{}";
+    begin_range(told, "C07", server, sentence, claim.delay);
+    let own = closing_of(told.tables, server.queue, Some(claim.window));
+    match own.or(closing_of(told.tables, server.queue, None)) {
+        Some(closing) => tell_delay_way(told, closing.peaks.delay.height),
+        None => {
+            told.tell_closing();
+            tell_least_window(told, server)
+        }
+    }
 }
 
-/// Adds the least delay that would be accepted, where there is one.
-fn add_delay(out: &mut String, least: u64) -> Result<(), AllocError> {
-    if least > u64::from(LONGEST_WINDOW) {
-        note(out)?;
-        return write!(out, "no `delay` up to {LONGEST_WINDOW} ticks is enough\n");
-    }
-    let least = ticks_of(least);
-    begin_way(out)?;
-    write!(out, "write a `delay` of at least {least}\n")
+/// Tells the least delay that would be accepted, where there is one.
+fn tell_delay_way(told: &mut Teller<'_>, least: u64) {
+    let (sentence, ticks) = if least > LONGEST {
+        ("\nnote: no `delay` up to {} is enough", LONGEST)
+    } else {
+        ("\nhelp: write a `delay` of at least {}", least)
+    };
+    told.say(sentence, &[Ticks(ticks)]);
 }
 
 /// C03: the window does not close.
-pub(crate) fn tell_open_window(
-    out: &mut String,
-    tables: &Tables,
-    server: &Server,
-    claim: &Claim,
-    files: &Named<'_>,
-) -> Result<(), AllocError> {
-    let ticks = claim.window;
-    let counts = counts_of(tables, server.queue, ticks, ticks.saturating_sub(1));
-    let speech = speech_of(server.queue);
-    let missing = counts.come.saturating_sub(counts.served);
-    let missing = Several(missing, speech.one, speech.many);
-    let window = ticks_of(u64::from(ticks));
-    begin_queue(out, "C03", server)?;
-    add_counts(out, server, ticks, ticks, &counts)?;
-    write!(
-        out,
-        ": a window of {window} does not close, {missing} may be left"
-    )?;
-    name_file(out, files.certificate)?;
-    add_first_tick(out, server)?;
-    add_closing(out)?;
-    add_least_window(out, tables, server)?;
-    add_window_steps(out, tables, server, ticks)
+pub(crate) fn tell_open_window(told: &mut Teller<'_>, server: &Server, claim: &Claim) {
+    let window = claim.window;
+    let before = window.saturating_sub(1);
+    let counts = counts_of(told.tables, server.queue, window, before);
+    let left = counts.come.saturating_sub(counts.served);
+    let place = window_place(told, server);
+    begin_counts(told, "C03", server, (window, window), &counts);
+    told.say(
+        ": a window of {} does not close, {} may be left{}",
+        &[Ticks(u64::from(window)), several(server.queue, left), place],
+    );
+    tell_terms(told, server);
+    told.tell_closing();
+    tell_least_window(told, server);
+    if matches!(place, Fact::Place(true, _, _)) {
+        let wish = Wish {
+            window: Some(window),
+            ..ANY_WINDOW
+        };
+        tell_steps(told, server, &wish);
+    }
 }
 
-/// Adds how many steps would close this window, where another one closes without them.
-fn add_window_steps(
-    out: &mut String,
-    tables: &Tables,
-    server: &Server,
-    window: u32,
-) -> Result<(), AllocError> {
-    if closing_of(tables, server.queue, None).is_none() {
-        return Ok(());
+/// Tells that a condition fails before the tick that was named.
+fn tell_earlier(told: &mut Teller<'_>, first: u32, worst: u32) {
+    if first != worst {
+        told.say(
+            "\nnote: it is so from tick {} on; tick {} is the worst",
+            &[Number(u64::from(first)), Number(u64::from(worst))],
+        );
     }
-    let wish = Wish {
-        window: Some(window),
-        ..ANY_WINDOW
-    };
-    add_steps(out, tables, server, &wish)
-}
-
-/// Adds that a condition fails before the tick that was named.
-fn add_earlier(out: &mut String, first: u32, told: u32) -> Result<(), AllocError> {
-    if first == told {
-        return Ok(());
-    }
-    note(out)?;
-    write!(
-        out,
-        "it is so from tick {first} on; tick {told} is the worst\n"
-    )
 }
 
 /// C04: more may wait than the backlog says; `first` is the first tick by which it is so.
-pub(crate) fn tell_backlog(
-    out: &mut String,
-    tables: &Tables,
-    server: &Server,
-    claim: &Claim,
-    first: u32,
-    files: &Named<'_>,
-) -> Result<(), AllocError> {
-    let Some(closing) = closing_of(tables, server.queue, Some(claim.window)) else {
-        return Ok(());
+pub(crate) fn tell_backlog(told: &mut Teller<'_>, server: &Server, claim: &Claim, first: u32) {
+    let Some(closing) = closing_of(told.tables, server.queue, Some(claim.window)) else {
+        return;
     };
     let peak = closing.peaks.backlog;
     let before = peak.ticks.saturating_sub(2);
-    let counts = counts_of(tables, server.queue, peak.ticks, before);
-    let backlog = claim.backlog;
-    let least = peak.height;
-    begin_queue(out, "C04", server)?;
-    add_counts(out, server, peak.ticks, peak.ticks, &counts)?;
-    write!(
-        out,
-        ": {least} may wait, and the certificate lets {backlog} wait"
-    )?;
-    let mended = if least <= u64::from(server.room) {
-        files.certificate
-    } else {
-        files.tables
-    };
-    name_file(out, mended)?;
-    add_first_tick(out, server)?;
-    add_earlier(out, first, peak.ticks)?;
-    add_backlog_ways(out, tables, server, claim, least)
-}
-
-/// Adds what helps where so many may wait.
-fn add_backlog_ways(
-    out: &mut String,
-    tables: &Tables,
-    server: &Server,
-    claim: &Claim,
-    least: u64,
-) -> Result<(), AllocError> {
-    if least <= u64::from(server.room) {
-        begin_way(out)?;
-        write!(out, "write a `backlog` of at least {least}\n")?;
-    } else {
-        add_queue(out, server, least)?;
+    let counts = counts_of(told.tables, server.queue, peak.ticks, before);
+    let least = Number(peak.height);
+    let is_claimed = peak.height <= u64::from(server.room);
+    begin_counts(told, "C04", server, (peak.ticks, peak.ticks), &counts);
+    told.say(
+        ": {} may wait, and the certificate lets {} wait{}",
+        &[
+            least,
+            Number(u64::from(claim.backlog)),
+            place(is_claimed, server.queue),
+        ],
+    );
+    tell_terms(told, server);
+    tell_earlier(told, first, peak.ticks);
+    if is_claimed {
+        told.say("\nhelp: write a `backlog` of at least {}", &[least]);
     }
     let wish = Wish {
         window: Some(claim.window),
         waiting: u64::from(claim.backlog),
         ..ANY_WINDOW
     };
-    add_steps(out, tables, server, &wish)
+    tell_steps(told, server, &wish);
+    tell_no_steps(told, server, &wish);
+    if !is_claimed {
+        tell_longer_queue(told, server, peak.height);
+    }
 }
 
-/// Adds how long the queue would have to be, or that none is long enough.
-fn add_queue(out: &mut String, server: &Server, least: u64) -> Result<(), AllocError> {
-    let name = server.name.as_str();
-    let room = server.room;
-    let words = Several(least, "word", "words");
-    if least > u64::from(GREATEST_QUEUE) {
-        note(out)?;
-        return write!(
-            out,
-            "no `queue` is long enough: the longest holds {GREATEST_QUEUE} words\n"
+/// Tells how long the queue of a bus would have to be, or that none is long enough.
+fn tell_longer_queue(told: &mut Teller<'_>, server: &Server, least: u64) {
+    let greatest = u64::from(GREATEST_QUEUE);
+    if least > greatest {
+        return told.say(
+            "\nnote: no `queue` is long enough: the longest holds {} words",
+            &[Number(greatest)],
         );
     }
-    begin_way(out)?;
-    write!(
-        out,
-        "make the `queue` of bus `{name}` at least {words} long, where it has {room}\n"
-    )
+    told.say(
+        "\nweaker: make the `queue` of bus `{}` at least {} long, where it has {}: it costs memory, and words grow older in it",
+        &[
+            name(server.queue),
+            Several(least, "word", "words"),
+            Number(u64::from(server.room)),
+        ],
+    );
 }
 
 /// C05: the backlog is over the room of the queue.
-pub(crate) fn tell_room(
-    out: &mut String,
-    tables: &Tables,
-    server: &Server,
-    claim: &Claim,
-    files: &Named<'_>,
-) -> Result<(), AllocError> {
-    let Some(closing) = closing_of(tables, server.queue, Some(claim.window)) else {
-        return Ok(());
+pub(crate) fn tell_room(told: &mut Teller<'_>, server: &Server, claim: &Claim) {
+    let Some(closing) = closing_of(told.tables, server.queue, Some(claim.window)) else {
+        return;
     };
     let least = closing.peaks.backlog.height;
-    let backlog = Several(u64::from(claim.backlog), "word", "words");
     let room = u64::from(server.room);
-    let name = server.name.as_str();
-    begin_queue(out, "C05", server)?;
-    write!(
-        out,
-        "the certificate lets {backlog} wait, and the queue of bus `{name}` holds {room}"
-    )?;
-    if least <= room {
-        name_file(out, files.certificate)?;
-        let enough = Range(least, room);
-        begin_way(out)?;
-        return write!(
-            out,
-            "write a `backlog` of {enough}: no more than {least} ever wait\n"
-        );
+    told.out.begin("C05");
+    told.say(
+        "input `{}`: the certificate lets {} wait, and the queue of bus `{}` holds {}{}",
+        &[
+            name(server.queue),
+            Several(u64::from(claim.backlog), "word", "words"),
+            name(server.queue),
+            Number(room),
+            place(least <= room, server.queue),
+        ],
+    );
+    if least > room {
+        return tell_room_ways(told, server, least);
     }
-    name_file(out, files.tables)?;
-    add_room_ways(out, tables, server, least)
+    told.say(
+        "\nhelp: write a `backlog` of {}: no more than {} ever wait",
+        &[Range(least, room), Number(least)],
+    );
 }
 
-/// Adds what helps where more may wait than the queue of a bus holds.
-pub(crate) fn add_room_ways(
-    out: &mut String,
-    tables: &Tables,
-    server: &Server,
-    least: u64,
-) -> Result<(), AllocError> {
-    let name = server.name.as_str();
-    add_queue(out, server, least)?;
-    if let Queue::Input(bus) = server.queue {
-        if has_jitter(tables, bus) {
-            begin_way(out)?;
-            write!(
-                out,
-                "write a smaller `jitter_us` for the streams of bus `{name}`, if they keep it\n"
-            )?;
-        }
-    }
+/// Tells what helps where more may wait than the queue of a bus holds.
+pub(crate) fn tell_room_ways(told: &mut Teller<'_>, server: &Server, least: u64) {
     let wish = Wish {
         waiting: u64::from(server.room),
         ..ANY_WINDOW
     };
-    add_steps(out, tables, server, &wish)
+    tell_steps(told, server, &wish);
+    tell_no_steps(told, server, &wish);
+    if let Queue::Input(bus) = server.queue {
+        if has_jitter(told.tables, bus) {
+            told.say(
+                "\nasked: write a smaller `jitter_us` for the streams of bus `{}`",
+                &[name(server.queue)],
+            );
+        }
+    }
+    tell_longer_queue(told, server, least);
 }
 
 /// C06: a word may wait longer than the delay says; `first` is the first tick by which it is so.
-pub(crate) fn tell_delay(
-    out: &mut String,
-    tables: &Tables,
-    server: &Server,
-    claim: &Claim,
-    first: u32,
-    files: &Named<'_>,
-) -> Result<(), AllocError> {
-    let Some(closing) = closing_of(tables, server.queue, Some(claim.window)) else {
-        return Ok(());
+pub(crate) fn tell_delay(told: &mut Teller<'_>, server: &Server, claim: &Claim, first: u32) {
+    let Some(closing) = closing_of(told.tables, server.queue, Some(claim.window)) else {
+        return;
     };
     let peak = closing.peaks.delay;
     let by = peak.ticks.saturating_add(claim.delay);
-    let counts = counts_of(tables, server.queue, peak.ticks, by.saturating_sub(1));
-    let delay = ticks_of(u64::from(claim.delay));
-    begin_queue(out, "C06", server)?;
-    add_counts(out, server, peak.ticks, by, &counts)?;
-    write!(out, "; the certificate has a delay of {delay}")?;
-    name_file(out, files.certificate)?;
-    add_first_tick(out, server)?;
-    add_earlier(out, first, peak.ticks)?;
-    add_delay(out, peak.height)?;
+    let before = by.saturating_sub(1);
+    let counts = counts_of(told.tables, server.queue, peak.ticks, before);
+    begin_counts(told, "C06", server, (peak.ticks, by), &counts);
+    told.say(
+        "; the certificate has a delay of {}{}",
+        &[Ticks(u64::from(claim.delay)), place(true, server.queue)],
+    );
+    tell_terms(told, server);
+    tell_earlier(told, first, peak.ticks);
+    tell_delay_way(told, peak.height);
     let wish = Wish {
         window: Some(claim.window),
         delay: u64::from(claim.delay),
         ..ANY_WINDOW
     };
-    add_steps(out, tables, server, &wish)
+    tell_steps(told, server, &wish);
 }

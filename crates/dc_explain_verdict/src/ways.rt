@@ -1,166 +1,169 @@
-//! What helps a queue.
+//! What helps. What keeps the design is told first, then what is asked of sources, then what weakens a promise.
 
-use crate::phrases::ticks_of;
-use crate::servers::{Server, frame_of, speech_of, visits_of};
+use crate::bounds::least_delay_of;
+use crate::fact::Fact;
+use crate::fact::Fact::{Number, Range, Several, Tick, Ticks};
+use crate::servers::{
+    Server, either, frame_of, name, place, server_name, server_of, several, visits_of,
+};
 use crate::steps::{ANY_WINDOW, Wish, least_steps};
+use crate::teller::Teller;
+use dc_document::Section;
 use dc_find::Queue;
-use dc_tables::Tables;
-use dc_tell::{Several, help, note};
-use std::alloc::AllocError;
 
-/// What begins a line of help.
-const HELP: &str = "= help: ";
-
-/// Whether something that helps was told.
-pub(crate) fn is_helped(out: &str) -> bool {
-    out.contains(HELP)
-}
-
-/// Begins what is to be done: instead of what was told before, where something was.
-pub(crate) fn begin_way(out: &mut String) -> Result<(), AllocError> {
-    let helped = is_helped(out.as_str());
-    help(out)?;
-    if helped { out.push_str("or ") } else { Ok(()) }
-}
-
-/// Adds that a router would have to be let make so many steps in a tick, where it may not make as many as it is given.
-fn add_most(out: &mut String, server: &Server, steps: u32) -> Result<(), AllocError> {
-    let able = u64::from(server.most).saturating_mul(u64::from(server.within));
-    let router = matches!(server.queue, Queue::Input(_));
-    if router && u64::from(steps) > able {
-        let most = steps.div_ceil(server.within.max(1));
-        return write!(out, " and `most` of at least {most}");
-    }
-    Ok(())
-}
-
-/// Ends a line with what is wished.
-fn end_wish(out: &mut String, wish: &Wish) -> Result<(), AllocError> {
-    if wish.delay < ANY_WINDOW.delay {
-        let delay = ticks_of(wish.delay);
-        return write!(out, " for none to wait longer than {delay}\n");
-    }
-    if wish.waiting < ANY_WINDOW.waiting {
-        let waiting = wish.waiting;
-        return write!(out, " for no more than {waiting} to wait\n");
-    }
-    match wish.window {
-        None => out.push_str(" for a window to close\n"),
-        Some(window) => {
-            let window = ticks_of(u64::from(window));
-            write!(out, " for a window of {window} to close\n")
+/// Goes on with what is wished.
+fn tell_wish(told: &mut Teller<'_>, wish: &Wish) {
+    let (words, number) = if wish.delay < ANY_WINDOW.delay {
+        (" for none to wait longer than {}", Ticks(wish.delay))
+    } else if wish.waiting < ANY_WINDOW.waiting {
+        (" for no more than {} to wait", Number(wish.waiting))
+    } else {
+        match wish.window {
+            None => (" for a window to close", Tick),
+            Some(window) => (" for a window of {} to close", Ticks(u64::from(window))),
         }
-    }
-}
-
-/// Adds that no steps that tables may have are enough, where nothing that helps was told.
-fn add_no_steps(out: &mut String, server: &Server, wish: &Wish) -> Result<(), AllocError> {
-    if is_helped(out.as_str()) {
-        return Ok(());
-    }
-    let by = server.by.as_str();
-    let limit = server.limit;
-    note(out)?;
-    match server.queue {
-        Queue::Input(_) => {
-            write!(out, "no `steps` of router `{by}` up to {limit} are enough")?;
-        }
-        Queue::Output(_) => {
-            let within = ticks_of(u64::from(server.within));
-            write!(
-                out,
-                "no `steps` of output `{by}` that its wire carries, up to {limit} in {within}, are enough"
-            )?;
-        }
-    }
-    end_wish(out, wish)
-}
-
-/// Adds how many steps would be enough for what is wished, or that none would.
-pub(crate) fn add_steps(
-    out: &mut String,
-    tables: &Tables,
-    server: &Server,
-    wish: &Wish,
-) -> Result<(), AllocError> {
-    let Some(steps) = least_steps(tables, server, wish) else {
-        return add_no_steps(out, server, wish);
     };
-    let by = server.by.as_str();
-    let now = server.steps;
-    let kind = speech_of(server.queue).serves;
-    begin_way(out)?;
-    write!(
-        out,
-        "give {kind} `{by}` `steps` of at least {steps} in place of {now}"
-    )?;
-    add_most(out, server, steps)?;
-    end_wish(out, wish)
+    told.say(words, &[number]);
 }
 
-/// Adds at what pace a bus is visited.
-fn add_visits(
-    out: &mut String,
-    tables: &Tables,
-    server: &Server,
-    bus: usize,
-) -> Result<(), AllocError> {
-    let (places, own) = visits_of(tables, bus);
-    let name = server.name.as_str();
-    let by = server.by.as_str();
-    let steps = Several(u64::from(server.steps), "step", "steps");
-    let within = ticks_of(u64::from(server.within));
-    note(out)?;
-    write!(
-        out,
-        "router `{by}` makes at least {steps} in each {within}; of its `visits`, {places} in all, bus `{name}` has {own}\n"
-    )
+/// Tells how many steps would be enough for what is wished, where some are. A router that may not make as many in a tick
+/// as that wants is to be let.
+pub(crate) fn tell_steps(told: &mut Teller<'_>, server: &Server, wish: &Wish) {
+    let Some(steps) = least_steps(told.tables, server, wish) else {
+        return;
+    };
+    told.say(
+        "\nhelp: give {} `{}` `steps` of at least {} in place of {}",
+        &[
+            either(server.queue, "router", "output"),
+            server_name(server),
+            Number(u64::from(steps)),
+            Number(u64::from(server.steps)),
+        ],
+    );
+    let most = steps.div_ceil(server.within.max(1));
+    if matches!(server.queue, Queue::Input(_)) && most > server.most {
+        told.say(" and `most` of at least {}", &[Number(u64::from(most))]);
+    }
+    tell_wish(told, wish);
 }
 
-/// Adds at what pace an output sends.
-fn add_sends(
-    out: &mut String,
-    tables: &Tables,
-    server: &Server,
-    output: usize,
-) -> Result<(), AllocError> {
-    let (entries, frame) = frame_of(tables, output);
-    let name = server.name.as_str();
-    let steps = Several(u64::from(server.steps), "word", "words");
-    let within = ticks_of(u64::from(server.within));
-    let frame = ticks_of(u64::from(frame));
-    note(out)?;
-    write!(
-        out,
-        "output `{name}` sends at least {steps} in each {within}; its `frame` of {frame} has {entries} entries\n"
-    )
+/// Tells that no steps that tables may have are enough for what is wished, where nothing that helps was told.
+pub(crate) fn tell_no_steps(told: &mut Teller<'_>, server: &Server, wish: &Wish) {
+    if told.out.is_helped() {
+        return;
+    }
+    let sentence = match server.queue {
+        Queue::Input(_) => "\nnote: no `steps` of router `{}` up to {} are enough",
+        Queue::Output(_) =>
+            "\nnote: no `steps` of output `{}` that its wire carries, up to {} in {}, are enough",
+    };
+    told.say(
+        sentence,
+        &[
+            server_name(server),
+            Number(u64::from(server.limit)),
+            Ticks(u64::from(server.within)),
+        ],
+    );
+    tell_wish(told, wish);
 }
 
-/// Adds what other than steps would help a queue of which no window closes.
-pub(crate) fn add_other_ways(out: &mut String, server: &Server) -> Result<(), AllocError> {
-    let name = server.name.as_str();
-    let by = server.by.as_str();
-    begin_way(out)?;
-    match server.queue {
-        Queue::Input(_) => write!(
-            out,
-            "let router `{by}` visit bus `{name}` more often, make its `within` smaller, or bring fewer streams on the bus\n"
-        ),
-        Queue::Output(_) => write!(
-            out,
-            "make the `within` of output `{name}` smaller or its `frame` longer, or send its labels less often (`offsets`)\n"
-        ),
+/// Where a label is mended: in the certificate at a queue where that may claim a delay of at most so many ticks, else in
+/// the tables at the label.
+pub(crate) fn mended_at(told: &Teller<'_>, queue: Queue, most: Option<u64>, label: usize) -> Fact {
+    match (least_delay_of(told.tables, queue), most) {
+        (Some(least), Some(most)) if least <= most => place(true, queue),
+        _ => Fact::Place(false, Section::Label, label),
     }
 }
 
-/// Adds at what pace a queue is served.
-pub(crate) fn add_pace(
-    out: &mut String,
-    tables: &Tables,
-    server: &Server,
-) -> Result<(), AllocError> {
+/// What is wished where a queue is to have a delay of at most so many ticks.
+fn shorter(most: u64) -> Wish {
+    Wish {
+        delay: most,
+        ..ANY_WINDOW
+    }
+}
+
+/// Tells how a queue would have a delay of at most so many ticks, in the certificate or by more steps.
+pub(crate) fn tell_shorter_delay(told: &mut Teller<'_>, queue: Queue, most: Option<u64>) {
+    let (Some(server), Some(most)) = (server_of(told.tables, queue), most) else {
+        return;
+    };
+    let least = least_delay_of(told.tables, queue).unwrap_or(u64::MAX);
+    if least > most {
+        return tell_steps(told, &server, &shorter(most));
+    }
+    told.say(
+        "\nhelp: write a `delay` of {} ticks for {} `{}`",
+        &[
+            Range(least, most),
+            either(queue, "input", "output"),
+            name(queue),
+        ],
+    );
+}
+
+/// Tells that no steps would give a queue a delay of at most so many ticks, where nothing that helps was told.
+pub(crate) fn tell_no_shorter_delay(told: &mut Teller<'_>, queue: Queue, most: Option<u64>) {
+    let (Some(server), Some(most)) = (server_of(told.tables, queue), most) else {
+        return;
+    };
+    tell_no_steps(told, &server, &shorter(most));
+}
+
+/// Tells at what pace a queue is served.
+fn tell_pace(told: &mut Teller<'_>, server: &Server) {
+    let steps = u64::from(server.steps);
+    let within = Ticks(u64::from(server.within));
+    let own = name(server.queue);
     match server.queue {
-        Queue::Input(bus) => add_visits(out, tables, server, bus),
-        Queue::Output(output) => add_sends(out, tables, server, output),
+        Queue::Input(bus) => {
+            let (places, visits) = visits_of(told.tables, bus);
+            told.say(
+                "\nnote: router `{}` makes at least {} in each {}; of its `visits`, {} in all, bus `{}` has {}",
+                &[
+                    server_name(server),
+                    Several(steps, "step", "steps"),
+                    within,
+                    Number(places as u64),
+                    own,
+                    Number(visits as u64),
+                ],
+            )
+        }
+        Queue::Output(output) => {
+            let (entries, frame) = frame_of(told.tables, output);
+            let frame = Ticks(u64::from(frame));
+            told.say(
+                "\nnote: output `{}` sends at least {} in each {}; its `frame` of {} has {}",
+                &[
+                    own,
+                    Several(steps, "word", "words"),
+                    within,
+                    frame,
+                    several(server.queue, entries as u64),
+                ],
+            )
+        }
+    }
+}
+
+/// Tells what helps a queue of which no window closes.
+pub(crate) fn tell_never_ways(told: &mut Teller<'_>, server: &Server) {
+    tell_pace(told, server);
+    tell_steps(told, server, &ANY_WINDOW);
+    tell_no_steps(told, server, &ANY_WINDOW);
+    let (own, by) = (name(server.queue), server_name(server));
+    match server.queue {
+        Queue::Input(_) => told.say(
+            "\nhelp: let router `{}` visit bus `{}` more often, or make its `within` smaller\nweaker: bring fewer streams on bus `{}`",
+            &[by, own, own],
+        ),
+        Queue::Output(_) => told.say(
+            "\nhelp: make the `within` of output `{}` smaller\nweaker: send its labels less often, by a longer `frame` or fewer `offsets`",
+            &[by],
+        ),
     }
 }

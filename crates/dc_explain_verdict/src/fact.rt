@@ -1,0 +1,29 @@
+//! What stands in the holes of sentences.
+
+use dc_check::CertificateList;
+use dc_document::Section;
+
+/// What stands in a hole of a sentence.
+#[derive(Clone, Copy)]
+pub(crate) enum Fact {
+    /// A number.
+    Number(u64),
+    /// From the first number to the second.
+    Range(u64, u64),
+    /// So many of what the first word names in the singular, the second in the plural.
+    Several(u64, &'static str, &'static str),
+    /// So many ticks, and how long they take.
+    Ticks(u64),
+    /// How many microseconds a tick has.
+    Tick,
+    /// How few have been served.
+    Only(u64),
+    /// Words.
+    Word(&'static str),
+    /// The name of the table of this kind and number.
+    Name(Section, usize),
+    /// The name of this number in a list of the certificate.
+    Written(CertificateList, usize),
+    /// Where it is mended: whether in the certificate, and at which table.
+    Place(bool, Section, usize),
+}

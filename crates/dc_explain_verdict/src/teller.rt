@@ -1,0 +1,152 @@
+//! What is explained, and how the sentences about it are filled.
+
+use crate::fact::Fact;
+use crate::names::{kinds_of, name_of, offset_of, written_at};
+use dc_cert::Certificate;
+use dc_check::Condition;
+use dc_document::Section;
+use dc_tables::Tables;
+use dc_tell::{Explanation, File, Value};
+use std::alloc::Global;
+
+/// What is told of tables and a certificate.
+#[derive(Drop)]
+pub(crate) struct Teller<'a> {
+    /// Where memory comes from.
+    pub(crate) alloc: Global,
+    /// What is told so far.
+    pub(crate) out: Explanation,
+    /// The tables.
+    pub(crate) tables: &'a Tables,
+    /// The certificate, or what was found of one.
+    pub(crate) certificate: &'a Certificate,
+    /// The text of the tables.
+    pub(crate) file: File<'a>,
+    /// The text of the certificate, or of the tables where there is none.
+    pub(crate) claims: File<'a>,
+    /// Whether it was told before what words mean.
+    pub(crate) is_known: bool,
+}
+
+/// Begins a line of a sentence by what stands before its colon, and gives what stands behind it. A `note` is to be known.
+/// What helps is a `help`, and instead of those before it: it keeps the design, where it is not `asked` of what sends on
+/// the buses, or makes a promise `weaker`.
+fn begin_line<'s>(out: &mut Explanation, line: &'s str) -> &'s str {
+    let (kind, rest) = line.split_once(": ").unwrap_or(("", line));
+    if kind == "note" {
+        out.note("", &[]);
+        return rest;
+    }
+    let lead = if out.is_helped() { "or " } else { "" };
+    out.help(lead, &[]);
+    if kind == "asked" {
+        out.put(Value::Text("ask more of a source: "));
+    }
+    if kind == "weaker" {
+        out.put(Value::Text("weaken a promise: "));
+    }
+    rest
+}
+
+impl<'a> Teller<'a> {
+    /// Shows where a file has what is told, where that is found.
+    fn tell_offset(&mut self, file: File<'_>, offset: Option<usize>) {
+        match offset {
+            Some(offset) => self.out.at(file, offset),
+            None => self.out.name_file(file.name),
+        }
+    }
+
+    /// Tells where it is mended, in the certificate or in the tables, and at which table of these.
+    fn tell_place(&mut self, is_claimed: bool, section: Section, number: usize) {
+        let (kind, claim) = kinds_of(section);
+        let table = offset_of(self.alloc, self.file.text, false, kind, number);
+        if !is_claimed {
+            return self.tell_offset(self.file, table);
+        }
+        let claimed = offset_of(self.alloc, self.claims.text, true, claim, number);
+        self.tell_offset(self.claims, claimed);
+        if let Some(offset) = table {
+            self.out.beside(self.file, offset);
+        }
+    }
+
+    /// Fills a hole.
+    fn put(&mut self, fact: Fact) {
+        let tick_us = u64::from(self.tables.tick_us());
+        let value = match fact {
+            Fact::Number(number) => Value::Number(number),
+            Fact::Range(low, high) => Value::Range(low, high),
+            Fact::Several(count, one, many) => Value::Several(count, one, many),
+            Fact::Ticks(count) => Value::Ticks(count, tick_us),
+            Fact::Only(0) => Value::Text("none has"),
+            Fact::Only(count) => Value::Several(count, "has", "have"),
+            Fact::Tick => Value::Number(tick_us),
+            Fact::Word(word) => Value::Text(word),
+            Fact::Name(section, number) => Value::Text(name_of(self.tables, section, number)),
+            Fact::Written(list, number) => Value::Text(written_at(self.certificate, list, number)),
+            Fact::Place(is_claimed, section, number) => {
+                return self.tell_place(is_claimed, section, number);
+            }
+        };
+        if matches!(fact, Fact::Only(1..)) {
+            self.out.put(Value::Text("only "));
+        }
+        self.out.put(value);
+    }
+
+    /// Goes on with a sentence, of which each `{}` is a hole for the next of these facts, and each line behind the first
+    /// begins with what it is for.
+    pub(crate) fn say(&mut self, sentence: &str, facts: &[Fact]) {
+        let mut next = 0usize;
+        for (number, line) in sentence.split('\n').enumerate() {
+            let rest = if number == 0 {
+                line
+            } else {
+                begin_line(&mut self.out, line)
+            };
+            for (hole, piece) in rest.split("{}").enumerate() {
+                if hole != 0 {
+                    if let Some(fact) = facts.get(next) {
+                        self.put(*fact);
+                    }
+                    next = next.saturating_add(1);
+                }
+                if !piece.is_empty() {
+                    self.out.put(Value::Text(piece));
+                }
+            }
+        }
+    }
+
+    /// Begins the explanation of a label. Where no certificate is found, it says which condition on it fails.
+    pub(crate) fn begin_label(&mut self, code: &str, condition: Condition, number: usize) {
+        let rule = condition.code();
+        let name = Fact::Name(Section::Label, number);
+        self.out.begin(code);
+        if code == rule {
+            return self.say("label `{}`: ", &[name]);
+        }
+        self.say("label `{}` ({}): ", &[name, Fact::Word(rule)])
+    }
+
+    /// Tells what it is to close, where that was not told before.
+    pub(crate) fn tell_closing(&mut self) {
+        if !self.is_known {
+            self.say(
+                "\nnote: a window closes where all that may come in it is surely served by its end",
+                &[],
+            );
+        }
+    }
+
+    /// Tells for how much the ways are enough that were told, where some were.
+    pub(crate) fn tell_alone(&mut self) {
+        if self.out.is_helped() && !self.is_known {
+            self.say(
+                "\nnote: each way is enough for this rule alone: `dc429 find` tells whether it is for all, and then writes a certificate",
+                &[],
+            );
+        }
+    }
+}
