@@ -1,0 +1,2 @@
+-- Lemmas that laws and crates above cite.
+pub mod Scaling
