@@ -1,0 +1,4 @@
+//! Runs of the concentrator in microseconds.
+#![tactic(auto)]
+
+pub mod laws;
