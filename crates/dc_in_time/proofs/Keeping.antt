@@ -1,5 +1,5 @@
 -- From ticks to microseconds.
-use Rattle.std.proofs.Common.{◌≡◌, ℕ, ◌≤◌, sym, subst}
+use Rattle.std.proofs.Common.{ℕ, sym, subst}
 use Rattle.dc_build.specs.RowsOf.{AreRows}
 use Rattle.dc_cert.specs.Bounds.{numbers_of}
 use Rattle.dc_cert.specs.NamedRows.{NamedRows}

@@ -1,8 +1,7 @@
 -- The old run is admissible in time, and a word of it is nearly as old as it may be.
-use Rattle.std.proofs.Common.{◌≡◌, ℕ, zero, suc, ◌+◌, ◌≤◌, ◌<◌, ◌==◌, ◌&&◌, Bool, true, nat_le, nat_lt, Some, List, [], ◌∷◌, ◌++◌, length, refl, sym, ap, subst, arith, lit≤, inl, inr}
-use Rattle.std.specs.List.{All}
+use Rattle.std.proofs.Common.{◌≡◌, ℕ, zero, suc, ◌+◌, ◌≤◌, ◌<◌, ◌==◌, ◌&&◌, Bool, true, nat_le, nat_lt, Some, List, [], ◌∷◌, ◌++◌, length, refl, arith, lit≤, inl, inr}
 use Rattle.std.proofs.lemmas.List.Elements.{All-cons, All-nil}
-use Rattle.std.proofs.lemmas.Bool.{and_parts, agree_below, agree_below_at, leb-true, ltb-true, eqb-true}
+use Rattle.std.proofs.lemmas.Bool.{and_parts, agree_below_at, leb-true, ltb-true, eqb-true}
 use Rattle.dc_bound.specs.Window.{count_in, ticks_of, Spaced, HoldAtLeast, HoldAtMost}
 use Rattle.dc_bound.specs.Run.{ticks, picks, stamped}
 use Rattle.dc_bound.specs.Places.{served_in, first_place, each_place}
@@ -27,7 +26,7 @@ use Rattle.dc_tables.specs.Declares.{stream_of}
 use Rattle.dc_tables.specs.TableRows.{TableRows}
 use Rattle.dc_time.specs.Admissible.{IsAdmissibleInTime}
 use Rattle.dc_time.specs.Intervals.{FitsClock}
-use Rattle.dc_time.specs.Sources.{brought, stream_arrival, stream_times, bus_times, KeepsSourcesInTime}
+use Rattle.dc_time.specs.Sources.{brought, stream_times, bus_times, KeepsSourcesInTime}
 use Rattle.dc_time.specs.Timed.{HappensIn, IsTimed, events, timed}
 use Rattle.dc_time.specs.lemmas.Placing.{PlacedFrom, placed-from}
 use Rattle.dc_word.specs.Word.{ones_in, is_odd, reversed}
