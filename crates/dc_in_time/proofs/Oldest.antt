@@ -1,4 +1,4 @@
--- The old run is admissible in time, and a word of it is nearly as old as it may be.
+-- The old runs are admissible in microseconds, and a word of each is nearly as old as it may be.
 use Rattle.std.proofs.Common.{◌≡◌, ℕ, zero, suc, ◌+◌, ◌≤◌, ◌<◌, ◌==◌, ◌&&◌, Bool, true, nat_le, nat_lt, Some, List, [], ◌∷◌, ◌++◌, length, refl, arith, lit≤, inl, inr}
 use Rattle.std.proofs.lemmas.List.Elements.{All-cons, All-nil}
 use Rattle.std.proofs.lemmas.Bool.{and_parts, agree_below_at, leb-true, ltb-true, eqb-true}
@@ -32,11 +32,11 @@ use Rattle.dc_time.specs.lemmas.Placing.{PlacedFrom, placed-from}
 use Rattle.dc_word.specs.Word.{ones_in, is_odd, reversed}
 
 -- what holds of the first number holds of each below 1; of the first two, of each below 2
-only_first : (P : ℕ → Type 0) → P 0 → (k : ℕ) → k < 1 → P k
+pub only_first : (P : ℕ → Type 0) → P 0 → (k : ℕ) → k < 1 → P k
 only_first P p zero h = p
 only_first P p (suc k) h = absurd (omega arith)
 
-first_two : (P : ℕ → Type 0) → P 0 → P 1 → (k : ℕ) → k < 2 → P k
+pub first_two : (P : ℕ → Type 0) → P 0 → P 1 → (k : ℕ) → k < 2 → P k
 first_two P p q zero h = p
 first_two P p q (suc zero) h = q
 first_two P p q (suc (suc k)) h = absurd (omega arith)
@@ -59,7 +59,7 @@ is_rising [] = true
 is_rising (t ∷ []) = true
 is_rising (t ∷ s ∷ ts) = nat_le t s && is_rising (s ∷ ts)
 
-rising-from : (ts : List ℕ) → is_rising ts ≡ true → NeverFall ts
+pub rising-from : (ts : List ℕ) → is_rising ts ≡ true → NeverFall ts
 unfolding NeverFall
 rising-from [] h = tt
 rising-from (t ∷ []) h = tt
@@ -87,7 +87,7 @@ abbrev is_placed : Clock → ℕ → List (ℕ × Event) → Bool
 is_placed clock k [] = true
 is_placed clock k (e ∷ run) = happens clock k e.0 e.1 && is_placed clock (k + ends e.1) run
 
-is_placed-from : (clock : Clock) (k : ℕ) (run : List (ℕ × Event)) → is_placed clock k run ≡ true → PlacedFrom clock k run
+pub is_placed-from : (clock : Clock) (k : ℕ) (run : List (ℕ × Event)) → is_placed clock k run ≡ true → PlacedFrom clock k run
 is_placed-from clock k [] h = tt
 is_placed-from clock k (e ∷ run) h =
     let r = and_parts (happens clock k e.0 e.1) (is_placed clock (k + ends e.1) run) h in
@@ -109,7 +109,7 @@ abbrev have_numbers : TableRows → List Event → Bool
 have_numbers t [] = true
 have_numbers t (e ∷ run) = has_number t e && have_numbers t run
 
-numbers-from : (t : TableRows) (run : List Event) → have_numbers t run ≡ true → IsRun t run
+pub numbers-from : (t : TableRows) (run : List Event) → have_numbers t run ≡ true → IsRun t run
 numbers-from t [] h = All-nil (IsNumbered t)
 numbers-from t (e ∷ run) h = let r = and_parts (has_number t e) (have_numbers t run) h in All-cons (IsNumbered t) e run (number-from t e r.0) (numbers-from t run r.1)
 
@@ -128,28 +128,28 @@ old_fits = record {
 
 -- ---- the run
 
-old_timing : IsTimed small_clock old_run
-old_timing = record { ordered = rising-from (ticks_of old_run) refl; placed = placed-from small_clock old_run (is_placed-from small_clock 0 old_run refl) }
+old_timing : IsTimed small_clock (old_run 6350)
+old_timing = record { ordered = rising-from (ticks_of (old_run 6350)) refl; placed = placed-from small_clock (old_run 6350) (is_placed-from small_clock 0 (old_run 6350) refl) }
 
-old_ticks : tick_after (events old_run) ≡ 30
+old_ticks : tick_after (events (old_run 6350)) ≡ 30
 unfolding ticks
 old_ticks = refl
 
-old_routes : route_ticks 0 (events old_run) ≡ 0 ∷ 1 ∷ 2 ∷ 3 ∷ 4 ∷ 5 ∷ 6 ∷ 7 ∷ 8 ∷ 9 ∷ 10 ∷ 11 ∷ 12 ∷ 13 ∷ 14 ∷ 15 ∷ 16 ∷ 17 ∷ 18 ∷ 19 ∷ 20 ∷ 21 ∷ 22 ∷ 23 ∷ 24 ∷ 25 ∷ 26 ∷ 27 ∷ 28 ∷ 29 ∷ []
+old_routes : route_ticks 0 (events (old_run 6350)) ≡ 0 ∷ 1 ∷ 2 ∷ 3 ∷ 4 ∷ 5 ∷ 6 ∷ 7 ∷ 8 ∷ 9 ∷ 10 ∷ 11 ∷ 12 ∷ 13 ∷ 14 ∷ 15 ∷ 16 ∷ 17 ∷ 18 ∷ 19 ∷ 20 ∷ 21 ∷ 22 ∷ 23 ∷ 24 ∷ 25 ∷ 26 ∷ 27 ∷ 28 ∷ 29 ∷ []
 unfolding stamped
 old_routes = refl
 
-old_sends : send_ticks 0 (events old_run) ≡ 0 ∷ 2 ∷ 4 ∷ 6 ∷ 8 ∷ 10 ∷ 12 ∷ 14 ∷ 16 ∷ 18 ∷ 20 ∷ 22 ∷ 24 ∷ 26 ∷ 28 ∷ 30 ∷ []
+old_sends : send_ticks 0 (events (old_run 6350)) ≡ 0 ∷ 2 ∷ 4 ∷ 6 ∷ 8 ∷ 10 ∷ 12 ∷ 14 ∷ 16 ∷ 18 ∷ 20 ∷ 22 ∷ 24 ∷ 26 ∷ 28 ∷ 30 ∷ []
 unfolding stamped
 old_sends = refl
 
-routes_rest : HoldAtMost 1 1 (route_ticks 0 (events old_run))
+routes_rest : HoldAtMost 1 1 (route_ticks 0 (events (old_run 6350)))
 unfolding stamped
-routes_rest = spaced_holds 1 (lit≤ tt) (stamped ends (route_of 0) 0 (events old_run)) (spaced-from 1 (stamped ends (route_of 0) 0 (events old_run)) refl)
+routes_rest = spaced_holds 1 (lit≤ tt) (stamped ends (route_of 0) 0 (events (old_run 6350))) (spaced-from 1 (stamped ends (route_of 0) 0 (events (old_run 6350))) refl)
 
-sends_rest : HoldAtMost 1 1 (send_ticks 0 (events old_run))
+sends_rest : HoldAtMost 1 1 (send_ticks 0 (events (old_run 6350)))
 unfolding stamped
-sends_rest = spaced_holds 1 (lit≤ tt) (stamped ends (send_of 0) 0 (events old_run)) (spaced-from 1 (stamped ends (send_of 0) 0 (events old_run)) refl)
+sends_rest = spaced_holds 1 (lit≤ tt) (stamped ends (send_of 0) 0 (events (old_run 6350))) (spaced-from 1 (stamped ends (send_of 0) 0 (events (old_run 6350))) refl)
 
 abbrev thirty : List ℕ
 thirty = 0 ∷ 1 ∷ 2 ∷ 3 ∷ 4 ∷ 5 ∷ 6 ∷ 7 ∷ 8 ∷ 9 ∷ 10 ∷ 11 ∷ 12 ∷ 13 ∷ 14 ∷ 15 ∷ 16 ∷ 17 ∷ 18 ∷ 19 ∷ 20 ∷ 21 ∷ 22 ∷ 23 ∷ 24 ∷ 25 ∷ 26 ∷ 27 ∷ 28 ∷ 29 ∷ []
@@ -165,13 +165,13 @@ one_in_two : (u : ℕ) → u < 29 → nat_le 1 (count_in u 2 sixteen) ≡ true
 unfolding count_in
 one_in_two u h = agree_below_at (λ u. nat_le 1 (count_in u 2 sixteen)) (λ _. true) 29 u refl h
 
-routes_work : HoldAtLeast 1 1 (tick_after (events old_run)) (route_ticks 0 (events old_run))
+routes_work : HoldAtLeast 1 1 (tick_after (events (old_run 6350))) (route_ticks 0 (events (old_run 6350)))
 routes_work u h = rw old_routes (leb-true 1 (count_in u 1 thirty) (one_each u (omega (arith, h, old_ticks))))
 
-sends_work : HoldAtLeast 1 2 (tick_after (events old_run)) (send_ticks 0 (events old_run))
+sends_work : HoldAtLeast 1 2 (tick_after (events (old_run 6350))) (send_ticks 0 (events (old_run 6350)))
 sends_work u h = rw old_sends (leb-true 1 (count_in u 2 sixteen) (one_in_two u (omega (arith, h, old_ticks))))
 
-old_budgets : KeepsBudgets small_tables (events old_run)
+pub old_budgets : KeepsBudgets small_tables (events (old_run 6350))
 old_budgets = record {
   routers_work = only_first _ routes_work;
   routers_rest = only_first _ (λ u. omega (arith, routes_rest u));
@@ -187,46 +187,46 @@ one_at_most u d t =
     let none = count_in-nil u d in
     elim (one_in_cases u d t) [ inl w ↦ omega (arith, w.2) | inr v ↦ elim v [ inl w ↦ omega (arith, w.1) | inr w ↦ omega (arith, w.1) ] ]
 
-old_first : stream_times small_tables 0 old_run ≡ 6350 ∷ []
+old_first : stream_times small_tables 0 (old_run 6350) ≡ 6350 ∷ []
 unfolding timed each_place ones_in is_odd reversed stream_of
 old_first = refl
 
-old_second : stream_times small_tables 1 old_run ≡ 6000 ∷ []
+old_second : stream_times small_tables 1 (old_run 6350) ≡ 6000 ∷ []
 unfolding timed each_place ones_in is_odd reversed stream_of
 old_second = refl
 
-old_wire : HoldAtMost 1 350 (bus_times small_tables 0 old_run)
+old_wire : HoldAtMost 1 350 (bus_times small_tables 0 (old_run 6350))
 unfolding timed each_place ones_in is_odd reversed stream_of
-old_wire = spaced_holds 350 (lit≤ tt) (timed (arrival_of small_tables 0) old_run) (spaced-from 350 (timed (arrival_of small_tables 0) old_run) refl)
+old_wire = spaced_holds 350 (lit≤ tt) (timed (arrival_of small_tables 0) (old_run 6350)) (spaced-from 350 (timed (arrival_of small_tables 0) (old_run 6350)) refl)
 
-old_sources : KeepsSourcesInTime small_tables small_intervals old_run
+old_sources : KeepsSourcesInTime small_tables small_intervals (old_run 6350)
 old_sources = record {
   streams_rest = first_two _
-      (λ free. one-cap 10000 (lit≤ tt) (stream_times small_tables 0 old_run) (λ u. rw old_first (one_at_most u 10000 6350)))
-      (λ free. one-cap 10000 (lit≤ tt) (stream_times small_tables 1 old_run) (λ u. rw old_second (one_at_most u 10000 6000)));
+      (λ free. one-cap 10000 (lit≤ tt) (stream_times small_tables 0 (old_run 6350)) (λ u. rw old_first (one_at_most u 10000 6350)))
+      (λ free. one-cap 10000 (lit≤ tt) (stream_times small_tables 1 (old_run 6350)) (λ u. rw old_second (one_at_most u 10000 6000)));
   wires_rest = only_first _ (λ free. old_wire);
 }
 
-pub old_admissible : IsAdmissibleInTime small_tables small_intervals small_clock old_run
-old_admissible = record { timing = old_timing; numbers = numbers-from small_tables (events old_run) refl; sources = old_sources; budgets = old_budgets }
+pub old_admissible : IsAdmissibleInTime small_tables small_intervals small_clock (old_run 6350)
+old_admissible = record { timing = old_timing; numbers = numbers-from small_tables (events (old_run 6350)) refl; sources = old_sources; budgets = old_budgets }
 
 -- ---- the old word
 
-old_leaves : emission small_tables (events old_past) (Send 0) ≡ Some 0
+old_leaves : emission small_tables (events (old_past 6350)) (Send 0) ≡ Some 0
 unfolding emission sent served_in due_by ticks picks
 old_leaves = refl
 
-old_copied : chosen_source small_tables 0 (events old_past ++ Send 0 ∷ []) ≡ Some (0, 0x600000C1)
+old_copied : chosen_source small_tables 0 (events (old_past 6350) ++ Send 0 ∷ []) ≡ Some (0, 0x600000C1)
 unfolding served_in first_place each_place ones_in is_odd reversed ticks picks stamped stream_of ins passed is_overfull latch entered taken routed_tick arrived_tick latest_number latest_by moves latest fresh chosen_source
 old_copied = refl
 
-old_came : timed (brought small_tables 0) old_past ≡ (6000, (1, 0xE0000021)) ∷ (6350, (0, 0x600000C1)) ∷ []
+old_came : timed (brought small_tables 0) (old_past 6350) ≡ (6000, (1, 0xE0000021)) ∷ (6350, (0, 0x600000C1)) ∷ []
 unfolding timed each_place ones_in is_odd reversed stream_of
 old_came = refl
 
-pub old_word : SendsOld small_tables 25000 24649 old_run
+pub old_word : SendsOld small_tables 25000 24649 (old_run 6350)
 old_word = record {
-  past = old_past;
+  past = old_past 6350;
   rest = [];
   event = (30999, Send 0);
   label = 0;
