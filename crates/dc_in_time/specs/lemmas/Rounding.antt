@@ -21,7 +21,7 @@ use Rattle.dc_word.specs.declared.format.Format.TheVariants.{Bnr}
 use Rattle.std.proofs.Math.Nat.{div-mul-le_self}
 use Rattle.std.proofs.lemmas.Grind.{div_ceil_times}
 use Rattle.dc_spans.specs.Spans.{exact_clock}
-use Rattle.dc_time.specs.Intervals.{Intervals, FitsClock}
+use Rattle.dc_time.specs.Intervals.{FitsClock}
 use Rattle.dc_in_time.specs.Documents.{stream_parameter, label_parameter, intervals_of}
 
 -- a row is made of a part
@@ -88,13 +88,11 @@ module _ (d : Document) (obeys : Obeys d) (t : TableRows) (rows : AreRows d t) w
   -- by a clock whose ticks are of the tables' length
   pub fits-exactly : (valid : AreValid t) (start : ℕ) → FitsClock t (intervals_of d t) (exact_clock start t.tick_us)
   fits-exactly valid start =
-      let us : Intervals = intervals_of d t in
       let some : 1 ≤ t.tick_us = omega (arith, valid.ticks_some) in
       record {
         spacings = λ b l. omega arith;
         spacings_some = λ b l. valid.spacings b l;
         stream_minimums = λ s l.
-            let least : ℕ = option_map_or (λ (p : ParameterPart). p.min_us) (stream_parameter d s) 0 in
             omega (arith, div-mul-le_self (option_map_or (λ (p : ParameterPart). p.min_us) (stream_parameter d s) 0) t.tick_us, ap (λ k. k * t.tick_us) (of_stream (λ p. p.min_us) in_minimum (λ r. r.minimum) s l (λ _. refl)));
         stream_maximums = λ s l.
             omega (arith, (div_ceil_times (option_map_or (λ (p : ParameterPart). p.max_us) (stream_parameter d s) 0) t.tick_us some).0, ap (λ k. k * t.tick_us) (of_stream (λ p. p.max_us) in_maximum (λ r. r.maximum) s l (λ _. refl)));
@@ -103,7 +101,6 @@ module _ (d : Document) (obeys : Obeys d) (t : TableRows) (rows : AreRows d t) w
         label_minimums = λ x l.
             omega (arith, (div_ceil_times (option_map_or (λ (p : ParameterPart). p.min_us) (label_parameter d x) 0) t.tick_us some).0, ap (λ k. k * t.tick_us) (of_label (λ p. p.min_us) out_minimum (λ r. r.minimum) x l (λ _. refl)));
         label_maximums = λ x l.
-            let most : ℕ = option_map_or (λ (p : ParameterPart). p.max_us) (label_parameter d x) 0 in
             let max_is = of_label (λ p. p.max_us) out_maximum (λ r. r.maximum) x l (λ _. refl) in
             let min_is = of_label (λ p. p.min_us) out_minimum (λ r. r.minimum) x l (λ _. refl) in
             let one : option_map_or (λ (p : ParameterPart). p.max_us) (label_parameter d x) 0 / t.tick_us ≡ suc (label_row t x).maximum = omega (arith, max_is, min_is, valid.intervals x l) in

@@ -7,6 +7,7 @@ use Rattle.std.specs.List.{All}
 use Rattle.std.proofs.lemmas.List.Elements.{All-head, All-tail, All-weaker, All-contains_itself}
 use Rattle.std.proofs.lemmas.Bool.{cases_lt}
 use Rattle.std.proofs.lemmas.List.{append-nil, map-append}
+use Rattle.dc_bound.specs.Turns.{NeverFall}
 use Rattle.dc_bound.specs.Window.{count_in, ticks_of}
 use Rattle.dc_spans.specs.lemmas.Scaling.{no-less, no-more, rises, count-ticks}
 use Rattle.dc_event.specs.Buses.{arrivals}
@@ -29,7 +30,7 @@ use Rattle.dc_time.specs.Timed.{events, HappensIn, InTheirTicks, IsTimed, timed,
 use Rattle.dc_time.specs.Intervals.{Intervals, FitsClock}
 use Rattle.dc_time.specs.Sources.{brought, stream_arrival}
 use Rattle.dc_time.specs.Claims.{CopiesSince, IsYoungInTime, IsAliveInTime, AreUsableInTime, UsesFirstInTime, UsesAnyInTime, emits, emission_times, last_or, IsBetween, ClaimsHoldInTime}
-use Rattle.dc_time.specs.lemmas.TimedRuns.{ticked-timed, time-of, timed-place}
+use Rattle.dc_time.specs.lemmas.TimedRuns.{ticked-timed, time-of, timed-place, StandsAt}
 use Rattle.dc_time.specs.lemmas.Copying.{came-push, came-picked, chosen-came}
 use Rattle.dc_time.specs.lemmas.Emitting.{emissions-picked, IsLastTime, last-time, earlier_le, as_many, emits-no_tick}
 
@@ -62,6 +63,14 @@ record IsSend (t : TableRows) (clock : Clock) (past : List (ℕ × Event)) (e : 
   brings_none : (b : ℕ) → brought t b (events past) e.1 ≡ None
   comes_none : (s : ℕ) → stream_arrival t s (events past) e.1 ≡ None
 
+-- what is picked before an event has no later time
+pub no_sooner : {X : Type 0} (f : List Event → Event → Option X) (run past rest : List (ℕ × Event)) (e : ℕ × Event) (y : ℕ × X) (before after : List (ℕ × Event)) (x : ℕ × Event) → StandsAt f past y before after x
+    → run ≡ past ++ (e ∷ rest) → NeverFall (ticks_of run) → y.0 ≤ e.0
+no_sooner f run past rest e y before after x at cut order =
+    let P : List (ℕ × Event) → Type 0 = λ z. NeverFall (ticks_of z) in
+    let whole : run ≡ (before ++ (x ∷ after)) ++ (e ∷ rest) = cut ∙ ap (λ z. z ++ (e ∷ rest)) at.cut in
+    omega (arith, earlier_le before after rest x e (subst P whole order), at.time)
+
 pub placed-prefix : (clock : Clock) (past rest : List (ℕ × Event)) → InTheirTicks clock (past ++ rest) → InTheirTicks clock past
 placed-prefix clock past rest h = λ before after e is. h before (after ++ rest) e (ap (λ z. z ++ rest) is ∙ append_assoc before (e ∷ after) rest)
 
@@ -78,28 +87,26 @@ module _ (t : TableRows) (valid : AreValid t) (us : Intervals) (clock : Clock) (
       let r = emitter P t (events past) x (λ o h. (h, omega (arith, tick-push (events past) (Send o)), (λ b. refl), (λ s. refl))) e.1 is here in
       record { when = r.0; now = r.1; brings_none = r.2; comes_none = r.3 }
 
+  came-now : (b : ℕ) → IsSend t clock past e → came_words t b (events past ++ e.1 ∷ []) ≡ ticked (brought t b) (events past)
+  came-now b send =
+      came-push t b (events past) e.1 ∙ ap (λ o. came_words t b (events past) ++ stamp (tick_after (events past)) o []) (send.brings_none b)
+      ∙ append-nil (came_words t b (events past)) ∙ came-picked t b (events past)
+
   -- ---- ages
 
   copies : (x age : ℕ) (c : ℕ × ℕ) (tick : ℕ) → IsSend t clock past e → CopiesWithin t x age (events past ++ e.1 ∷ []) c tick → (came : ℕ) × CopiesSince t x ((age + 1) * clock.longest) past e c came
   copies x age c tick send young =
-      let b : ℕ = (stream_row t c.0).bus in
       let In : List (ℕ × (ℕ × ℕ)) → Type 0 = λ z. Contains z (tick, c) in
       let came = chosen-came t x (events past ++ e.1 ∷ []) c tick young.copied young.arrived in
-      let more : came_words t (stream_row t c.0).bus (events past ++ e.1 ∷ []) ≡ ticked (brought t (stream_row t c.0).bus) (events past) =
-      came-push t (stream_row t c.0).bus (events past) e.1 ∙ ap (λ o. came_words t (stream_row t c.0).bus (events past) ++ stamp (tick_after (events past)) o []) (send.brings_none (stream_row t c.0).bus)
-      ∙ append-nil (came_words t (stream_row t c.0).bus (events past)) ∙ came-picked t (stream_row t c.0).bus (events past) in
       let same = ticked-timed (brought t (stream_row t c.0).bus) (λ _. refl) clock past placed in
-      let r = time-of clock tick c (ticked (brought t (stream_row t c.0).bus) (events past)) (timed (brought t (stream_row t c.0).bus) past) same (subst In more came) in
+      let r = time-of clock tick c (ticked (brought t (stream_row t c.0).bus) (events past)) (timed (brought t (stream_row t c.0).bus) past) same (subst In (came-now (stream_row t c.0).bus send) came) in
       let place = timed-place (brought t (stream_row t c.0).bus) past (r.0, c) r.1 in
-      let whole : run ≡ (place.0 ++ (place.2 ∷ place.1)) ++ (e ∷ rest) = cut ∙ ap (λ z. z ++ (e ∷ rest)) place.3.cut in
-      let Q : List (ℕ × Event) → Type 0 = λ z. Rattle.dc_bound.specs.Turns.NeverFall (ticks_of z) in
-      let k : ℕ = tick_after (events past) in
       let wide : clock.begins (suc (tick_after (events past))) ≤ clock.begins tick + (age + 1) * clock.longest = no-more clock paced tick (age + 1) (suc (tick_after (events past))) (omega (arith, young.aged, send.now)) in (
         r.0,
         record {
           copied = young.copied;
           arrived = r.1;
-          before = omega (arith, earlier_le place.0 place.1 rest place.2 e (subst Q whole timing.ordered), place.3.time);
+          before = no_sooner (brought t (stream_row t c.0).bus) run past rest e (r.0, c) place.0 place.1 place.2 place.3 cut timing.ordered;
           aged = omega (arith, wide, r.2.from, send.when.to);
         },
       )
@@ -111,11 +118,6 @@ module _ (t : TableRows) (valid : AreValid t) (us : Intervals) (clock : Clock) (
   ]
 
   -- ---- live sources
-
-  came-now : (b : ℕ) → IsSend t clock past e → came_words t b (events past ++ e.1 ∷ []) ≡ ticked (brought t b) (events past)
-  came-now b send =
-      came-push t b (events past) e.1 ∙ ap (λ o. came_words t b (events past) ++ stamp (tick_after (events past)) o []) (send.brings_none b)
-      ∙ append-nil (came_words t b (events past)) ∙ came-picked t b (events past)
 
   alive-ticks : (x s : ℕ) → s < length t.streams → IsSend t clock past e → IsAliveInTime t us clock x s past e → IsAlive t x s (events past ++ e.1 ∷ [])
   alive-ticks x s there send alive = record {
@@ -139,7 +141,6 @@ module _ (t : TableRows) (valid : AreValid t) (us : Intervals) (clock : Clock) (
 
   usable-ticks : (x s : ℕ) → IsSend t clock past e → AreUsableInTime t clock x s past e → AreUsable t x s (events past ++ e.1 ∷ [])
   usable-ticks x s send good =
-      let b : ℕ = (stream_row t s).bus in
       let Good : ℕ × (ℕ × ℕ) → Type 0 = λ a. tick_after (events past ++ e.1 ∷ []) - (label_row t x).stale ≤ a.0 → a.1.0 ≡ s → is_usable (label_row t x).format a.1.1 ≡ true in
       let same = ticked-timed (brought t (stream_row t s).bus) (λ _. refl) clock past placed in
       let all : All Good (ticked (brought t (stream_row t s).bus) (events past)) =
@@ -169,7 +170,6 @@ module _ (t : TableRows) (valid : AreValid t) (us : Intervals) (clock : Clock) (
   in_time : (x : ℕ) → x < length t.labels → IsInTime t (events past) e.1 → e.0 ≤ last_or (clock.begins 0) (emission_times t x past) + us.label_most x
   in_time x there h =
       let l = last x in
-      let k : ℕ = last_or_zero (emission_ticks t x (events past)) in
       let wide : clock.begins (suc (tick_after (events past))) ≤ clock.begins (last_or_zero (emission_ticks t x (events past))) + ((label_row t x).maximum + 1) * clock.longest =
       no-more clock paced (last_or_zero (emission_ticks t x (events past))) ((label_row t x).maximum + 1) (suc (tick_after (events past))) (omega (arith, h x there)) in
       omega (arith, wide, fits.label_maximums x there, l.from, no_later clock (tick_after (events past)) e.0 e.1 here)
@@ -178,11 +178,9 @@ module _ (t : TableRows) (valid : AreValid t) (us : Intervals) (clock : Clock) (
       → length (emission_ticks t x (events past)) ≡ length (emission_times t x past) → IsBetween us x (clock.begins 0) (emission_times t x past) e.0
   between x there send h spaced same =
       let l = last x in
-      let k : ℕ = last_or_zero (emission_ticks t x (events past)) in
       record {
         late_enough = λ some.
             let apart = spaced (omega (arith, some, same)) in
-            let m : ℕ = (label_row t x).minimum in
             let least = fits.label_minimums x there in
             let have : 1 ≤ (label_row t x).minimum = elim (cases_lt 0 (label_row t x).minimum) [
               | inl yes' ↦ yes'

@@ -106,8 +106,6 @@ only_in false y c (k, h, e) = absurd (omega arith)
 fresh-number : (t : TableRows) (x s : ℕ) (now : List Event) (a : ℕ × ℕ) → Contains (fresh t x now s) a → (n : ℕ) × IsFresh t s now a n
 unfolding fresh latest latest_by
 fresh-number t x s now a h =
-    let b : ℕ = (stream_row t s).bus in
-    let ms : List Move = moves t (stream_row t s).bus now in
     let all : ℕ → (ℕ × ℕ) × ℕ = λ n. (item (room t (stream_row t s).bus) (moves t (stream_row t s).bus now) n, routed_tick (room t (stream_row t s).bus) n (moves t (stream_row t s).bus now)) in
     elim (is_latched t (stream_row t s).bus now) as (λ v. is_latched t (stream_row t s).bus now ≡ v → Contains (cond v [] (fresh_word (label_row t x).stale (tick_after now) (latest t s now))) a → (n : ℕ) × IsFresh t s now a n) [
       | true ↦ λ _ h. absurd (omega (arith, h.1))
@@ -136,8 +134,6 @@ number-came ms n h =
 fresh-came : (t : TableRows) (s n : ℕ) (now : List Event) (a : ℕ × ℕ) → IsFresh t s now a n → (a.0 ≡ s) × Contains (came_words t (stream_row t s).bus now) (arrived_tick n (moves t (stream_row t s).bus now), a)
 unfolding latest_number
 fresh-came t s n now a f =
-    let b : ℕ = (stream_row t s).bus in
-    let ms : List Move = moves t (stream_row t s).bus now in
     let passes = last_below-passes (λ n. is_of_stream s (item (room t (stream_row t s).bus) (moves t (stream_row t s).bus now) n)) (taken (room t (stream_row t s).bus) (moves t (stream_row t s).bus now)) n f.last in
     let all = all-entered (room t (stream_row t s).bus) (moves t (stream_row t s).bus now) f.unlatched in
     let there : n < length (ins (moves t (stream_row t s).bus now)) = omega (arith, passes.0, taken-le (room t (stream_row t s).bus) (moves t (stream_row t s).bus now), ap (λ (z : List (ℕ × ℕ)). length z) all) in
@@ -153,12 +149,11 @@ unfolding chosen_source latest_arrived
 chosen-came t x now c tick is at =
     let among : Contains (flat_map (fresh t x now) (label_row t x).sources) c = choice-in (λ d. is_usable (label_row t x).format d.1) (flat_map (fresh t x now) (label_row t x).sources) c is in
     let r = flat_map-in (fresh t x now) (label_row t x).sources c among in
-    let s : ℕ = get_or (label_row t x).sources r.0 0 in
     let f = fresh-number t x (get_or (label_row t x).sources r.0 0) now c r.2 in
     let came = fresh-came t (get_or (label_row t x).sources r.0 0) f.0 now c f.1 in
     let P : ℕ → Type 0 = λ s. (latest_number (room t (stream_row t s).bus) (is_of_stream s) (moves t (stream_row t s).bus now) ≡ Some f.0) × Contains (came_words t (stream_row t s).bus now) (arrived_tick f.0 (moves t (stream_row t s).bus now), c) in
     let own = subst P (sym came.0) (f.1.last, came.1) in
-    let tick_is : Some (arrived_tick f.0 (moves t (stream_row t c.0).bus now)) ≡ Some tick = sym (ap (λ o. elim o [ None ↦ None | Some n ↦ Some (arrived_tick n (moves t (stream_row t c.0).bus now)) ]) own.0) ∙ at in
+    let at_tick : latest_arrived t c.0 now ≡ Some (arrived_tick f.0 (moves t (stream_row t c.0).bus now)) = ap (λ o. elim o [ None ↦ None | Some n ↦ Some (arrived_tick n (moves t (stream_row t c.0).bus now)) ]) own.0 in
     let tick_same : arrived_tick f.0 (moves t (stream_row t c.0).bus now) ≡ tick = cc in
     let Q : ℕ → Type 0 = λ k. Contains (came_words t (stream_row t c.0).bus now) (k, c) in
     subst Q tick_same own.1
