@@ -114,10 +114,13 @@ fn tell_missing(out: &mut Explanation, actor: Actor, made: Option<u64>, name: &s
     let (letter, name) = (Text(actor.letter), Text(name));
     match made {
         Some(_) => out.help(
-            "put {} `{}{}` before this `T`",
+            "put {} `{}{}` before this `T`, unless this is a recording: then the actor broke its pace",
             &[Several(missing, "line", "lines"), letter, name],
         ),
-        None => out.help("put lines `{}{}` before this `T`", &[letter, name]),
+        None => out.help(
+            "put lines `{}{}` before this `T`, unless this is a recording: then the actor broke its pace",
+            &[letter, name],
+        ),
     }
     out.help(
         "or weaken a promise: write smaller `steps` or a greater `within` of {} `{}` in the tables",

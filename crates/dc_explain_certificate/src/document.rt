@@ -9,11 +9,11 @@ use dc_layout::Span;
 static PRINTED: [(&'static str, &'static str); 6] = [
     (
         "refused F",
-        "this is what `find` printed when it refused the tables, and not a certificate{}\nhelp: it refused the tables as they were then: change them, run `dc429 find TABLES > FILE` again, and see that it ends with status 0\nhelp: `dc429 explain {}` says what {} means",
+        "this is what `find` printed when it refused the tables, and not a certificate{}\nhelp: it refused the tables as they were then: change them if they are so still, run `dc429 find TABLES > FILE` again, and see that it ends with status 0\nhelp: `dc429 explain {}` says what {} means",
     ),
     (
         "unreadable ",
-        "this is what was printed where the tables could not be read, and not a certificate{}\nhelp: they could not be read as they were then: mend them, run `dc429 find TABLES > FILE` again, and see that it ends with status 0\nhelp: `dc429 explain {}` says what {} means",
+        "this is what was printed where the tables could not be read, and not a certificate{}\nhelp: they could not be read as they were then: mend them if they are so still, run `dc429 find TABLES > FILE` again, and see that it ends with status 0\nhelp: `dc429 explain {}` says what {} means",
     ),
     (
         "refused ",

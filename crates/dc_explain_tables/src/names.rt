@@ -67,11 +67,11 @@ pub(crate) fn tell_no_parameter(refused: &mut Refused<'_>) {
     );
     match alike {
         Some(other) => refused.say(
-            "\nhelp: this label has a parameter of equipment code \"{}\", in line {}: write that code here, where it is meant",
+            "\nhelp: this label has a parameter of equipment code \"{}\", in line {}: write that code here, if it is meant",
             &[Fact::At(other, "equipment"), Fact::Line(other, "equipment")],
         ),
         None => refused.say(
-            "\nhelp: there is no parameter of this label: mend it, where another is meant",
+            "\nhelp: no parameter has this label: write another here, if another is meant, or this one in the parameter that is meant for it",
             &[],
         ),
     }
@@ -140,7 +140,7 @@ fn tell_names(refused: &mut Refused<'_>, key: &'static str, kind: Kind, name: Sp
         Some(like) => {
             let row = refused.named(kind, like.as_bytes()).unwrap_or(0);
             refused.say(
-                "\nhelp: there is {} {}, in line {}: write its name here, where it is meant, or rename it there",
+                "\nhelp: there is {} {}, in line {}: write its name here, if it is meant, or rename it there",
                 &[Fact::Row(row), Fact::Word(which), Fact::Line(row, "name")],
             );
         }

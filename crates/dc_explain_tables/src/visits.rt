@@ -130,7 +130,7 @@ pub(crate) fn tell_formats(refused: &mut Refused<'_>) -> bool {
         ],
     );
     refused.say(
-        "\nhelp: words are copied as they are, so a label and its sources have one format: mend the `format` in line {} or in line {}, where it is wrong\nhelp: or take this source out; this weakens what is promised: the label is not sent from it then",
+        "\nhelp: the data of a word are copied as they are, so a label and its sources have one format: mend the `format` in line {} or in line {}, whichever is wrong\nhelp: or take this source out; this weakens what is promised: the label is not sent from it then",
         &[Fact::Line(own, "format"), Fact::Line(parameter, "format")],
     );
     true

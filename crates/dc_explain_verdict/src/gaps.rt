@@ -41,8 +41,8 @@ fn gap_of(own: &Sending, is_soon: bool) -> Gap {
 
 /// What is told where words leave too soon, and where too late.
 static SENTENCES: [&str; 2] = [
-    "two of its entries lie {} apart, and output `{}` may send the first {} late: its words may leave {} apart, and at least {} are wanted{}\nnote: {} is `min_us` of its parameter in ticks of {} microseconds, rounded up, and one more",
-    "two of its entries lie {} apart, and output `{}` may send the second {} late: its words may leave {} apart, and at most {} are allowed{}\nnote: {} is `max_us` of its parameter in whole ticks of {} microseconds, less one",
+    "its entries come as soon as {} after one another, and output `{}` may send the first {} late: its words may leave {} apart, and at least {} are wanted{}\nnote: {} is `min_us` of its parameter in ticks of {} microseconds, rounded up, and one more: words may leave almost a tick less apart than their ticks are",
+    "its entries come as late as {} after one another, and output `{}` may send the second {} late: its words may leave {} apart, and at most {} are allowed{}\nnote: {} is `max_us` of its parameter in whole ticks of {} microseconds, less one: words may leave almost a tick more apart than their ticks are",
 ];
 
 /// Tells how far its entries would have to lie apart, for it to be sent neither too soon nor too late; that no distance
@@ -52,7 +52,7 @@ fn tell_gaps(told: &mut Teller<'_>, own: &Sending) {
     let most = own.maximum.saturating_sub(own.delay);
     if least <= most {
         return told.say(
-            "\nhelp: place its entries {} ticks apart (`offsets`, and `frame` of the output)",
+            "\nhelp: place its entries {} ticks apart: by the `frame` of the output where the label has one offset, else by its `offsets`",
             &[Range(least, most)],
         );
     }

@@ -65,15 +65,17 @@ pub(crate) fn tell_names(told: &mut Teller<'_>, list: CertificateList) {
     let is_more = name_of(told.tables, section, place).is_empty();
     let (one, kind, many) = (Word(one), Word(kind), Word(many));
     let (wanted, written) = (Name(section, place), Written(list, place));
-    let sentence = "the {} are not the {} of the tables: number {}";
     told.out.begin("C01");
-    told.say(sentence, &[kind, many, number]);
+    told.say("number {} of the {}", &[number, kind]);
     if is_more {
-        told.say(", `{}`, is more than they have", &[written]);
+        told.say(", `{}`, is more than the tables have", &[written]);
     } else if is_missing {
         told.say(", {} `{}`, is missing", &[one, wanted]);
     } else {
-        told.say(" is `{}`, where they have {} `{}`", &[written, one, wanted]);
+        told.say(
+            " is `{}`, and the tables have {} `{}`",
+            &[written, one, wanted],
+        );
     }
     told.say("{}", &[Place(true, section, place)]);
     if !is_missing {

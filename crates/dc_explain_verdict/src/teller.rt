@@ -134,7 +134,7 @@ impl<'a> Teller<'a> {
     pub(crate) fn tell_closing(&mut self) {
         if !self.is_known {
             self.say(
-                "\nnote: a window closes where all that may come in it is surely served by its end",
+                "\nnote: a window closes where all that may come in it is surely served by its end: the queue is then empty again, and here it never surely is",
                 &[],
             );
         }
@@ -144,7 +144,7 @@ impl<'a> Teller<'a> {
     pub(crate) fn tell_alone(&mut self) {
         if self.out.is_helped() && !self.is_known {
             self.say(
-                "\nnote: each way is enough for this rule alone: `dc429 find` tells whether it is for all, and then writes a certificate",
+                "\nnote: what helps here is enough for this rule alone: `dc429 find` tells whether all hold then, and writes a certificate",
                 &[],
             );
         }

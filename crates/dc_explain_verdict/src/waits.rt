@@ -186,7 +186,7 @@ fn tell_longer_queue(told: &mut Teller<'_>, server: &Server, least: u64) {
         );
     }
     told.say(
-        "\nweaker: make the `queue` of bus `{}` at least {} long, where it has {}: it costs memory, and words grow older in it",
+        "\nhelp: make the `queue` of bus `{}` at least {} long, where it has {}: that costs memory alone",
         &[
             name(server.queue),
             Several(least, "word", "words"),

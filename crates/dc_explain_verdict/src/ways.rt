@@ -158,11 +158,11 @@ pub(crate) fn tell_never_ways(told: &mut Teller<'_>, server: &Server) {
     let (own, by) = (name(server.queue), server_name(server));
     match server.queue {
         Queue::Input(_) => told.say(
-            "\nhelp: let router `{}` visit bus `{}` more often, or make its `within` smaller\nweaker: bring fewer streams on bus `{}`",
+            "\nhelp: make the `within` of router `{}` smaller, which shortens every delay too, or let it visit bus `{}` more often\nweaker: bring fewer streams on bus `{}`",
             &[by, own, own],
         ),
         Queue::Output(_) => told.say(
-            "\nhelp: make the `within` of output `{}` smaller\nweaker: send its labels less often, by a longer `frame` or fewer `offsets`",
+            "\nhelp: make the `within` of output `{}` smaller, which shortens every delay too\nweaker: send its labels less often, by a longer `frame` or fewer `offsets`",
             &[by],
         ),
     }
