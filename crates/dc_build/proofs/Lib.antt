@@ -10,3 +10,4 @@ pub mod ValidEntries
 pub mod ValidOutputs
 pub mod Valid
 pub mod Split
+pub mod Telling

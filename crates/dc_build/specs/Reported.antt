@@ -6,6 +6,7 @@ use Rattle.dc_document.specs.declared.fault.TableFault.{TableFault}
 use Rattle.dc_document.specs.Document.{Document}
 use Rattle.dc_rules.specs.Rules.{verdict_of}
 use Rattle.dc_build.specs.RowsOf.{AreRows}
+use Rattle.dc_build.specs.Written.{WrittenRows}
 use Rattle.dc_tables.specs.TableRows.{TableRows}
 use Rattle.dc_toml.specs.Written.{Written, written}
 use Rattle.dc_toml.specs.Faults.{Reading}
@@ -28,3 +29,15 @@ abbrev pub TellsTables : Reading Written → Result TableRows BuildError → Typ
 TellsTables reading (Ok rows) = AreTablesOf reading rows
 TellsTables reading (Err (Memory e)) = Unit {0}
 TellsTables reading (Err (Refused fault)) = (reading ≡ Err fault) ⊎ BreakRule reading fault
+
+-- this document says what was read, breaks no rule, and has these rows
+pub record AreWrittenBy (reading : Reading Written) (w : WrittenRows) : Type 0 where
+  pub said : reading ≡ Ok (written w.parts)
+  pub valid : verdict_of w.parts ≡ Ok tt
+  pub rows_of : AreRows w.parts w.tables
+
+-- the same of tables beside their document
+abbrev pub TellsWritten : Reading Written → Result WrittenRows BuildError → Type 0
+TellsWritten reading (Ok w) = AreWrittenBy reading w
+TellsWritten reading (Err (Memory e)) = Unit {0}
+TellsWritten reading (Err (Refused fault)) = (reading ≡ Err fault) ⊎ BreakRule reading fault

@@ -7,6 +7,6 @@ mod read;
 mod tables;
 mod written;
 
-pub use read::read_tables;
+pub use read::{read_tables, read_written};
 pub use tables::Build;
 pub use written::WrittenTables;

@@ -1,5 +1,6 @@
 //! Tables beside the document that they were built from.
 ghost use Rattle.std.specs.Prelude.{◌≡◌, IfOk};
+ghost use Rattle.dc_build.specs.RowsOf.{AreRows};
 ghost use Rattle.dc_rules.specs.Rules.{Tells, verdict_of};
 
 use crate::tables::{Build, tables_of};
@@ -35,6 +36,7 @@ impl Build for WrittenTables {
     fn build(alloc: Global, parts: Parts) -> Result<WrittenTables, BuildError>
         ensures verdict { Tells (verdict_of parts) result }
         ensures parts { IfOk result (λ w. w.parts ≡ parts) }
+        ensures rows { IfOk result (λ w. AreRows w.parts w.tables) }
     {
         let tables = tables_of(alloc, &parts)?;
         Ok(WrittenTables { parts, tables })
