@@ -13,7 +13,8 @@ use Rattle.dc_document.specs.declared.fault.TableFault.{TableFault}
 use Rattle.dc_tables.specs.TableRows.{TableRows}
 use Rattle.dc_toml.specs.Faults.{Reading}
 use Rattle.dc_toml.specs.Reading.{tables_of}
-use Rattle.dc_build.specs.Reported.{AreTablesOf, TellsTables}
+use Rattle.dc_build.specs.Reported.{AreTablesOf, TellsTables, TellsWritten}
+use Rattle.dc_build.specs.Written.{WrittenRows}
 use Rattle.dc_toml.specs.Written.{Written}
 use Rattle.dc_document.specs.declared.limits.TheConstants.{TEXT_LIMIT}
 use Rattle.dc_answer.specs.Answer.{Answer, unreadable}
@@ -27,11 +28,19 @@ ReadsText too_long text (Ok bytes) = bytes.items ≡ text
 ReadsText too_long text (Err (Refused fault)) = (TEXT_LIMIT < length text) × (fault ≡ too_long)
 ReadsText too_long text (Err (Failed failure)) = Unit {0}
 
--- the tables of a text that reads so, or its first fault; something else may fail with any text
+-- what such texts say, as `Tells` has it, or their first fault; something else may fail with any text
+abbrev pub LoadsBy : {X : Type 0} → (Reading Written → Result X BuildError → Type 0) → Reading Written → Result X (Unloaded TableFault) → Type 0
+LoadsBy Tells reading (Ok x) = Tells reading (Ok x)
+LoadsBy Tells reading (Err (Refused fault)) = Tells reading (Err (RefusedTables fault))
+LoadsBy Tells reading (Err (Failed failure)) = Unit {0}
+
+-- the tables of a text that reads so
 abbrev pub Loads : Reading Written → Result TableRows (Unloaded TableFault) → Type 0
-Loads reading (Ok rows) = TellsTables reading (Ok rows)
-Loads reading (Err (Refused fault)) = TellsTables reading (Err (RefusedTables fault))
-Loads reading (Err (Failed failure)) = Unit {0}
+Loads = LoadsBy TellsTables
+
+-- they beside its document
+abbrev pub LoadsWritten : Reading Written → Result WrittenRows (Unloaded TableFault) → Type 0
+LoadsWritten = LoadsBy TellsWritten
 
 -- the answer to the first fault of the tables
 abbrev pub tables_end : TableFault → Answer
@@ -57,21 +66,35 @@ OnlyBehind reading untouched = ((rows : TableRows) × AreTablesOf reading rows) 
 
 -- ---- what is answered to texts
 
--- to tables that were read, and the texts behind theirs; or to their first fault
-abbrev pub AnswersRead : (TableRows → List (List ℕ) → Answer → Type 0) → List (List ℕ) → Answer → Result TableRows BuildError → Type 0
-AnswersRead Is texts answer (Ok t) = Is t texts answer
+-- to what was read of tables, and the texts behind theirs; or to their first fault
+abbrev pub AnswersRead : {X : Type 0} → (X → List (List ℕ) → Answer → Type 0) → List (List ℕ) → Answer → Result X BuildError → Type 0
+AnswersRead Is texts answer (Ok x) = Is x texts answer
 AnswersRead Is texts answer (Err (RefusedTables fault)) = answer ≡ tables_end fault
 AnswersRead Is texts answer (Err (NoTables e)) = ⊥
 
 -- to the text of tables and those behind it: the tables are judged first
+abbrev pub AnswersBy : {X : Type 0} → (Reading Written → Result X BuildError → Type 0) → (X → List (List ℕ) → Answer → Type 0) → List (List ℕ) → Answer → Type 0
+AnswersBy Tells Is [] answer = ⊥
+AnswersBy {X} Tells Is (text ∷ texts) answer = (read : Result X BuildError) × Tells (tables_of text) read × AnswersRead Is texts answer read
+
+-- where the tables alone are known behind them
 abbrev pub AnswersTables : (TableRows → List (List ℕ) → Answer → Type 0) → List (List ℕ) → Answer → Type 0
-AnswersTables Is [] answer = ⊥
-AnswersTables Is (text ∷ texts) answer = (read : Result TableRows BuildError) × TellsTables (tables_of text) read × AnswersRead Is texts answer read
+AnswersTables = AnswersBy TellsTables
+
+-- where they are known beside their document
+abbrev pub AnswersWritten : (WrittenRows → List (List ℕ) → Answer → Type 0) → List (List ℕ) → Answer → Type 0
+AnswersWritten = AnswersBy TellsWritten
 
 -- they are asked for where the first text is that of tables, and so on
+abbrev pub GoOnBy : {X : Type 0} → (Reading Written → Result X BuildError → Type 0) → (X → List (List ℕ) → Type 0) → List (List ℕ) → Type 0
+GoOnBy Tells GoesOn [] = Unit {0}
+GoOnBy {X} Tells GoesOn (text ∷ texts) = (x : X) × Tells (tables_of text) (Ok x) × GoesOn x texts
+
 abbrev pub TablesGoOn : (TableRows → List (List ℕ) → Type 0) → List (List ℕ) → Type 0
-TablesGoOn GoesOn [] = Unit {0}
-TablesGoOn GoesOn (text ∷ texts) = (t : TableRows) × AreTablesOf (tables_of text) t × GoesOn t texts
+TablesGoOn = GoOnBy TellsTables
+
+abbrev pub WrittenGoOn : (WrittenRows → List (List ℕ) → Type 0) → List (List ℕ) → Type 0
+WrittenGoOn = GoOnBy TellsWritten
 
 -- to a certificate that reads so, and the texts behind it; or to its first fault
 abbrev pub AnswersClaims : (Certificate → List (List ℕ) → Answer → Type 0) → List (List ℕ) → Answer → CertificateReading NamedRows → Type 0

@@ -3,11 +3,11 @@ ghost use Rattle.std.specs.Prelude.{◌≡◌, ◌≢◌, ◌+◌, ◌<◌, IfEr
 ghost use Rattle.dc_cert.specs.Reading.{certificate_of};
 ghost use Rattle.dc_toml.specs.Reading.{tables_of};
 ghost use Rattle.dc_document.specs.declared.limits.TheConstants.{TEXT_LIMIT};
-ghost use Rattle.dc_answer.specs.Inputs.{Loads, LoadsCertificate, ReadsText, failed_in};
+ghost use Rattle.dc_answer.specs.Inputs.{Loads, LoadsCertificate, LoadsWritten, ReadsText, failed_in};
 ghost use Rattle.dc_device.specs.States.{AsksUpTo, IsCountable};
 
 use crate::answer::Failure;
-use dc_build::read_tables;
+use dc_build::{WrittenTables, read_tables, read_written};
 use dc_cert::{CertFault, CertRule, Certificate, Fault, TextPlace, read_cert};
 use dc_device::{Source, Unread, read_at_most};
 use dc_document::{BuildError, Section, TEXT_LIMIT, TableFault, TableRule};
@@ -56,6 +56,26 @@ fn build(alloc: Global, text: &[u8]) -> Result<Tables, Unloaded<TableFault>>
     }
 }
 
+/// The same beside its document.
+fn build_written(alloc: Global, text: &[u8]) -> Result<WrittenTables, Unloaded<TableFault>>
+    ensures tables { LoadsWritten (tables_of text.now) result }
+    ensures count { failed_in result ≡ 0 }
+    ensures sink { IfErr result (λ e. e ≢ Unloaded.Failed Failure.Sink) }
+{
+    match read_written(alloc, text) {
+        Ok(tables) => Ok(tables),
+        Err(BuildError::Refused(fault)) => Err(Unloaded::Refused(fault)),
+        Err(BuildError::Memory(_)) => Err(Unloaded::Failed(Failure::Memory)),
+    }
+}
+
+/// The fault of a text of tables that is longer than a text may be.
+const TOO_LONG: TableFault = TableFault {
+    rule: TableRule::NotToml,
+    section: Section::Top,
+    index: 0,
+};
+
 /// The tables that the text of a source says, read whole.
 ///
 /// # Errors
@@ -67,13 +87,28 @@ pub fn load<S: Source>(alloc: Global, source: &mut S) -> Result<Tables, Unloaded
     ensures asks { AsksUpTo TEXT_LIMIT (S.state source.old) (S.state source.new) }
     ensures sink { IfErr result (λ e. e ≢ Unloaded.Failed Failure.Sink) }
 {
-    let too_long = TableFault {
-        rule: TableRule::NotToml,
-        section: Section::Top,
-        index: 0,
-    };
-    match read_text(alloc, source, too_long) {
+    match read_text(alloc, source, TOO_LONG) {
         Ok(text) => build(alloc, text.as_slice()),
+        Err(unloaded) => Err(unloaded),
+    }
+}
+
+/// The tables that the text of a source says, read whole, beside its document.
+///
+/// # Errors
+/// As of [`load`].
+pub fn load_written<S: Source>(
+    alloc: Global,
+    source: &mut S,
+) -> Result<WrittenTables, Unloaded<TableFault>>
+    requires { IsCountable (S.state source.old) }
+    ensures tables { IfSome (S.state source.old).remaining (λ text. LoadsWritten (tables_of text) result) }
+    ensures count { (S.state source.new).failed ≡ (S.state source.old).failed + failed_in result }
+    ensures asks { AsksUpTo TEXT_LIMIT (S.state source.old) (S.state source.new) }
+    ensures sink { IfErr result (λ e. e ≢ Unloaded.Failed Failure.Sink) }
+{
+    match read_text(alloc, source, TOO_LONG) {
+        Ok(text) => build_written(alloc, text.as_slice()),
         Err(unloaded) => Err(unloaded),
     }
 }

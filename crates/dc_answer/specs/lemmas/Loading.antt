@@ -11,7 +11,7 @@ use Rattle.dc_document.specs.declared.fault.TableFault.{TableFault}
 use Rattle.dc_document.specs.declared.fault.TableRule.TheVariants.{NotToml}
 use Rattle.dc_toml.specs.Reading.{document_of, tables_of}
 use Rattle.dc_document.specs.declared.limits.TheConstants.{TEXT_LIMIT}
-use Rattle.dc_answer.specs.Inputs.{Loads, LoadsCertificate, OnlyBehind, ReadsText}
+use Rattle.dc_answer.specs.Inputs.{Loads, LoadsCertificate, LoadsWritten, OnlyBehind, ReadsText}
 use Rattle.dc_answer.specs.declared.inputs.Unloaded.{Unloaded}
 use Rattle.dc_answer.specs.declared.inputs.Unloaded.TheVariants.{Refused, Failed}
 
@@ -40,6 +40,11 @@ pub refused_loads : (r : Option (List ℕ)) (u : Unloaded TableFault) → IfSome
 refused_loads None u h = tt
 refused_loads (Some text) (Refused fault) (long, is) = inl (rw is (long_text text long))
 refused_loads (Some text) (Failed failure) h = tt
+
+pub refused_written : (r : Option (List ℕ)) (u : Unloaded TableFault) → IfSome r (λ text. ReadsText no_document text (Err u)) → IfSome r (λ text. LoadsWritten (tables_of text) (Err u))
+refused_written None u h = tt
+refused_written (Some text) (Refused fault) (long, is) = inl (rw is (long_text text long))
+refused_written (Some text) (Failed failure) h = tt
 
 pub refused_certificate : (r : Option (List ℕ)) (u : Unloaded Fault) → IfSome r (λ text. ReadsText no_json text (Err u)) → IfSome r (λ text. LoadsCertificate (certificate_of text) (Err u))
 refused_certificate None u h = tt

@@ -6,7 +6,8 @@ use Rattle.dc_answer.specs.Threads.{ReportsThreads}
 use Rattle.dc_answer.specs.declared.exit.Exit.{Exit}
 use Rattle.dc_tables.specs.TableRows.{TableRows}
 use Rattle.dc_toml.specs.Reading.{tables_of}
-use Rattle.dc_build.specs.Reported.{AreTablesOf}
+use Rattle.dc_build.specs.Reported.{AreTablesOf, AreWrittenBy}
+use Rattle.dc_build.specs.Written.{WrittenRows}
 
 -- no thread could have been missing
 pub plain : {P X : Type 0} → P ⊎ (⊥ × X) → P
@@ -60,4 +61,13 @@ order_one None untouched f = tt
 order_one (Some rows) untouched f = by (f rows refl) where
   by : {Y : Type 0} → ((t : TableRows) × AreTablesOf (tables_of rows) t × Unit {0}) ⊎ (untouched × Y) → OnlyBehind (tables_of rows) untouched
   by (inl (t, at, x)) = inl (t, at)
+  by (inr (u, y)) = inr u
+
+-- the same where these stand beside their document
+pub order_written : {Y : Type 0} (r : Option (List ℕ)) (untouched : Type 0) → ((rows : List ℕ) → r ≡ Some rows → ((w : WrittenRows) × AreWrittenBy (tables_of rows) w × Unit {0}) ⊎ (untouched × Y))
+    → IfSome r (λ rows. OnlyBehind (tables_of rows) untouched)
+order_written None untouched f = tt
+order_written (Some rows) untouched f = by (f rows refl) where
+  by : {Y : Type 0} → ((w : WrittenRows) × AreWrittenBy (tables_of rows) w × Unit {0}) ⊎ (untouched × Y) → OnlyBehind (tables_of rows) untouched
+  by (inl (w, at, x)) = inl (w.tables, record { parts = w.parts; said = at.said; valid = at.valid; rows_of = at.rows_of })
   by (inr (u, y)) = inr u

@@ -7,13 +7,15 @@ use Rattle.dc_cert.specs.declared.certificate.Certificate.{Certificate}
 use Rattle.dc_cert.specs.declared.fault.Fault.{Fault}
 use Rattle.dc_device.specs.States.{SourceState}
 use Rattle.dc_document.specs.FaultText.{table_fault_text}
+use Rattle.dc_document.specs.declared.fault.BuildError.{BuildError}
 use Rattle.dc_document.specs.declared.fault.BuildError.TheVariants.{Refused as RefusedTables}
 use Rattle.dc_document.specs.declared.fault.TableFault.{TableFault}
-use Rattle.dc_tables.specs.TableRows.{TableRows}
+use Rattle.dc_toml.specs.Faults.{Reading}
 use Rattle.dc_toml.specs.Reading.{tables_of}
+use Rattle.dc_toml.specs.Written.{Written}
 use Rattle.dc_answer.specs.Answer.{Answer, one_line}
 use Rattle.dc_answer.specs.Given.{AreFirst, AreTexts, AskUpTo, OnlyAfter, failures, kept_from}
-use Rattle.dc_answer.specs.Inputs.{AnswersCertificate, AnswersTables, CertificateGoesOn, Loads, LoadsCertificate, TablesGoOn, failed_in}
+use Rattle.dc_answer.specs.Inputs.{AnswersBy, AnswersCertificate, CertificateGoesOn, GoOnBy, LoadsBy, LoadsCertificate, failed_in}
 use Rattle.dc_answer.specs.Judging.{Keeps, Raised, Says, to_write}
 use Rattle.dc_answer.specs.declared.answer.Failure.{Failure}
 use Rattle.dc_answer.specs.declared.answer.Failure.TheVariants.{Source, Sink, Memory as NoMemory}
@@ -62,27 +64,27 @@ kept_order kept same x x' r GoesOn s ss begins (text ∷ first) are = inr (same 
 
 -- ---- tables
 
-module _ (Is : TableRows → List (List ℕ) → Answer → Type 0) (s : SourceState) (ss : List SourceState) (page : List ℕ) where
-  pub tables_read : (t : TableRows) (result : Result Outcome Unjudged) → IfSome s.remaining (λ text. Loads (tables_of text) (Ok t))
-      → ((texts : List (List ℕ)) → AreTexts ss texts → Keeps (Is t texts) page result) → (texts : List (List ℕ)) → AreTexts (s ∷ ss) texts → Keeps (AnswersTables Is texts) page result
-  tables_read t result loads judged [] are = absurd are
-  tables_read t result loads judged (text ∷ texts) (e, are) =
-      let reported = rw e at loads in kept_as (Is t texts) (AnswersTables Is (text ∷ texts)) page result (λ answer is. (Ok t, reported, is)) (judged texts are)
+module _ {X : Type 0} (Tells : Reading Written → Result X BuildError → Type 0) (Is : X → List (List ℕ) → Answer → Type 0) (s : SourceState) (ss : List SourceState) (page : List ℕ) where
+  pub tables_read : (x : X) (result : Result Outcome Unjudged) → IfSome s.remaining (λ text. LoadsBy Tells (tables_of text) (Ok x))
+      → ((texts : List (List ℕ)) → AreTexts ss texts → Keeps (Is x texts) page result) → (texts : List (List ℕ)) → AreTexts (s ∷ ss) texts → Keeps (AnswersBy Tells Is texts) page result
+  tables_read x result loads judged [] are = absurd are
+  tables_read x result loads judged (text ∷ texts) (e, are) =
+      let reported = rw e at loads in kept_as (Is x texts) (AnswersBy Tells Is (text ∷ texts)) page result (λ answer is. (Ok x, reported, is)) (judged texts are)
 
-  pub tables_refused : (fault printed : TableFault) (line : List ℕ) → IfSome s.remaining (λ text. Loads (tables_of text) (Err (Refused fault))) → printed ≡ fault
-      → line ≡ codes "unreadable " ++ table_fault_text printed → page ≡ line → (texts : List (List ℕ)) → AreTexts (s ∷ ss) texts → Says (AnswersTables Is texts) page Unreadable
+  pub tables_refused : (fault printed : TableFault) (line : List ℕ) → IfSome s.remaining (λ text. LoadsBy Tells (tables_of text) (Err (Refused fault))) → printed ≡ fault
+      → line ≡ codes "unreadable " ++ table_fault_text printed → page ≡ line → (texts : List (List ℕ)) → AreTexts (s ∷ ss) texts → Says (AnswersBy Tells Is texts) page Unreadable
   tables_refused fault printed line loads at is same [] are = absurd are
   tables_refused fault printed line loads at is same (text ∷ texts) (e, are) =
       let reported = rw e at loads in
-      one_said (AnswersTables Is (text ∷ texts)) page (codes "unreadable " ++ table_fault_text fault) Unreadable
+      one_said (AnswersBy Tells Is (text ∷ texts)) page (codes "unreadable " ++ table_fault_text fault) Unreadable
       (same ∙ is ∙ ap (λ x. codes "unreadable " ++ table_fault_text x) at) (Err (RefusedTables fault), reported, refl)
 
-pub tables_order : {S R : Type 0} (kept : ℕ → R → R → Type 0) (x x' : S) (r r' : R) (GoesOn : TableRows → List (List ℕ) → Type 0) (s : SourceState) (ss : List SourceState) (t : TableRows)
-    → IfSome s.remaining (λ text. Loads (tables_of text) (Ok t)) → OnlyAfter (GoesOn t) ss (λ k. kept k r r') → OnlyAfter (TablesGoOn GoesOn) (s ∷ ss) (λ k. kept_from kept k x x' r r')
-tables_order kept x x' r r' GoesOn s ss t loads order [] are = inl tt
-tables_order kept x x' r r' GoesOn s ss t loads order (text ∷ first) (e, are) = by (order first are) where
-  by : GoesOn t first ⊎ kept (length first) r r' → TablesGoOn GoesOn (text ∷ first) ⊎ kept_from kept (length (text ∷ first)) x x' r r'
-  by (inl goes) = let reported = rw e at loads in inl (t, reported, goes)
+pub tables_order : {X : Type 0} (Tells : Reading Written → Result X BuildError → Type 0) {S R : Type 0} (kept : ℕ → R → R → Type 0) (s1 s1' : S) (r r' : R) (GoesOn : X → List (List ℕ) → Type 0) (s : SourceState) (ss : List SourceState) (x : X)
+    → IfSome s.remaining (λ text. LoadsBy Tells (tables_of text) (Ok x)) → OnlyAfter (GoesOn x) ss (λ k. kept k r r') → OnlyAfter (GoOnBy Tells GoesOn) (s ∷ ss) (λ k. kept_from kept k s1 s1' r r')
+tables_order Tells kept s1 s1' r r' GoesOn s ss x loads order [] are = inl tt
+tables_order Tells kept s1 s1' r r' GoesOn s ss x loads order (text ∷ first) (e, are) = by (order first are) where
+  by : GoesOn x first ⊎ kept (length first) r r' → GoOnBy Tells GoesOn (text ∷ first) ⊎ kept_from kept (length (text ∷ first)) s1 s1' r r'
+  by (inl goes) = let reported = rw e at loads in inl (x, reported, goes)
   by (inr rest) = inr rest
 
 -- ---- a certificate

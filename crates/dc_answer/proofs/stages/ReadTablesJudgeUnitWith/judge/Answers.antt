@@ -1,20 +1,21 @@
+use Rattle.dc_build.specs.Reported.{TellsTables}
 use Rattle.dc_answer.specs.Inputs.{TablesGoOn}
 use Rattle.dc_answer.specs.lemmas.Stages.{tables_order, tables_read, tables_refused, kept_order, none_ask, read_raised, unread_raised}
 use Rattle.dc_answer.proofs.stages.ReadTablesJudgeUnitWith.judge.Goals as goal
 
 pub returns-in-Ok-clause-answer : goal.returns-in-Ok-clause-answer
-returns-in-Ok-clause-answer g c = tables_read (g.J.Judge.answers c.args.self.now.0) (g.S.Source.state c.args.given.now.first.now) (g.R.Given.states c.args.given.now.rest) _ c.in-Ok.tables c.judge.result c.in-Ok.ensures.tables c.judge.ensures.answer
+returns-in-Ok-clause-answer g c = tables_read TellsTables (g.J.Judge.answers c.args.self.now.0) (g.S.Source.state c.args.given.now.first.now) (g.R.Given.states c.args.given.now.rest) _ c.in-Ok.tables c.judge.result c.in-Ok.ensures.tables c.judge.ensures.answer
 
 pub returns-in-Ok-clause-raises : goal.returns-in-Ok-clause-raises
 returns-in-Ok-clause-raises g c = read_raised _ _ _ _ c.judge.result c.in-Ok.ensures.count c.judge.ensures.raises
 
 pub returns-in-Ok-clause-order : goal.returns-in-Ok-clause-order
-returns-in-Ok-clause-order g c = tables_order g.R.Given.kept _ _ _ _ (g.J.Judge.goes_on c.args.self.now.0) (g.S.Source.state c.args.given.now.first.now) (g.R.Given.states c.args.given.now.rest) c.in-Ok.tables c.in-Ok.ensures.tables c.judge.ensures.order
+returns-in-Ok-clause-order g c = tables_order TellsTables g.R.Given.kept _ _ _ _ (g.J.Judge.goes_on c.args.self.now.0) (g.S.Source.state c.args.given.now.first.now) (g.R.Given.states c.args.given.now.rest) c.in-Ok.tables c.in-Ok.ensures.tables c.judge.ensures.order
 
 pub returns-in-Err-Refused-clause-answer : goal.returns-in-Err-Refused-clause-answer
 returns-in-Err-Refused-clause-answer g c =
     let loads = rw c.in-Err-Refused.field-0-is at c.in-Err-Refused.ensures.tables in
-    tables_refused (g.J.Judge.answers c.args.self.now.0) (g.S.Source.state c.args.given.now.first.now) (g.R.Given.states c.args.given.now.rest) _ _ _ _ loads c.in-Err-Refused.fault-is c.print_table_fault.ensures c.tell.ensures
+    tables_refused TellsTables (g.J.Judge.answers c.args.self.now.0) (g.S.Source.state c.args.given.now.first.now) (g.R.Given.states c.args.given.now.rest) _ _ _ _ loads c.in-Err-Refused.fault-is c.print_table_fault.ensures c.tell.ensures
 
 pub returns-in-Err-Refused-clause-asks : goal.returns-in-Err-Refused-clause-asks
 returns-in-Err-Refused-clause-asks g c = (c.in-Err-Refused.ensures.asks, none_ask _ _)
