@@ -38,6 +38,23 @@ grouped n =
 abbrev pub tenths : ℕ → List ℕ
 tenths n = if nat_eq (n % 10) 0 then decimal (n / 10) else decimal (n / 10) ++ codes "." ++ decimal (n % 10)
 
+-- the last three digits without the noughts at their end
+abbrev pub trimmed : ℕ → List ℕ
+trimmed n =
+    if nat_eq (n % 10) 0 then
+    (if nat_eq (n / 10 % 10) 0 then decimal (n / 100 % 10) else decimal (n / 100 % 10) ++ decimal (n / 10 % 10))
+    else decimal (n / 100 % 10) ++ decimal (n / 10 % 10) ++ decimal (n % 10)
+
+-- a number of thousandths, without noughts at its end
+abbrev pub thousandths : ℕ → List ℕ
+thousandths n = if nat_eq (n % 1000) 0 then grouped (n / 1000) else grouped (n / 1000) ++ codes "." ++ trimmed n
+
+-- a number of millionths, without noughts at its end
+abbrev pub millionths : ℕ → List ℕ
+millionths n =
+    if nat_eq (n % 1000) 0 then thousandths (n / 1000)
+    else grouped (n / 1000000) ++ codes "." ++ last_three (n / 1000) ++ trimmed n
+
 -- what is counted: one, or another number
 abbrev pub one_of : Unit → List ℕ
 one_of Ticks = codes "tick"

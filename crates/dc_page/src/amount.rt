@@ -1,7 +1,7 @@
 //! Numbers as the page writes them.
 
 ghost use Rattle.std.specs.Prelude.{◌≡◌, Some};
-ghost use Rattle.dc_page.specs.Text.{amount_text, grouped, last_three, tenths, unit_word};
+ghost use Rattle.dc_page.specs.Text.{amount_text, grouped, last_three, millionths, tenths, thousandths, trimmed, unit_word};
 
 use std::fmt;
 
@@ -58,6 +58,63 @@ impl fmt::Display for Tenths {
         } else {
             write!(f, "{whole}.{rest}")
         }
+    }
+}
+
+/// Three digits without the noughts at their end.
+#[derive(Clone, Copy)]
+struct Trimmed(u64);
+
+impl fmt::Display for Trimmed {
+    ghost output = { λ x. Some (trimmed x.0) };
+
+    fn fmt<W: fmt::Write>(&self, f: &mut fmt::Formatter<W>) -> fmt::Result {
+        let ones = self.0 % 10;
+        let tens = self.0 / 10 % 10;
+        let hundreds = self.0 / 100 % 10;
+        if ones != 0 {
+            return write!(f, "{hundreds}{tens}{ones}");
+        }
+        if tens != 0 {
+            return write!(f, "{hundreds}{tens}");
+        }
+        write!(f, "{hundreds}")
+    }
+}
+
+/// A number of thousandths, as `24` or `1,000.25`.
+#[derive(Clone, Copy, Debug, PartialEq, Eq)]
+pub struct Thousandths(pub u64);
+
+impl fmt::Display for Thousandths {
+    ghost output = { λ x. Some (thousandths x.0) };
+
+    fn fmt<W: fmt::Write>(&self, f: &mut fmt::Formatter<W>) -> fmt::Result {
+        let whole = Grouped(self.0 / 1_000);
+        if self.0 % 1_000 == 0 {
+            return write!(f, "{whole}");
+        }
+        let rest = Trimmed(self.0);
+        write!(f, "{whole}.{rest}")
+    }
+}
+
+/// A number of millionths, as `999.9` or `1,000.000001`.
+#[derive(Clone, Copy, Debug, PartialEq, Eq)]
+pub struct Millionths(pub u64);
+
+impl fmt::Display for Millionths {
+    ghost output = { λ x. Some (millionths x.0) };
+
+    fn fmt<W: fmt::Write>(&self, f: &mut fmt::Formatter<W>) -> fmt::Result {
+        let thousandths = Thousandths(self.0 / 1_000);
+        if self.0 % 1_000 == 0 {
+            return write!(f, "{thousandths}");
+        }
+        let whole = Grouped(self.0 / 1_000_000);
+        let first = LastThree(self.0 / 1_000);
+        let rest = Trimmed(self.0);
+        write!(f, "{whole}.{first}{rest}")
     }
 }
 

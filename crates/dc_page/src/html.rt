@@ -6,6 +6,7 @@ ghost use Rattle.dc_check.specs.Placed.{IsPlaced};
 ghost use Rattle.dc_check.specs.Verdict.{verdict_of};
 
 use crate::claims::push_claims;
+use crate::drift::{Drift, push_drift};
 use crate::input::push_input;
 use crate::known::{inputs_known, outputs_known};
 use crate::output::push_output;
@@ -69,7 +70,7 @@ fn push_verdict(
     }
 }
 
-/// Adds all of the page.
+/// Adds all of the page but its foot.
 fn push_page(
     alloc: Global,
     text: &mut String,
@@ -81,14 +82,14 @@ fn push_page(
 {
     text.push_str(HEAD)?;
     push_verdict(text, tables, fault)?;
-    if misnamed(tables, certificate).is_none() {
-        let fitted = Fitted {
-            tables,
-            certificate,
-        };
-        push_named(alloc, text, &fitted, fault.is_none())?;
+    if misnamed(tables, certificate).is_some() {
+        return Ok(());
     }
-    text.push_str(FOOT)
+    let fitted = Fitted {
+        tables,
+        certificate,
+    };
+    push_named(alloc, text, &fitted, fault.is_none())
 }
 
 /// The page on a certificate for tables, given the fault of its verdict, as HTML. No clause says what stands in it: it
@@ -106,5 +107,26 @@ pub fn page(
 {
     let mut text = String::new(alloc);
     push_page(alloc, &mut text, tables, certificate, fault)?;
+    text.push_str(FOOT)?;
+    Ok(text)
+}
+
+/// The page on a certificate for tables as [`page`] makes it, with a section on clocks that drift behind its parts.
+///
+/// # Errors
+/// `AllocError` where an allocation failed.
+pub fn page_with_drift(
+    alloc: Global,
+    tables: &Tables,
+    certificate: &Certificate,
+    fault: Option<CheckFault>,
+    drift: &Drift<'_>,
+) -> Result<String, AllocError>
+    requires { fault ≡ verdict_of tables.now (named_rows certificate.now) }
+{
+    let mut text = String::new(alloc);
+    push_page(alloc, &mut text, tables, certificate, fault)?;
+    push_drift(&mut text, tables, drift)?;
+    text.push_str(FOOT)?;
     Ok(text)
 }

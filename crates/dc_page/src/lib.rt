@@ -3,6 +3,7 @@
 
 mod amount;
 mod claims;
+mod drift;
 mod escape;
 mod facts;
 mod frame;
@@ -19,4 +20,5 @@ mod style;
 mod summary;
 mod verdict;
 
-pub use html::page;
+pub use drift::{Drift, Drifted, LabelDrift, SourceDrift, WireDrift};
+pub use html::{page, page_with_drift};
