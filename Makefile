@@ -37,7 +37,7 @@ test:
 
 # The built program on the rows of rows/, on texts by chance and of the largest sizes, at its edges, under refused memory and
 # failing devices: some minutes, no proof.
-trials: $(addprefix try-,rows explained chance crowds largest audits edges hostile pages refused)
+trials: $(addprefix try-,rows explained chance timed crowds largest audits edges hostile pages refused)
 
 try-%:
 	@scripts/$*

@@ -109,7 +109,30 @@ def settle(chance, rows):
             label["age"] = label["stale"] + max(delays) + nudge(chance, 3)
 
 
+def draw_accepted(chance, **given):
+    """Roomy tables for which some certificate is accepted, as a text, and the least one, with ages up to their limits."""
+    for _ in range(100):
+        text = draw_tables(chance, True, **given)
+        judge = Judge(Tables(text))
+        certificate, obstacle = judge.least
+        if not obstacle:
+            pairs = zip(certificate["labels"], judge.tables.labels)
+            return text, {**certificate, "labels": [{**row, "age": chance.randint(row["age"], label.limit)} for row, label in pairs]}
+    raise ValueError("no certificate is accepted for a hundred tables")
+
+
 # ---- runs by chance
+
+
+def trace_of(tables, run):
+    """The trace of a run."""
+    return "".join(f"{line_of(tables, event)}\n" for event in run)
+
+
+def line_of(tables, event):
+    """The line of an event in a trace."""
+    rows = {"A": tables.buses, "R": tables.routers, "S": tables.outputs}.get(event[0])
+    return " ".join([event[0], *([rows[event[1]].name] if rows else []), *(f"{word:08X}" for word in event[2:])])
 
 
 def draw_word(chance, label, sdi, ssm=None):
