@@ -1,5 +1,5 @@
 -- Names and numbers as the page writes them.
-use Rattle.std.specs.Prelude.{ℕ, ◌/◌, ◌%◌, Bool, not, ◌&&◌, if◌then◌else◌, nat_eq, nat_lt, List, [], ◌∷◌, ◌++◌, codes, decimal, encode_utf8}
+use Rattle.std.specs.Prelude.{ℕ, ◌+◌, ◌-◌, ◌*◌, ◌/◌, ◌%◌, ◌^◌, min, Bool, not, ◌&&◌, if◌then◌else◌, nat_eq, nat_lt, List, [], ◌∷◌, ◌++◌, codes, decimal, encode_utf8}
 use Rattle.dc_page.specs.declared.amount.Amount.{Amount}
 use Rattle.dc_page.specs.declared.amount.Unit.{Unit}
 use Rattle.dc_page.specs.declared.amount.Unit.TheVariants.{Ticks, Words, Entries, Inputs, Outputs, Labels}
@@ -80,6 +80,35 @@ unit_word unit count = if nat_eq count 1 then one_of unit else more_of unit
 -- as `1 tick` or `1,000 words`
 abbrev pub amount_text : Amount → List ℕ
 amount_text amount = grouped amount.count ++ codes " " ++ unit_word amount.unit amount.count
+
+-- ---- times
+
+-- how many microseconds so many ticks of this length last, as far as the machine's greatest number goes
+abbrev pub time_of : (ticks tick : ℕ) → ℕ
+time_of ticks tick = min (ticks * tick) (2 ^ 64 - 1)
+
+-- so many ticks with their milliseconds, as `24 ticks (24 ms)`, the milliseconds in small
+abbrev pub span_text : (ticks tick : ℕ) → List ℕ
+span_text ticks tick = grouped ticks ++ codes " " ++ unit_word Ticks ticks ++ codes " <small>(" ++ thousandths (time_of ticks tick) ++ codes " ms)</small>"
+
+-- an age in ticks, and below how much time it is, as `24 ticks (under 25 ms)`
+abbrev pub age_text : (ticks under : ℕ) → List ℕ
+age_text ticks under = grouped ticks ++ codes " " ++ unit_word Ticks ticks ++ codes " <small>(under " ++ thousandths under ++ codes " ms)</small>"
+
+-- ---- what is read again
+
+-- the digits behind a point, of which the first counts tenths of the unit
+unfoldable pub behind_point : (unit : ℕ) → List ℕ → ℕ
+behind_point unit [] = 0
+behind_point unit (byte ∷ bytes) = (byte - 48) * (unit / 10) + behind_point (unit / 10) bytes
+
+-- the number that a text stands for, in parts of which so many are a whole: its digits behind `before`, its commas left out, up to a point
+unfoldable pub number_from : (unit before : ℕ) → List ℕ → ℕ
+number_from unit before [] = before * unit
+number_from unit before (byte ∷ bytes) =
+    if nat_eq byte 46 then before * unit + behind_point unit bytes
+    else if nat_eq byte 44 then number_from unit before bytes
+    else number_from unit (before * 10 + (byte - 48)) bytes
 
 -- ---- what stays inside
 

@@ -168,16 +168,10 @@ impl fmt::Display for Amount {
     }
 }
 
-/// So many ticks.
-pub fn ticks(count: u32) -> Amount {
-    Amount {
-        count: u64::from(count),
-        unit: Unit::Ticks,
-    }
-}
-
 /// So many words.
-pub fn words(count: u32) -> Amount {
+pub fn words(count: u32) -> Amount
+    ensures { result ≡ record { count = count; unit = Unit.Words } }
+{
     Amount {
         count: u64::from(count),
         unit: Unit::Words,

@@ -2,9 +2,10 @@
 
 ghost use Rattle.std.specs.Prelude.{◌<◌, length};
 
-use crate::amount::{Grouped, ticks};
+use crate::amount::Grouped;
 use crate::escape::Escaped;
 use crate::facts::source_at;
+use crate::time::TickLength;
 use dc_check::Fitted;
 use dc_tables::Tables;
 use std::alloc::AllocError;
@@ -47,9 +48,10 @@ fn push_ages(text: &mut String, fitted: &Fitted<'_>) -> Result<(), AllocError> {
     text.push_str(
         "<li><b>No old word leaves:</b> a word that leaves is marked as no computed data, or copies one that came at most so long before:",
     )?;
+    let tick = TickLength::of(fitted.tables);
     for label in 0..fitted.tables.label_count().min(NAMED) {
         push_between(text, label)?;
-        let age = ticks(fitted.certificate.labels[label].age);
+        let age = tick.age(fitted.certificate.labels[label].age);
         let name = Escaped(fitted.tables.label_name(label).text());
         write!(text, "{age} of label {name}")?;
     }
@@ -62,7 +64,7 @@ fn push_first(text: &mut String, tables: &Tables, label: usize) -> Result<(), Al
 {
     tables.valid();
     let row = tables.label(label);
-    let stale = ticks(row.stale);
+    let stale = TickLength::of(tables).span(row.stale);
     let name = Escaped(tables.label_name(label).text());
     let source = Escaped(tables.stream_name(source_at(tables, label, 0)).text());
     write!(text, "{source} of label {name}, looked at over {stale}")
@@ -80,19 +82,34 @@ fn push_sources(text: &mut String, tables: &Tables) -> Result<(), AllocError> {
     push_end(text, tables.label_count())
 }
 
+/// Adds the interval of a label: in microseconds each end is a tick further, since a word may leave early or late in its
+/// tick.
+fn push_interval(text: &mut String, tables: &Tables, label: usize) -> Result<(), AllocError>
+    requires there { label < length tables.now.labels }
+{
+    let row = tables.label(label);
+    let tick = TickLength::of(tables);
+    let minimum = Grouped(u64::from(row.minimum));
+    let maximum = Grouped(u64::from(row.maximum));
+    let name = Escaped(tables.label_name(label).text());
+    write!(
+        text,
+        "label {name} leaves at least {minimum} and at most {maximum} ticks after its last time"
+    )?;
+    let least = tick.millis(u64::from(row.minimum).saturating_sub(1));
+    let most = tick.millis(u64::from(row.maximum).saturating_add(1));
+    write!(
+        text,
+        " <small>(more than {least} and under {most} ms)</small>"
+    )
+}
+
 /// Adds the claim on intervals.
 fn push_intervals(text: &mut String, tables: &Tables) -> Result<(), AllocError> {
     text.push_str("<li><b>Each label keeps its interval:</b>")?;
     for label in 0..tables.label_count().min(NAMED) {
         push_between(text, label)?;
-        let row = tables.label(label);
-        let minimum = Grouped(u64::from(row.minimum));
-        let maximum = ticks(row.maximum);
-        let name = Escaped(tables.label_name(label).text());
-        write!(
-            text,
-            "label {name} leaves at least {minimum} and at most {maximum} after its last time"
-        )?;
+        push_interval(text, tables, label)?;
     }
     push_end(text, tables.label_count())
 }

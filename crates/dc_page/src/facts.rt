@@ -1,9 +1,11 @@
 //! What the page shows of each input, output and label: the tables' words on it, the certificate's numbers and the
 //! margins.
 
-ghost use Rattle.std.specs.Prelude.{◌<◌, length};
+ghost use Rattle.std.specs.Prelude.{◌≡◌, ◌<◌, length, slice_index};
+ghost use Rattle.dc_cert.specs.Bounds.{certificate_rows, input_bound, output_bound};
 ghost use Rattle.dc_tables.specs.TableRows.{label_row};
 
+use crate::time::TickLength;
 use dc_check::Fitted;
 use dc_document::Name;
 use dc_margin::{InputMargins, LabelMargins, OutputMargins, label_margins};
@@ -14,6 +16,7 @@ use dc_transmit::Schedule;
 #[derive(Clone, Copy)]
 pub struct InputFacts {
     pub name: Name,
+    pub tick: TickLength,
     pub router: Name,
     pub queue: u32,
     pub police: bool,
@@ -27,6 +30,7 @@ pub struct InputFacts {
 #[derive(Clone, Copy)]
 pub struct OutputFacts {
     pub name: Name,
+    pub tick: TickLength,
     pub frame: u32,
     pub window: u32,
     pub delay: u32,
@@ -37,6 +41,7 @@ pub struct OutputFacts {
 #[derive(Clone, Copy)]
 pub struct LabelFacts {
     pub name: Name,
+    pub tick: TickLength,
     pub least_gap: u64,
     pub greatest_gap: u64,
     pub output_delay: u32,
@@ -53,6 +58,7 @@ pub struct LabelFacts {
 #[derive(Clone, Copy)]
 pub struct SourceFacts {
     pub name: Name,
+    pub tick: TickLength,
     pub bus: Name,
     pub delay: u32,
     pub maximum: u32,
@@ -61,12 +67,15 @@ pub struct SourceFacts {
 /// The facts of the input of this number, with its margins.
 pub fn input_facts(fitted: &Fitted<'_>, bus: usize, margins: &InputMargins) -> InputFacts
     requires there { bus < length fitted.now.tables.now.buses }
+    ensures claimed { record { window = result.window; backlog = result.backlog; delay = result.delay }
+        ≡ input_bound (certificate_rows fitted.now.certificate.now) bus }
 {
     fitted.tables.valid();
     let row = &fitted.certificate.inputs[bus];
     let own = fitted.tables.bus(bus);
     InputFacts {
         name: *fitted.tables.bus_name(bus),
+        tick: TickLength::of(fitted.tables),
         router: *fitted.tables.router_name(own.router),
         queue: own.queue,
         police: own.police,
@@ -80,10 +89,12 @@ pub fn input_facts(fitted: &Fitted<'_>, bus: usize, margins: &InputMargins) -> I
 /// The facts of the output of this number, with its margins.
 pub fn output_facts(fitted: &Fitted<'_>, output: usize, margins: &OutputMargins) -> OutputFacts
     requires there { output < length fitted.now.tables.now.outputs }
+    ensures claimed { record { window = result.window; delay = result.delay } ≡ output_bound (certificate_rows fitted.now.certificate.now) output }
 {
     let row = &fitted.certificate.outputs[output];
     OutputFacts {
         name: *fitted.tables.output_name(output),
+        tick: TickLength::of(fitted.tables),
         frame: fitted.tables.output(output).frame,
         window: row.window,
         delay: row.delay,
@@ -94,12 +105,14 @@ pub fn output_facts(fitted: &Fitted<'_>, output: usize, margins: &OutputMargins)
 /// The facts of the label of this number.
 pub fn label_facts(fitted: &Fitted<'_>, label: usize) -> LabelFacts
     requires there { label < length fitted.now.tables.now.labels }
+    ensures claimed { result.age ≡ slice_index (certificate_rows fitted.now.certificate.now).ages label }
 {
     fitted.tables.valid();
     let row = fitted.tables.label(label);
     let schedule = Schedule::of(fitted.tables, row.output);
     LabelFacts {
         name: *fitted.tables.label_name(label),
+        tick: TickLength::of(fitted.tables),
         least_gap: schedule.min_gap(label),
         greatest_gap: schedule.max_gap(label),
         output_delay: fitted.certificate.outputs[row.output].delay,
@@ -150,6 +163,7 @@ pub fn source_facts(fitted: &Fitted<'_>, stream: usize) -> SourceFacts
     let bus = fitted.tables.bus_of(stream);
     SourceFacts {
         name: *fitted.tables.stream_name(stream),
+        tick: TickLength::of(fitted.tables),
         bus: *fitted.tables.bus_name(bus),
         delay: delay_of(fitted, stream),
         maximum: fitted.tables.stream(stream).maximum,

@@ -1,8 +1,9 @@
 //! The section of an input.
 
-ghost use Rattle.std.specs.Prelude.{◌<◌, length};
+ghost use Rattle.std.specs.Prelude.{◌≡◌, ◌<◌, length};
+ghost use Rattle.dc_check.specs.Verdict.{is_window};
 
-use crate::amount::{Unit, ticks, words};
+use crate::amount::{Unit, words};
 use crate::escape::Escaped;
 use crate::facts::{InputFacts, input_facts};
 use crate::plot::{Marks, needed, push_plot};
@@ -14,7 +15,9 @@ use dc_tables::Tables;
 use std::alloc::AllocError;
 
 /// Whether a window is one that can be plotted.
-pub fn is_plotted(window: u32) -> bool {
+pub fn is_plotted(window: u32) -> bool
+    ensures { result ≡ is_window window }
+{
     1 <= window && window <= LONGEST_WINDOW
 }
 
@@ -33,9 +36,9 @@ fn push_words(text: &mut String, facts: &InputFacts) -> Result<(), AllocError> {
     } else {
         "The bus is not policed."
     };
-    let window = ticks(facts.window);
+    let window = facts.tick.span(facts.window);
     let backlog = words(facts.backlog);
-    let delay = ticks(facts.delay);
+    let delay = facts.tick.span(facts.delay);
     write!(
         text,
         "<div class='card'><h3>Input {name}</h3><p>A receive queue for {queue}, emptied by router {router}. {police} The certificate claims: the queue is empty again within <b>{window}</b> (window), at most <b>{backlog}</b> wait in it (backlog), and a word is taken at most <b>{delay}</b> after the tick in which it came (delay).</p>\n"
@@ -59,6 +62,7 @@ fn push_curves(
         wait: needed(facts.backlog, facts.margins.backlog),
         late: needed(facts.delay, facts.margins.delay),
         unit: Unit::Words,
+        tick: facts.tick,
     };
     push_plot(
         text,
@@ -82,6 +86,6 @@ pub fn push_input(
     text.push_str("<div class='two'><div>")?;
     push_curves(text, fitted.tables, &facts, bus)?;
     text.push_str("</div><div>")?;
-    push_lines(text, &input_lines(bus, &facts.margins))?;
+    push_lines(text, &input_lines(bus, &facts.margins), facts.tick)?;
     text.push_str("</div></div></div>\n")
 }

@@ -2,20 +2,21 @@
 
 ghost use Rattle.std.specs.Prelude.{◌<◌, length};
 
-use crate::amount::{Amount, Grouped, Unit, ticks};
+use crate::amount::{Amount, Grouped, Unit};
 use crate::escape::Escaped;
-use crate::facts::{LabelFacts, label_facts, source_at, source_facts};
+use crate::facts::{LabelFacts, SourceFacts, label_facts, source_at, source_facts};
 use crate::frame::{push_age, push_interval, push_strip};
 use crate::rules::{MarginText, remedy};
+use crate::time::TickLength;
 use dc_check::Fitted;
 use dc_margin::{MarginLine, label_lines};
 use dc_tables::Tables;
 use std::alloc::AllocError;
 
 /// Adds the margin of a condition, and what to do where it is negative.
-fn push_margin(text: &mut String, line: MarginLine) -> Result<(), AllocError> {
+fn push_margin(text: &mut String, line: MarginLine, tick: TickLength) -> Result<(), AllocError> {
     let code = line.condition.code();
-    let margin = MarginText(line);
+    let margin = MarginText { line, tick };
     if !line.is_negative() {
         return write!(text, "<br/>{code}: {margin}");
     }
@@ -40,8 +41,35 @@ fn push_due(text: &mut String, tables: &Tables, label: usize) -> Result<(), Allo
         count: times as u64,
         unit: Unit::Entries,
     };
-    let frame = ticks(output.frame);
+    let frame = TickLength::of(tables).span(output.frame);
     write!(text, "{due} in {frame}</div>\n")
+}
+
+/// Adds the interval that is wanted of the label.
+fn push_wanted(text: &mut String, facts: &LabelFacts) -> Result<(), AllocError> {
+    let minimum = Grouped(u64::from(facts.minimum));
+    let maximum = Grouped(u64::from(facts.maximum));
+    let from = facts.tick.millis(u64::from(facts.minimum));
+    let to = facts.tick.millis(u64::from(facts.maximum));
+    write!(
+        text,
+        "wanted {minimum} to {maximum} ticks <small>({from} to {to} ms)</small>"
+    )
+}
+
+/// Adds the gaps of the label, and the output's delay.
+fn push_found(text: &mut String, facts: &LabelFacts) -> Result<(), AllocError> {
+    let least = Grouped(facts.least_gap);
+    let greatest = Grouped(facts.greatest_gap);
+    let delay = Grouped(u64::from(facts.output_delay));
+    write!(text, "; gaps {least} to {greatest}, &#177; {delay}")?;
+    let least = facts.tick.millis(facts.least_gap);
+    let greatest = facts.tick.millis(facts.greatest_gap);
+    let delay = facts.tick.millis(u64::from(facts.output_delay));
+    write!(
+        text,
+        " <small>({least} to {greatest}, &#177; {delay} ms)</small>"
+    )
 }
 
 /// Adds the label's interval, with the margins of C08 and C09.
@@ -53,18 +81,21 @@ fn push_gaps(
 ) -> Result<(), AllocError> {
     text.push_str("<div>")?;
     push_interval(text, facts)?;
-    let minimum = Grouped(u64::from(facts.minimum));
-    let maximum = ticks(facts.maximum);
-    let least = Grouped(facts.least_gap);
-    let greatest = Grouped(facts.greatest_gap);
-    let delay = Grouped(u64::from(facts.output_delay));
-    write!(
-        text,
-        "wanted {minimum} to {maximum}; gaps {least} to {greatest}, &#177; {delay}"
-    )?;
-    push_margin(text, soon)?;
-    push_margin(text, late)?;
+    push_wanted(text, facts)?;
+    push_found(text, facts)?;
+    push_margin(text, soon, facts.tick)?;
+    push_margin(text, late, facts.tick)?;
     text.push_str("</div>\n")
+}
+
+/// Adds for how long a source is fresh, and the longest delay before that.
+fn push_oldest(text: &mut String, facts: &LabelFacts) -> Result<(), AllocError> {
+    let stale = Grouped(u64::from(facts.stale));
+    let delay = Grouped(u64::from(facts.slowest));
+    write!(text, "stale {stale} + delay {delay}")?;
+    let stale = facts.tick.millis(u64::from(facts.stale));
+    let delay = facts.tick.millis(u64::from(facts.slowest));
+    write!(text, " <small>({stale} + {delay} ms)</small>")
 }
 
 /// Adds the label's age, with the margins of C10 and C11.
@@ -76,20 +107,35 @@ fn push_ages(
 ) -> Result<(), AllocError> {
     text.push_str("<div>")?;
     push_age(text, facts)?;
-    let stale = Grouped(u64::from(facts.stale));
-    let delay = Grouped(u64::from(facts.slowest));
-    let age = Grouped(u64::from(facts.age));
-    let limit = Grouped(u64::from(facts.age_limit));
-    write!(
-        text,
-        "stale {stale} + delay {delay}; age {age}, limit {limit}"
-    )?;
-    push_margin(text, age_line)?;
-    push_margin(text, limit_line)?;
+    push_oldest(text, facts)?;
+    let age = facts.tick.age(facts.age);
+    let limit = facts.tick.span(facts.age_limit);
+    write!(text, "; age {age}, limit {limit}")?;
+    push_margin(text, age_line, facts.tick)?;
+    push_margin(text, limit_line, facts.tick)?;
     text.push_str("</div>\n")
 }
 
-/// Adds a source: the longest time between two of its words as they are taken, of the time for which it is fresh.
+/// Adds the longest time between two words of a source as they are taken, and by how much it stays fresh longer; less
+/// where that is negative.
+fn push_longest(text: &mut String, facts: &SourceFacts, stale: u32) -> Result<(), AllocError> {
+    let longest = u64::from(facts.delay).saturating_add(u64::from(facts.maximum));
+    let stale = u64::from(stale);
+    let sign = if stale < longest { "-" } else { "" };
+    let delay = Grouped(u64::from(facts.delay));
+    let maximum = Grouped(u64::from(facts.maximum));
+    let slack = Grouped(stale.abs_diff(longest));
+    write!(text, "{delay} + {maximum}, slack {sign}{slack}")?;
+    let delay = facts.tick.millis(delay.0);
+    let maximum = facts.tick.millis(maximum.0);
+    let slack = facts.tick.millis(slack.0);
+    write!(
+        text,
+        " <small>({delay} + {maximum}, slack {sign}{slack} ms)</small>"
+    )
+}
+
+/// Adds a source, of the time for which it is fresh.
 fn push_source(
     text: &mut String,
     fitted: &Fitted<'_>,
@@ -101,15 +147,8 @@ fn push_source(
     let facts = source_facts(fitted, stream);
     let name = Escaped(facts.name.text());
     let bus = Escaped(facts.bus.text());
-    let delay = facts.delay;
-    let maximum = facts.maximum;
-    let slack = i64::from(stale)
-        .saturating_sub(i64::from(delay))
-        .saturating_sub(i64::from(maximum));
-    write!(
-        text,
-        "<br/>{name} ({bus}): {delay} + {maximum}, slack {slack}"
-    )
+    write!(text, "<br/>{name} ({bus}): ")?;
+    push_longest(text, &facts, stale)
 }
 
 /// Adds the label's sources, with the margin of C12.
@@ -122,13 +161,13 @@ fn push_sources(
 ) -> Result<(), AllocError>
     requires there { label < length fitted.now.tables.now.labels }
 {
-    let stale = Grouped(u64::from(facts.stale));
+    let stale = facts.tick.span(facts.stale);
     write!(text, "<div>delay + longest interval, of {stale}")?;
     for place in 0..fitted.tables.label(label).sources.len() {
         let stream = source_at(fitted.tables, label, place);
         push_source(text, fitted, facts.stale, stream)?;
     }
-    push_margin(text, fresh)?;
+    push_margin(text, fresh, facts.tick)?;
     text.push_str("</div>\n")
 }
 

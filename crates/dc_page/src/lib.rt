@@ -18,6 +18,7 @@ mod rules;
 mod shares;
 mod style;
 mod summary;
+mod time;
 mod verdict;
 
 pub use drift::{Drift, Drifted, LabelDrift, SourceDrift, WireDrift};

@@ -2,7 +2,7 @@
 
 ghost use Rattle.std.specs.Prelude.{◌<◌, length};
 
-use crate::amount::{Grouped, Unit, ticks};
+use crate::amount::{Grouped, Unit};
 use crate::escape::Escaped;
 use crate::facts::{OutputFacts, output_facts};
 use crate::frame::push_strip;
@@ -10,6 +10,7 @@ use crate::input::{is_plotted, push_no_plot};
 use crate::labels::push_label;
 use crate::plot::{Marks, needed, push_plot};
 use crate::rules::push_lines;
+use crate::time::TickLength;
 use dc_check::Fitted;
 use dc_margin::{OutputMargins, output_lines};
 use dc_tables::Tables;
@@ -18,9 +19,9 @@ use std::alloc::AllocError;
 /// Adds what the output is and what the certificate claims of it, in words.
 fn push_words(text: &mut String, facts: &OutputFacts) -> Result<(), AllocError> {
     let name = Escaped(facts.name.text());
-    let frame = ticks(facts.frame);
-    let window = ticks(facts.window);
-    let delay = ticks(facts.delay);
+    let frame = facts.tick.span(facts.frame);
+    let window = facts.tick.span(facts.window);
+    let delay = facts.tick.span(facts.delay);
     write!(
         text,
         "<div class='card'><h3>Output {name}</h3><p>A frame of {frame}, again and again. The certificate claims: all that is due is sent within <b>{window}</b> (window), and an entry leaves at most <b>{delay}</b> after the tick in which it was due (delay).</p>\n"
@@ -44,6 +45,7 @@ fn push_curves(
         wait: None,
         late: needed(facts.delay, facts.margins.delay),
         unit: Unit::Entries,
+        tick: facts.tick,
     };
     push_plot(
         text,
@@ -59,13 +61,14 @@ fn push_frame(text: &mut String, tables: &Tables, output: usize) -> Result<(), A
 {
     let row = tables.output(output);
     let frame = Grouped(u64::from(row.frame));
+    let millis = TickLength::of(tables).millis(u64::from(row.frame));
     write!(
         text,
-        "<h4>The frame, from tick 0 to {frame} and again, with all that is due</h4><div class='h'>"
+        "<h4>The frame, from tick 0 to {frame} <small>({millis} ms)</small> and again, with all that is due</h4><div class='h'>"
     )?;
     push_strip(text, row.entries.as_slice(), row.frame, None)?;
     text.push_str(
-        "</div><p class='s'>Of each label: when it is due in the frame. <span class='k g'></span>the interval that is wanted from one time to the next, and <span class='k a'></span>what the gaps and the delay make of it. <span class='k s'></span>how long a source stays fresh (stale), <span class='k a'></span>the longest delay before that, <span class='k m'></span>the age that is claimed, and <span class='k r'></span>its limit. Margins in ticks.</p>\n",
+        "</div><p class='s'>Of each label: when it is due in the frame. <span class='k g'></span>the interval that is wanted from one time to the next, and <span class='k a'></span>what the gaps and the delay make of it. <span class='k s'></span>how long a source stays fresh (stale), <span class='k a'></span>the longest delay before that, <span class='k m'></span>the age that is claimed, and <span class='k r'></span>its limit. In grey the same in milliseconds.</p>\n",
     )
 }
 
@@ -93,7 +96,7 @@ pub fn push_output(
     text.push_str("<div class='two'><div>")?;
     push_curves(text, fitted.tables, &facts, output)?;
     text.push_str("</div><div>")?;
-    push_lines(text, &output_lines(output, &facts.margins))?;
+    push_lines(text, &output_lines(output, &facts.margins), facts.tick)?;
     text.push_str("</div></div>\n")?;
     push_frame(text, fitted.tables, output)?;
     push_labels(text, fitted, output)?;

@@ -4,6 +4,7 @@ ghost use Rattle.std.specs.Prelude.{◌≤◌};
 
 use crate::amount::{Amount, Grouped, Tenths, Unit};
 use crate::shares::{round_step, share};
+use crate::time::{Span, TickLength};
 use dc_bound::{ArrivalBound, ServiceBound};
 use dc_margin::{Decider, Margin};
 use std::alloc::AllocError;
@@ -40,6 +41,7 @@ pub struct Marks {
     pub wait: Option<Measure>,
     pub late: Option<Measure>,
     pub unit: Unit,
+    pub tick: TickLength,
 }
 
 /// The number that is needed, where so much is claimed and the margin is told.
@@ -156,13 +158,14 @@ fn push_axes(text: &mut String, plane: Plane, marks: &Marks) -> Result<(), Alloc
     push_counts(text, plane)?;
     push_ticks(text, plane)?;
     let (what, since) = match marks.unit {
-        Unit::Entries => ("entries", "ticks since nothing was due"),
-        _ => ("words", "ticks since the queue was empty"),
+        Unit::Entries => ("entries", "nothing was due"),
+        _ => ("words", "the queue was empty"),
     };
+    let length = marks.tick.millis(1);
     let x = plane.x(u64::from(marks.window));
     write!(
         text,
-        "<path class='x' d='M40 26V188H388'/><text x='0' y='10'>{what}</text><text x='388' y='217' text-anchor='end'>{since}</text>\n<path class='z' d='M{x} 26V188'/><text x='{x}' y='20' text-anchor='middle'>window</text>\n"
+        "<path class='x' d='M40 26V188H388'/><text x='0' y='10'>{what}</text><text x='388' y='217' text-anchor='end'>ticks of {length} ms since {since}</text>\n<path class='z' d='M{x} 26V188'/><text x='{x}' y='20' text-anchor='middle'>window</text>\n"
     )
 }
 
@@ -292,13 +295,13 @@ fn push_legend(text: &mut String, plane: Plane, marks: &Marks) -> Result<(), All
         )?;
     }
     if let Some(late) = marks.late {
-        let amount = Amount {
-            count: late.size,
-            unit: Unit::Ticks,
+        let span = Span {
+            ticks: late.size,
+            tick: marks.tick,
         };
         write!(
             text,
-            "<br/><span class='k t'></span>the greatest width between, how long one waits: {amount}"
+            "<br/><span class='k t'></span>the greatest width between, how long one waits: {span}"
         )?;
     }
     push_stride(text, plane)?;

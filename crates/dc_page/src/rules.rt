@@ -1,6 +1,8 @@
 //! The conditions of a certificate with their margins, as the page shows them.
 
 use crate::amount::{Amount, Unit};
+use crate::time::TickLength;
+use dc_busy::LONGEST_WINDOW;
 use dc_check::{CertificateList, Condition};
 use dc_margin::{Decider, Margin, MarginLine, Measure};
 use std::alloc::AllocError;
@@ -55,28 +57,32 @@ fn unit_of(line: MarginLine) -> Unit {
     }
 }
 
-/// The margin of a line, in words.
+/// The margin of a line, in words; of ticks with their milliseconds.
 #[derive(Clone, Copy)]
-pub struct MarginText(pub MarginLine);
+pub struct MarginText {
+    pub line: MarginLine,
+    pub tick: TickLength,
+}
 
 impl fmt::Display for MarginText {
     fn fmt<W: fmt::Write>(&self, f: &mut fmt::Formatter<W>) -> fmt::Result {
-        let line = self.0;
+        let line = self.line;
         let Some(margin) = line.margin else {
             return write!(f, "not told");
         };
         let Some(slack) = margin.slack else {
-            return write!(f, "no delay up to 100,000 is enough");
+            let most = self.tick.span(LONGEST_WINDOW);
+            return write!(f, "no delay up to {most} is enough");
         };
-        let amount = Amount {
-            count: slack.unsigned_abs(),
-            unit: unit_of(line),
-        };
-        if line.is_negative() {
-            write!(f, "{amount} short")
-        } else {
-            write!(f, "{amount} to spare")
+        let count = slack.unsigned_abs();
+        let unit = unit_of(line);
+        let amount = Amount { count, unit };
+        let what = if slack < 0 { "short" } else { "to spare" };
+        if !matches!(unit, Unit::Ticks) {
+            return write!(f, "{amount} {what}");
         }
+        let millis = self.tick.millis(count);
+        write!(f, "{amount} {what} <small>({millis} ms)</small>")
     }
 }
 
@@ -90,27 +96,37 @@ pub fn marks(is_negative: bool) -> (&'static str, &'static str) {
 }
 
 /// Adds which number of ticks decides a margin, where one does.
-fn push_decider(text: &mut String, margin: Option<Margin>) -> Result<(), AllocError> {
+fn push_decider(
+    text: &mut String,
+    margin: Option<Margin>,
+    tick: TickLength,
+) -> Result<(), AllocError> {
     let Some(margin) = margin else {
         return Ok(());
     };
     match margin.decider {
-        Decider::Window(window) => write!(text, " <small>(nearest at w = {window})</small>"),
+        Decider::Window(window) => {
+            let millis = tick.millis(u64::from(window));
+            write!(
+                text,
+                " <small>(nearest at w = {window}, {millis} ms)</small>"
+            )
+        }
         _ => Ok(()),
     }
 }
 
 /// Adds a line to a table of margins, and what to do where it is negative.
-fn push_line(text: &mut String, line: MarginLine) -> Result<(), AllocError> {
+fn push_line(text: &mut String, line: MarginLine, tick: TickLength) -> Result<(), AllocError> {
     let (attribute, mark) = marks(line.is_negative());
     let code = line.condition.code();
     let question = asks(line.condition);
-    let margin = MarginText(line);
+    let margin = MarginText { line, tick };
     write!(
         text,
         "<tr{attribute}><td class='n'>{mark}{code}</td><td>{question}"
     )?;
-    push_decider(text, line.margin)?;
+    push_decider(text, line.margin, tick)?;
     write!(text, "</td><td class='n'>{margin}</td></tr>\n")?;
     if line.is_negative() {
         let remedy = remedy(line.condition);
@@ -123,10 +139,14 @@ fn push_line(text: &mut String, line: MarginLine) -> Result<(), AllocError> {
 }
 
 /// Adds a table of margins.
-pub fn push_lines(text: &mut String, lines: &[MarginLine]) -> Result<(), AllocError> {
+pub fn push_lines(
+    text: &mut String,
+    lines: &[MarginLine],
+    tick: TickLength,
+) -> Result<(), AllocError> {
     text.push_str("<table><tr><th>Rule</th><th>What it asks</th><th>Margin</th></tr>\n")?;
     for line in lines {
-        push_line(text, *line)?;
+        push_line(text, *line, tick)?;
     }
     text.push_str("</table>\n")
 }

@@ -8,7 +8,7 @@ pub const HEAD: &str = "<!DOCTYPE html>
 *{box-sizing:border-box}
 body{margin:0 auto;padding:16px;max-width:1100px;background:var(--back);color:var(--ink);font:16px/1.5 system-ui,sans-serif;overflow-wrap:break-word}
 h1{font-size:1.6em;margin:.2em 0}h2{margin:1.6em 0 .4em;border-bottom:1px solid var(--line)}h3{margin:0 0 .2em}h4{margin:.9em 0 .2em}
-p{margin:.3em 0}small,.s{color:var(--soft);font-size:.875em}
+p{margin:.3em 0}small,.s{color:var(--soft);font-size:.875em}.s small,.g small{font-size:1em}.n small{white-space:nowrap}
 .verdict{padding:8px 16px;border-left:8px solid var(--good);background:var(--card)}.verdict.no{border-color:var(--bad)}
 .card{margin:12px 0;padding:12px 16px;background:var(--card);border:1px solid var(--line);border-radius:6px}
 .two{display:flex;flex-wrap:wrap;gap:8px 24px}.two>*{flex:1 1 320px;min-width:0}

@@ -4,6 +4,7 @@ ghost use Rattle.std.specs.Prelude.{◌≡◌, ◌<◌, length};
 
 use crate::escape::Escaped;
 use crate::rules::{MarginText, asks, marks};
+use crate::time::TickLength;
 use dc_check::{CertificateList, Condition, Fitted};
 use dc_document::Name;
 use dc_margin::{
@@ -105,12 +106,12 @@ pub fn member(list: CertificateList) -> &'static str {
 }
 
 /// Adds a line of the summary.
-fn push_least(text: &mut String, least: &Least) -> Result<(), AllocError> {
+fn push_least(text: &mut String, least: &Least, tick: TickLength) -> Result<(), AllocError> {
     let line = least.line;
     let (attribute, mark) = marks(line.is_negative());
     let code = line.condition.code();
     let question = asks(line.condition);
-    let margin = MarginText(line);
+    let margin = MarginText { line, tick };
     let member = member(line.list);
     let name = Escaped(least.name.text());
     write!(
@@ -129,15 +130,16 @@ pub fn push_summary(
     requires inputs { length inputs.now ≡ length fitted.now.tables.now.buses }
     requires outputs { length outputs.now ≡ length fitted.now.tables.now.outputs }
 {
-    let tick = fitted.tables.tick_us();
+    let tick = TickLength::of(fitted.tables);
+    let length = tick.millis(1);
     write!(
         text,
-        "<h2>How near it came</h2>\n<p class='s'>Of each rule the least margin: how far it is from failing, all else left as it is. At 0 it is kept, and nothing is left. One tick is {tick} microseconds.</p>\n<table><tr><th>Rule</th><th>What it asks</th><th>Margin</th><th>Where</th></tr>\n"
+        "<h2>How near it came</h2>\n<p class='s'>Of each rule the least margin: how far it is from failing, all else left as it is. At 0 it is kept, and nothing is left. One tick is {length} ms.</p>\n<table><tr><th>Rule</th><th>What it asks</th><th>Margin</th><th>Where</th></tr>\n"
     )?;
     let leasts = leasts_of(fitted, inputs, outputs);
     for least in &leasts.lines {
         if let Some(least) = least {
-            push_least(text, least)?;
+            push_least(text, least, tick)?;
         }
     }
     text.push_str("</table>\n")

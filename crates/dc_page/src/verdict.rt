@@ -7,6 +7,7 @@ use crate::amount::{Amount, Unit};
 use crate::escape::Escaped;
 use crate::rules::{asks, remedy};
 use crate::summary::member;
+use crate::time::TickLength;
 use dc_check::{CertificateList, CheckFault, Condition};
 use dc_document::Name;
 use dc_tables::Tables;
@@ -58,7 +59,8 @@ fn push_place(text: &mut String, tables: &Tables, fault: CheckFault) -> Result<(
         return Ok(());
     }
     let window = fault.window;
-    write!(text, ", first at w = {window}")
+    let millis = TickLength::of(tables).millis(u64::from(window));
+    write!(text, ", first at w = {window} <small>({millis} ms)</small>")
 }
 
 /// Adds that the certificate is refused, by which rule, and what to do.
