@@ -41,7 +41,9 @@ pub fn push_strip(
 }
 
 /// How many ticks a drawing shows where the longest of its numbers is this one.
-pub fn roomy(longest: u64) -> u64 {
+pub fn roomy(longest: u64) -> u64
+    ensures { longest ≤ result }
+{
     longest.saturating_add(longest / 10).saturating_add(1)
 }
 

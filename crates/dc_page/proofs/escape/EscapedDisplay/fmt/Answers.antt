@@ -1,4 +1,4 @@
-use Rattle.std.proofs.Common.{refl, rules}
+use Rattle.std.proofs.Common.{rules}
 use Rattle.std.proofs.Output.{has_written_append, has_written_of_eq}
 use Rattle.dc_page.proofs.Names.{escaped-all, escaped-more, none-written}
 use Rattle.dc_page.proofs.escape.EscapedDisplay.fmt.Goals as goal
