@@ -1,0 +1,3 @@
+-- What clocks that drift ask of wires and streams, and keep of labels.
+pub mod Drift
+pub mod Laws
