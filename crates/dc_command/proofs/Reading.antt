@@ -5,7 +5,7 @@ use Rattle.clap.specs.declared.parser.matches.Found.{Found}
 use Rattle.clap.proofs.WalkLemmas.{first_value-rows, one_text-rows}
 use Rattle.dc_codes.specs.Codes.{asks_for, names}
 use Rattle.dc_codes.specs.declared.code.Code.{Code}
-use Rattle.dc_command.specs.Asked.{AreGiven, CodesAre, IsSet, TicksAre, WhenIs, when_name}
+use Rattle.dc_command.specs.Asked.{AreGiven, CodesAre, DriftIs, IsSet, TicksAre, WhenIs, when_name}
 use Rattle.dc_command.specs.declared.explained.When.{When}
 
 -- a text that is given
@@ -15,6 +15,10 @@ text_given f id text is = sym (is ∙ first_value-rows f id)
 -- the number of workers
 pub workers_given : (f : Found) (id : Text) (workers : Option ℕ) → AreGiven (first_value f id) workers → AreGiven (first_of id (rows_of f)) workers
 workers_given f id workers given = subst (λ o. AreGiven o workers) (first_value-rows f id) given
+
+-- the drift
+pub drift_given : (f : Found) (id : Text) (drift : Option ℕ) → DriftIs (first_value f id) drift → DriftIs (first_of id (rows_of f)) drift
+drift_given f id drift given = subst (λ o. DriftIs o drift) (first_value-rows f id) given
 
 -- the number of ticks
 pub ticks_given : (f : Found) (id : Text) (ticks : ℕ) → TicksAre (first_value f id) ticks → TicksAre (first_of id (rows_of f)) ticks

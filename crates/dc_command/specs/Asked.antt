@@ -13,7 +13,7 @@ use Rattle.dc_command.specs.declared.asked.Order.{Order}
 use Rattle.dc_command.specs.declared.asked.Order.TheVariants.{Decode, Check, Find, Report, Margins, Replay, Audit, Bench, Explain}
 use Rattle.dc_command.specs.declared.explained.When.{When}
 use Rattle.dc_command.specs.declared.explained.When.TheVariants.{Always, Never, Auto}
-use Rattle.dc_command.specs.declared.limits.TheConstants.{MOST_TICKS, MOST_WORKERS, USUAL_TICKS}
+use Rattle.dc_command.specs.declared.limits.TheConstants.{MOST_DRIFT, MOST_TICKS, MOST_WORKERS, USUAL_TICKS}
 
 -- the text is this number of workers, in decimal
 abbrev pub IsCount : List ℕ → ℕ → Type 0
@@ -41,6 +41,19 @@ abbrev pub TicksAre : Option (List ℕ) → ℕ → Type 0
 TicksAre None ticks = ticks ≡ USUAL_TICKS
 TicksAre (Some text) ticks = IsTickCount text ticks
 
+-- the text is this drift in millionths, in decimal
+abbrev pub IsDrift : List ℕ → ℕ → Type 0
+IsDrift text n = IsNumeral 10 (without_leading_plus text) × (digits_value 10 (without_leading_plus text) ≡ n) × (n ≤ MOST_DRIFT)
+
+-- it is none of these
+abbrev pub IsNoDrift : List ℕ → Type 0
+IsNoDrift text = (n : ℕ) → IsDrift text n → ⊥
+
+-- the drift that is said by a text, or none where there is no text
+abbrev pub DriftIs : Option (List ℕ) → Option ℕ → Type 0
+DriftIs None drift = drift ≡ None
+DriftIs (Some text) drift = (n : ℕ) × (drift ≡ Some n) × IsDrift text n
+
 -- a format, as it is written after `decode`
 abbrev pub format_name : Format → List ℕ
 format_name Bnr = codes "bnr"
@@ -65,10 +78,12 @@ AsksBy name rows (Check tables certificate workers) =
     (name ≡ codes "check") × (first_of (codes "TABLES") rows ≡ Some tables.now) × (first_of (codes "CERT") rows ≡ Some certificate.now)
     × AreGiven (first_of (codes "workers") rows) workers
 AsksBy name rows (Find tables) = (name ≡ codes "find") × (first_of (codes "TABLES") rows ≡ Some tables.now)
-AsksBy name rows (Report tables certificate) =
+AsksBy name rows (Report tables certificate drift) =
     (name ≡ codes "report") × (first_of (codes "TABLES") rows ≡ Some tables.now) × (option_map (λ s. s.now) certificate ≡ first_of (codes "CERT") rows)
-AsksBy name rows (Margins tables certificate) =
+    × DriftIs (first_of (codes "drift") rows) drift
+AsksBy name rows (Margins tables certificate microseconds drift) =
     (name ≡ codes "margins") × (first_of (codes "TABLES") rows ≡ Some tables.now) × (option_map (λ s. s.now) certificate ≡ first_of (codes "CERT") rows)
+    × IsSet (one_of (codes "us") rows) microseconds × DriftIs (first_of (codes "drift") rows) drift
 AsksBy name rows (Replay tables all) =
     (name ≡ codes "replay") × (first_of (codes "TABLES") rows ≡ Some tables.now) × IsSet (one_of (codes "all") rows) all
 AsksBy name rows (Audit tables certificate) =
@@ -111,4 +126,6 @@ ExplainsIn words when = (formats : ValueParser) × Explains (subcommand_of (prog
 abbrev pub IsInRange : Order → Type 0
 IsInRange (Check tables certificate workers) = IfSome workers (λ n. (1 ≤ n) × (n ≤ MOST_WORKERS))
 IsInRange (Bench tables certificate ticks marks) = (1 ≤ ticks) × (ticks ≤ MOST_TICKS)
+IsInRange (Report tables certificate drift) = IfSome drift (λ n. n ≤ MOST_DRIFT)
+IsInRange (Margins tables certificate microseconds drift) = IfSome drift (λ n. n ≤ MOST_DRIFT)
 IsInRange _ = Unit {0}

@@ -14,8 +14,8 @@ AreNotBothInput tables certificate = tables ≡ codes "-" → IsNotInput certifi
 -- The order names standard input at most once, and not where it reads its trace there.
 abbrev pub HasOneInput : Order → Type 0
 HasOneInput (Check tables certificate workers) = AreNotBothInput tables.now certificate.now
-HasOneInput (Report tables (Some certificate)) = AreNotBothInput tables.now certificate.now
-HasOneInput (Margins tables (Some certificate)) = AreNotBothInput tables.now certificate.now
+HasOneInput (Report tables (Some certificate) drift) = AreNotBothInput tables.now certificate.now
+HasOneInput (Margins tables (Some certificate) microseconds drift) = AreNotBothInput tables.now certificate.now
 HasOneInput (Replay tables all) = IsNotInput tables.now
 HasOneInput (Audit tables certificate) = IsNotInput tables.now × IsNotInput certificate.now
 HasOneInput (Bench tables certificate ticks marks) = AreNotBothInput tables.now certificate.now

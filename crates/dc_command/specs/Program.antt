@@ -7,7 +7,7 @@ use Rattle.clap.specs.declared.builder.command.Command.TheViews.{out-Command}
 use Rattle.clap.specs.declared.builder.action.ArgAction.TheVariants.{SetTrue}
 use Rattle.clap.specs.declared.builder.value_parser.ValueParser.{ValueParser}
 use Rattle.clap.specs.declared.builder.value_parser.ValueParser.TheVariants as vp
-use Rattle.dc_command.specs.declared.limits.TheConstants.{MOST_TICKS, MOST_WORKERS}
+use Rattle.dc_command.specs.declared.limits.TheConstants.{MOST_DRIFT, MOST_TICKS, MOST_WORKERS}
 
 -- a file that is wanted
 abbrev pub file_rule : Text → Rule
@@ -33,6 +33,14 @@ ticks_rule = record (new_rule (codes "ticks")) {
   parser = Some (vp.Signed (pos 1) (pos MOST_TICKS));
 }
 
+-- `--drift`
+abbrev pub drift_rule : Rule
+drift_rule = record (new_rule (codes "drift")) {
+  long = Some (codes "drift");
+  value_names = 1;
+  parser = Some (vp.Signed (pos 0) (pos MOST_DRIFT));
+}
+
 -- a flag
 abbrev pub flag_rule : Text → Rule
 flag_rule id = record (new_rule id) { long = Some id; action = Some SetTrue }
@@ -44,6 +52,10 @@ all_rule = flag_rule (codes "all")
 -- `--marks`
 abbrev pub marks_rule : Rule
 marks_rule = flag_rule (codes "marks")
+
+-- `--us`
+abbrev pub us_rule : Rule
+us_rule = flag_rule (codes "us")
 
 -- `--explain`
 abbrev pub explain_rule : Rule
@@ -77,6 +89,14 @@ bench_app = with_rule (with_rule (certificate_app (codes "bench")) ticks_rule) m
 abbrev pub optional_app : Text → App
 optional_app name = with_rule (tables_app name) (new_rule (codes "CERT"))
 
+-- `report`, which may be told a drift
+abbrev pub report_app : App
+report_app = with_rule (optional_app (codes "report")) drift_rule
+
+-- `margins`, which may be told to tell microseconds, and a drift
+abbrev pub margins_app : App
+margins_app = with_rule (with_rule (optional_app (codes "margins")) us_rule) drift_rule
+
 -- `replay`, which reads tables and may print all replies
 abbrev pub replay_app : App
 replay_app = with_rule (tables_app (codes "replay")) all_rule
@@ -94,7 +114,7 @@ abbrev pub program_app : ValueParser → App
 program_app formats =
     with_subcommand (with_subcommand (with_subcommand (with_subcommand (with_subcommand (with_subcommand (with_subcommand (with_subcommand (with_subcommand
     bare_app (decode_app formats).top) check_app.top) (tables_app (codes "find")).top) replay_app.top) (certificate_app (codes "audit")).top) bench_app.top)
-    (optional_app (codes "report")).top) (optional_app (codes "margins")).top) explain_app.top
+    report_app.top) margins_app.top) explain_app.top
 
 -- clap reads this of a command, none of whose arguments is global
 abbrev pub IsRead : App → Command → Type 0

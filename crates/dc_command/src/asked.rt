@@ -2,13 +2,13 @@
 ghost use Rattle.std.specs.Prelude.{codes, map, IfOk, IfSome, MatchResult};
 ghost use Rattle.std.specs.String.{string_bytes};
 ghost use Rattle.clap.specs.Words.{first_value, found_of, rows_of, subcommand_rows_of};
-ghost use Rattle.dc_command.specs.Asked.{AreGiven, Asks, AsksBy, AsksIn, Explains, ExplainsIn, IsCount, IsInRange, IsNoCount, IsNoTickCount, IsTickCount, TicksAre};
+ghost use Rattle.dc_command.specs.Asked.{AreGiven, Asks, AsksBy, AsksIn, Explains, ExplainsIn, DriftIs, IsCount, IsDrift, IsInRange, IsNoCount, IsNoDrift, IsNoTickCount, IsTickCount, TicksAre};
 ghost use Rattle.dc_command.specs.Inputs.{HasOneInput};
 
 use crate::explained::{When, when_in};
 use crate::inputs::refuse_second_input;
 use crate::known::program;
-use crate::limits::{MOST_TICKS, MOST_WORKERS, USUAL_TICKS};
+use crate::limits::{MOST_DRIFT, MOST_TICKS, MOST_WORKERS, USUAL_TICKS};
 use clap::error::ErrorKind;
 use clap::{ArgMatches, Error};
 use dc_codes::Code;
@@ -40,6 +40,8 @@ pub enum Order<'a> {
         tables: &'a str,
         /// The path of the certificate, where there is one.
         certificate: Option<&'a str>,
+        /// The drift of clocks, in millionths, 0 to [`MOST_DRIFT`](crate::MOST_DRIFT), where one is said.
+        drift: Option<u16>,
     },
     /// Tell the margins of the certificate in a file, or of the least one, for the tables in another.
     Margins {
@@ -47,6 +49,10 @@ pub enum Order<'a> {
         tables: &'a str,
         /// The path of the certificate, where there is one.
         certificate: Option<&'a str>,
+        /// Whether they are told in microseconds too.
+        microseconds: bool,
+        /// The drift of clocks, in millionths, 0 to [`MOST_DRIFT`](crate::MOST_DRIFT), where one is said.
+        drift: Option<u16>,
     },
     /// Replay the trace on standard input through the concentrator of the tables in a file.
     Replay {
@@ -113,6 +119,16 @@ fn tick_count_of(text: &str) -> Result<u16, OutOfRange>
     }
 }
 
+/// The drift of clocks that a text says, in millionths.
+fn drift_of(text: &str) -> Result<u16, OutOfRange>
+    ensures { MatchResult result (λ n. IsDrift text.now n) (λ _. IsNoDrift text.now) }
+{
+    match text.parse::<u16>() {
+        Ok(drift) if drift <= MOST_DRIFT => Ok(drift),
+        _ => Err(OutOfRange),
+    }
+}
+
 /// The number of ticks that the matches of `bench` say, `USUAL_TICKS` where they say none.
 fn ticks_in(matches: &ArgMatches<'_>) -> Result<u16, OutOfRange>
     ensures { MatchResult result (TicksAre (first_value (found_of matches.now) (codes "ticks")))
@@ -132,6 +148,20 @@ fn workers_in(matches: &ArgMatches<'_>) -> Result<Option<u8>, OutOfRange>
     match matches.get_str("workers") {
         Some(text) => match count_of(text) {
             Ok(count) => Ok(Some(count)),
+            Err(out) => Err(out),
+        },
+        None => Ok(None),
+    }
+}
+
+/// The drift of clocks that the matches of `report` or `margins` say.
+fn drift_in(matches: &ArgMatches<'_>) -> Result<Option<u16>, OutOfRange>
+    ensures { MatchResult result (DriftIs (first_value (found_of matches.now) (codes "drift")))
+        (λ _. IfSome (first_value (found_of matches.now) (codes "drift")) IsNoDrift) }
+{
+    match matches.get_str("drift") {
+        Some(text) => match drift_of(text) {
+            Ok(drift) => Ok(Some(drift)),
             Err(out) => Err(out),
         },
         None => Ok(None),
@@ -180,10 +210,14 @@ fn report_in<'a>(matches: &ArgMatches<'a>) -> Option<Order<'a>>
 {
     let tables = matches.get_str("TABLES")?;
     let certificate = matches.get_str("CERT");
-    Some(Order::Report {
-        tables,
-        certificate,
-    })
+    match drift_in(matches) {
+        Ok(drift) => Some(Order::Report {
+            tables,
+            certificate,
+            drift,
+        }),
+        Err(_) => None,
+    }
 }
 
 /// What the matches of `margins` ask.
@@ -192,10 +226,16 @@ fn margins_in<'a>(matches: &ArgMatches<'a>) -> Option<Order<'a>>
 {
     let tables = matches.get_str("TABLES")?;
     let certificate = matches.get_str("CERT");
-    Some(Order::Margins {
-        tables,
-        certificate,
-    })
+    let microseconds = matches.get_flag("us");
+    match drift_in(matches) {
+        Ok(drift) => Some(Order::Margins {
+            tables,
+            certificate,
+            microseconds,
+            drift,
+        }),
+        Err(_) => None,
+    }
 }
 
 /// What the matches of `replay` ask.

@@ -50,6 +50,7 @@ pub(crate) fn refuse_second_input(order: &Order<'_>) -> Result<(), &'static str>
         Order::Report {
             tables,
             certificate,
+            ..
         } => match certificate {
             Some(certificate) => refuse_both(tables, certificate),
             None => Ok(()),
@@ -57,6 +58,7 @@ pub(crate) fn refuse_second_input(order: &Order<'_>) -> Result<(), &'static str>
         Order::Margins {
             tables,
             certificate,
+            ..
         } => match certificate {
             Some(certificate) => refuse_both(tables, certificate),
             None => Ok(()),

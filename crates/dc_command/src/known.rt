@@ -1,13 +1,13 @@
 //! The commands that there are, with their arguments and what is said of them.
 ghost use Rattle.std.specs.Prelude.{◌≡◌, false, codes, IfOk};
 ghost use Rattle.clap.specs.Words.{new_app, rule_of};
-ghost use Rattle.dc_command.specs.Program.{IsDecode, IsProgram, IsRead, bare_app, bench_app, certificate_app, check_app, explain_app, explain_rule, file_rule, flag_rule, optional_app, replay_app, tables_app, ticks_rule};
+ghost use Rattle.dc_command.specs.Program.{IsDecode, IsProgram, IsRead, bare_app, bench_app, certificate_app, check_app, drift_rule, explain_app, explain_rule, file_rule, flag_rule, margins_app, optional_app, replay_app, report_app, tables_app, ticks_rule};
 
 use crate::after::{
     AFTER_AUDIT, AFTER_BENCH, AFTER_CHECK, AFTER_DECODE, AFTER_EXPLAIN, AFTER_FIND, AFTER_MARGINS,
     AFTER_REPLAY, AFTER_REPORT,
 };
-use crate::limits::{MOST_TICKS, MOST_WORKERS};
+use crate::limits::{MOST_DRIFT, MOST_TICKS, MOST_WORKERS};
 use clap::{Arg, ArgAction, Command, Error, value_parser};
 use std::alloc::Global;
 
@@ -144,28 +144,47 @@ fn find<'a>(alloc: Global) -> Result<Command<'a>, Error>
     )
 }
 
+/// The option `--drift`.
+fn drift<'a>(alloc: Global) -> Arg<'a>
+    ensures rule { rule_of result ≡ drift_rule }
+    ensures local { result.global ≡ false }
+{
+    Arg::new(alloc, "drift")
+        .long("drift")
+        .value_name("PPM")
+        .help("Tells what clocks ask and keep that drift by up to so many millionths, 0 to 1000")
+        .value_parser(value_parser!(u16).range(0..=i64::from(MOST_DRIFT)))
+}
+
 /// The command `report`.
 fn report<'a>(alloc: Global) -> Result<Command<'a>, Error>
-    ensures { IfOk result (IsRead (optional_app (codes "report"))) }
+    ensures { IfOk result (IsRead report_app) }
 {
-    on_some_certificate(
+    let report = on_some_certificate(
         alloc,
         "report",
         "Writes a page of HTML: why a certificate is accepted or refused, and how near it came",
         AFTER_REPORT,
-    )
+    )?;
+    Ok(report.arg(drift(alloc))?)
 }
 
 /// The command `margins`.
 fn margins<'a>(alloc: Global) -> Result<Command<'a>, Error>
-    ensures { IfOk result (IsRead (optional_app (codes "margins"))) }
+    ensures { IfOk result (IsRead margins_app) }
 {
-    on_some_certificate(
+    let us = flag(
+        alloc,
+        "us",
+        "Tells each margin in microseconds too, where it counts ticks",
+    );
+    let margins = on_some_certificate(
         alloc,
         "margins",
         "Judges a certificate for tables, and prints how far each of its conditions is from failing",
         AFTER_MARGINS,
-    )
+    )?;
+    Ok(margins.arg(us)?.arg(drift(alloc))?)
 }
 
 /// The command `replay`.

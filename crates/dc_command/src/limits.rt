@@ -7,5 +7,8 @@ pub const MOST_WORKERS: u8 = 64;
 /// The most ticks of a bench.
 pub const MOST_TICKS: u16 = 1000;
 
+/// The greatest drift of clocks, in millionths.
+pub const MOST_DRIFT: u16 = 1000;
+
 /// The ticks of a bench where none are said.
 pub const USUAL_TICKS: u16 = 200;

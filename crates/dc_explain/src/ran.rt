@@ -50,10 +50,12 @@ impl<'a> Ran<'a> {
             Order::Report {
                 tables,
                 certificate,
+                ..
             }
             | Order::Margins {
                 tables,
                 certificate,
+                ..
             } => (told(tables), told(certificate.unwrap_or(""))),
             Order::Check {
                 tables,

@@ -85,8 +85,8 @@ carried_decides (Check tables certificate workers) w w' input input' sink sink' 
     λ rows claims e f. failed_decides rows claims sink sink' exit stops.tells.failed
 carried_decides (Decode format) w w' input input' sink sink' exit h = tt
 carried_decides (Find tables) w w' input input' sink sink' exit h = tt
-carried_decides (Report tables certificate) w w' input input' sink sink' exit h = tt
-carried_decides (Margins tables certificate) w w' input input' sink sink' exit h = tt
+carried_decides (Report tables certificate drift) w w' input input' sink sink' exit h = tt
+carried_decides (Margins tables certificate microseconds drift) w w' input input' sink sink' exit h = tt
 carried_decides (Replay tables all) w w' input input' sink sink' exit h = tt
 carried_decides (Audit tables certificate) w w' input input' sink sink' exit h = tt
 carried_decides (Bench tables certificate ticks marks) w w' input input' sink sink' exit h = tt

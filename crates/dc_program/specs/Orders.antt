@@ -28,10 +28,10 @@ abbrev pub files_of : Order → List (List ℕ)
 files_of (Decode format) = []
 files_of (Check tables certificate workers) = tables.now ∷ certificate.now ∷ []
 files_of (Find tables) = tables.now ∷ []
-files_of (Report tables None) = tables.now ∷ []
-files_of (Report tables (Some certificate)) = tables.now ∷ certificate.now ∷ []
-files_of (Margins tables None) = tables.now ∷ []
-files_of (Margins tables (Some certificate)) = tables.now ∷ certificate.now ∷ []
+files_of (Report tables None drift) = tables.now ∷ []
+files_of (Report tables (Some certificate) drift) = tables.now ∷ certificate.now ∷ []
+files_of (Margins tables None microseconds drift) = tables.now ∷ []
+files_of (Margins tables (Some certificate) microseconds drift) = tables.now ∷ certificate.now ∷ []
 files_of (Replay tables all) = tables.now ∷ []
 files_of (Audit tables certificate) = tables.now ∷ certificate.now ∷ []
 files_of (Bench tables certificate ticks marks) = tables.now ∷ certificate.now ∷ []
@@ -82,16 +82,16 @@ ReportsOrder (Check tables certificate (Some count)) holds failed input input' s
     ⊎ ReportsThreads sink.contents sink'.contents 0 failed sink.failed sink'.failed exit
 ReportsOrder (Find tables) holds failed input input' sink sink' exit =
     (rows : List ℕ) → holds tables.now ≡ Some rows → ReportsFind rows sink.contents sink'.contents 0 failed sink.failed sink'.failed exit
-ReportsOrder (Report tables None) holds failed input input' sink sink' exit =
+ReportsOrder (Report tables None drift) holds failed input input' sink sink' exit =
     (rows : List ℕ) → holds tables.now ≡ Some rows → ReportsPageLeast rows sink.contents sink'.contents 0 failed sink.failed sink'.failed exit
-ReportsOrder (Report tables (Some certificate)) holds failed input input' sink sink' exit =
+ReportsOrder (Report tables (Some certificate) drift) holds failed input input' sink sink' exit =
     (rows claims : List ℕ) → holds tables.now ≡ Some rows → holds certificate.now ≡ Some claims
     → ReportsPage rows claims sink.contents sink'.contents 0 failed sink.failed sink'.failed exit
-ReportsOrder (Margins tables None) holds failed input input' sink sink' exit =
-    (rows : List ℕ) → holds tables.now ≡ Some rows → ReportsMarginsLeast rows sink.contents sink'.contents 0 failed sink.failed sink'.failed exit
-ReportsOrder (Margins tables (Some certificate)) holds failed input input' sink sink' exit =
+ReportsOrder (Margins tables None microseconds drift) holds failed input input' sink sink' exit =
+    (rows : List ℕ) → holds tables.now ≡ Some rows → ReportsMarginsLeast (record { microseconds = microseconds; drift = drift }) rows sink.contents sink'.contents 0 failed sink.failed sink'.failed exit
+ReportsOrder (Margins tables (Some certificate) microseconds drift) holds failed input input' sink sink' exit =
     (rows claims : List ℕ) → holds tables.now ≡ Some rows → holds certificate.now ≡ Some claims
-    → ReportsMargins rows claims sink.contents sink'.contents 0 failed sink.failed sink'.failed exit
+    → ReportsMargins (record { microseconds = microseconds; drift = drift }) rows claims sink.contents sink'.contents 0 failed sink.failed sink'.failed exit
 ReportsOrder (Replay tables all) holds failed input input' sink sink' exit =
     (rows trace : List ℕ) → holds tables.now ≡ Some rows → input.remaining ≡ Some trace
     → ReportsReplay all rows trace sink.contents sink'.contents (0 + input.failed) (failed + input'.failed) sink.failed sink'.failed exit

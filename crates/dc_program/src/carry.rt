@@ -15,6 +15,7 @@ use crate::world::World;
 use dc_answer::Exit;
 use dc_command::Order;
 use dc_device::{Sink, Source};
+use dc_run_margins::InTime;
 use std::alloc::Global;
 
 /// Opens the files that an order names, and runs its engine over them.
@@ -53,11 +54,20 @@ fn obey<'a, W: World<'a>, S: Source, K: Sink, H: ByThreads>(
         Order::Report {
             tables,
             certificate,
-        } => page(alloc, world, sink, tables, certificate),
+            drift,
+        } => page(alloc, world, sink, tables, certificate, drift),
         Order::Margins {
             tables,
             certificate,
-        } => margins(alloc, world, sink, tables, certificate),
+            microseconds,
+            drift,
+        } => {
+            let told = InTime {
+                microseconds,
+                drift,
+            };
+            margins(alloc, world, sink, tables, certificate, told)
+        }
         Order::Replay { tables, all } => replay(alloc, world, input, sink, tables, all),
         Order::Audit {
             tables,

@@ -10,7 +10,7 @@ use crate::opening::{end_unopened, open_both, open_one};
 use crate::world::World;
 use dc_answer::Exit;
 use dc_device::Sink;
-use dc_run_margins::{run_margins, run_margins_least};
+use dc_run_margins::{InTime, run_margins, run_margins_least};
 use dc_run_report::{run_report, run_report_least};
 use std::alloc::Global;
 
@@ -20,15 +20,16 @@ fn page_least<'a, W: World<'a>, K: Sink>(
     world: &mut W,
     sink: &mut K,
     tables: &'a str,
+    drift: Option<u16>,
 ) -> Exit
     requires new { IsNew (W.state world.old) }
     requires sink { CanFail (K.state sink.old) }
-    ensures carries { (input : SourceState) → Carries (Report tables.entry None) (W.state world.old) (W.state world.new) input input (K.state sink.old)
+    ensures carries { (input : SourceState) → Carries (Report tables.entry None drift) (W.state world.old) (W.state world.new) input input (K.state sink.old)
         (K.state sink.new) result }
     ensures left { Leaves (K.state sink.old) (K.state sink.new) }
 {
     match open_one(world, tables) {
-        Ok(mut tables) => run_report_least(alloc, &mut tables, sink),
+        Ok(mut tables) => run_report_least(alloc, drift, &mut tables, sink),
         Err(why) => end_unopened(why, sink),
     }
 }
@@ -40,16 +41,17 @@ fn page_given<'a, W: World<'a>, K: Sink>(
     sink: &mut K,
     tables: &'a str,
     certificate: &'a str,
+    drift: Option<u16>,
 ) -> Exit
     requires new { IsNew (W.state world.old) }
     requires sink { CanFail (K.state sink.old) }
-    ensures carries { (input : SourceState) → Carries (Report tables.entry (Some certificate.entry)) (W.state world.old) (W.state world.new) input input
+    ensures carries { (input : SourceState) → Carries (Report tables.entry (Some certificate.entry) drift) (W.state world.old) (W.state world.new) input input
         (K.state sink.old) (K.state sink.new) result }
     ensures left { Leaves (K.state sink.old) (K.state sink.new) }
 {
     match open_both(world, tables, certificate) {
         Ok((mut tables, mut certificate)) => {
-            run_report(alloc, &mut tables, &mut certificate, sink)
+            run_report(alloc, drift, &mut tables, &mut certificate, sink)
         }
         Err(why) => end_unopened(why, sink),
     }
@@ -62,16 +64,17 @@ pub fn page<'a, W: World<'a>, K: Sink>(
     sink: &mut K,
     tables: &'a str,
     certificate: Option<&'a str>,
+    drift: Option<u16>,
 ) -> Exit
     requires new { IsNew (W.state world.old) }
     requires sink { CanFail (K.state sink.old) }
-    ensures carries { (input : SourceState) → Carries (Report tables.entry certificate.entry) (W.state world.old) (W.state world.new) input input
+    ensures carries { (input : SourceState) → Carries (Report tables.entry certificate.entry drift) (W.state world.old) (W.state world.new) input input
         (K.state sink.old) (K.state sink.new) result }
     ensures left { Leaves (K.state sink.old) (K.state sink.new) }
 {
     match certificate {
-        None => page_least(alloc, world, sink, tables),
-        Some(certificate) => page_given(alloc, world, sink, tables, certificate),
+        None => page_least(alloc, world, sink, tables, drift),
+        Some(certificate) => page_given(alloc, world, sink, tables, certificate, drift),
     }
 }
 
@@ -81,15 +84,16 @@ fn margins_least<'a, W: World<'a>, K: Sink>(
     world: &mut W,
     sink: &mut K,
     tables: &'a str,
+    told: InTime,
 ) -> Exit
     requires new { IsNew (W.state world.old) }
     requires sink { CanFail (K.state sink.old) }
-    ensures carries { (input : SourceState) → Carries (Margins tables.entry None) (W.state world.old) (W.state world.new) input input (K.state sink.old)
+    ensures carries { (input : SourceState) → Carries (Margins tables.entry None told.microseconds told.drift) (W.state world.old) (W.state world.new) input input (K.state sink.old)
         (K.state sink.new) result }
     ensures left { Leaves (K.state sink.old) (K.state sink.new) }
 {
     match open_one(world, tables) {
-        Ok(mut tables) => run_margins_least(alloc, &mut tables, sink),
+        Ok(mut tables) => run_margins_least(alloc, told, &mut tables, sink),
         Err(why) => end_unopened(why, sink),
     }
 }
@@ -101,16 +105,17 @@ fn margins_given<'a, W: World<'a>, K: Sink>(
     sink: &mut K,
     tables: &'a str,
     certificate: &'a str,
+    told: InTime,
 ) -> Exit
     requires new { IsNew (W.state world.old) }
     requires sink { CanFail (K.state sink.old) }
-    ensures carries { (input : SourceState) → Carries (Margins tables.entry (Some certificate.entry)) (W.state world.old) (W.state world.new) input input
+    ensures carries { (input : SourceState) → Carries (Margins tables.entry (Some certificate.entry) told.microseconds told.drift) (W.state world.old) (W.state world.new) input input
         (K.state sink.old) (K.state sink.new) result }
     ensures left { Leaves (K.state sink.old) (K.state sink.new) }
 {
     match open_both(world, tables, certificate) {
         Ok((mut tables, mut certificate)) => {
-            run_margins(alloc, &mut tables, &mut certificate, sink)
+            run_margins(alloc, told, &mut tables, &mut certificate, sink)
         }
         Err(why) => end_unopened(why, sink),
     }
@@ -123,15 +128,16 @@ pub fn margins<'a, W: World<'a>, K: Sink>(
     sink: &mut K,
     tables: &'a str,
     certificate: Option<&'a str>,
+    told: InTime,
 ) -> Exit
     requires new { IsNew (W.state world.old) }
     requires sink { CanFail (K.state sink.old) }
-    ensures carries { (input : SourceState) → Carries (Margins tables.entry certificate.entry) (W.state world.old) (W.state world.new) input input
+    ensures carries { (input : SourceState) → Carries (Margins tables.entry certificate.entry told.microseconds told.drift) (W.state world.old) (W.state world.new) input input
         (K.state sink.old) (K.state sink.new) result }
     ensures left { Leaves (K.state sink.old) (K.state sink.new) }
 {
     match certificate {
-        None => margins_least(alloc, world, sink, tables),
-        Some(certificate) => margins_given(alloc, world, sink, tables, certificate),
+        None => margins_least(alloc, world, sink, tables, told),
+        Some(certificate) => margins_given(alloc, world, sink, tables, certificate, told),
     }
 }

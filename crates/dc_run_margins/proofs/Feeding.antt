@@ -4,6 +4,7 @@ use Rattle.std.proofs.lemmas.List.{take_all, take_more, map-append}
 use Rattle.dc_device.specs.Lines.{spelled}
 use Rattle.dc_margin.specs.Lines.{lines_below}
 use Rattle.dc_margin.specs.declared.lines.MarginLine.{MarginLine}
+use Rattle.dc_run_margins.specs.Drift.{texts_below}
 use Rattle.dc_run_margins.specs.Margins.{fed}
 
 fed-append : (xs ys : List (List ℕ)) → fed (xs ++ ys) ≡ fed xs ++ fed ys
@@ -47,3 +48,13 @@ module _ (f : MarginLine → List ℕ) where
 
   pub line-all : (old text : List ℕ) (xs own : List MarginLine) (k : ℕ) → length xs ≤ k → xs ≡ own → text ≡ old ++ fed (map f (take k xs)) → text ≡ old ++ fed (map f own)
   line-all old text xs own k l same is = is ∙ ap (λ z. old ++ fed (map f z)) (take_all k xs l ∙ same)
+
+module _ (lines : ℕ → List (List ℕ)) where
+  texts-suc : (n : ℕ) → texts_below lines (suc n) ≡ texts_below lines n ++ lines n
+  unfolding texts_below
+  texts-suc n = refl
+
+  -- the lines of one place more
+  pub texts-more : (n : ℕ) (old text next : List ℕ) → text ≡ old ++ fed (texts_below lines n) → next ≡ text ++ fed (lines n) → next ≡ old ++ fed (texts_below lines (n + 1))
+  texts-more n old text next is step =
+      fed-both old text next (texts_below lines n) (lines n) is step ∙ ap (λ l. old ++ fed l) (sym (texts-suc n) ∙ ap (texts_below lines) (sym (add-one n)))

@@ -1,5 +1,5 @@
--- The printed line of a margin: six fields parted by spaces, which stand in columns where the names and numbers are not too long.
-use Rattle.std.specs.Prelude.{ℕ, ℤ, Option, Some, None, List, ◌++◌, drop, length, codes, decimal}
+-- The printed line of a margin: six fields parted by spaces, which stand in columns where the names and numbers are not too long; a seventh in microseconds.
+use Rattle.std.specs.Prelude.{ℕ, ℤ, pos, ◌*ℤ◌, Bool, if◌then◌else◌, Option, Some, None, List, [], ◌++◌, drop, length, codes, decimal}
 use Rattle.std.specs.Fmt.{signed_decimal}
 use Rattle.dc_check.specs.FaultText.{condition_code}
 use Rattle.dc_check.specs.declared.fault.CertificateList.{CertificateList}
@@ -61,3 +61,21 @@ unfoldable pub margin_text : TableRows → MarginLine → List ℕ
 margin_text t line =
     member_field line.list ++ name_field (member_name t line.list line.index) ++ codes " " ++ condition_code line.condition ++ codes " " ++ number_field (slack_text line.margin)
     ++ codes " " ++ measure_text (measure_of line.condition) ++ codes " " ++ by_text t line.margin
+
+-- ---- the same in microseconds
+
+-- so many ticks in microseconds, as `-2000us`; `-` where no delay up to the longest passes
+abbrev pub room_microseconds : (tick : ℕ) → Option ℤ → List ℕ
+room_microseconds tick None = codes "-"
+room_microseconds tick (Some slack) = signed_decimal (slack *ℤ pos tick) ++ codes "us"
+
+-- the amount of a margin in microseconds; `-` where it counts words or is not told
+abbrev pub slack_microseconds : (tick : ℕ) → Measure → Option Margin → List ℕ
+slack_microseconds tick Words margin = codes "-"
+slack_microseconds tick Ticks None = codes "-"
+slack_microseconds tick Ticks (Some margin) = room_microseconds tick margin.slack
+
+-- the line of a margin, with that as one field more where microseconds are asked for
+unfoldable pub margin_line : (microseconds : Bool) → TableRows → MarginLine → List ℕ
+margin_line microseconds t line =
+    margin_text t line ++ (if microseconds then codes " " ++ slack_microseconds t.tick_us (measure_of line.condition) line.margin else [])

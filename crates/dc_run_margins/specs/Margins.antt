@@ -1,5 +1,5 @@
 -- What `margins` answers to the texts of tables and of a certificate.
-use Rattle.std.specs.Prelude.{◌≡◌, ◌⊎◌, ℕ, ◌+◌, ◌-◌, Option, Some, None, List, [], ◌∷◌, ◌++◌, map, Result, Ok, Err}
+use Rattle.std.specs.Prelude.{◌≡◌, ◌⊎◌, ℕ, ◌+◌, ◌-◌, Bool, Option, Some, None, List, [], ◌∷◌, ◌++◌, map, Result, Ok, Err}
 use Rattle.dc_answer.specs.Answer.{Answer, Reported, WholeOrNone, unreadable}
 use Rattle.dc_answer.specs.Exits.{is_answered}
 use Rattle.dc_answer.specs.Judging.{Keeps}
@@ -25,8 +25,11 @@ use Rattle.dc_document.specs.declared.fault.BuildError.TheVariants.{Refused, Mem
 use Rattle.dc_print.specs.Verdicts.{accepted_text, refused_text}
 use Rattle.dc_tables.specs.TableRows.{TableRows}
 use Rattle.dc_toml.specs.Reading.{tables_of}
-use Rattle.dc_build.specs.Reported.{TellsTables}
-use Rattle.dc_run_margins.specs.Lines.{margin_text}
+use Rattle.dc_build.specs.Reported.{TellsWritten}
+use Rattle.dc_build.specs.Written.{WrittenRows}
+use Rattle.dc_run_margins.specs.Drift.{lines_of_drift}
+use Rattle.dc_run_margins.specs.Lines.{margin_line}
+use Rattle.dc_run_margins.specs.declared.drift.InTime.{InTime}
 
 -- ---- lines
 
@@ -46,82 +49,95 @@ verdict_outcome None = Done
 verdict_outcome (Some fault) = WasRefused
 
 -- the line of each margin; none where this fault of the names is there
-abbrev pub lines_where : Option CheckFault → TableRows → CertificateRows → List (List ℕ)
-lines_where None t c = map (margin_text t) (margin_lines_of t c)
-lines_where (Some fault) t c = []
+abbrev pub lines_where : Option CheckFault → (microseconds : Bool) → TableRows → CertificateRows → List (List ℕ)
+lines_where None microseconds t c = map (margin_line microseconds t) (margin_lines_of t c)
+lines_where (Some fault) microseconds t c = []
+
+-- the ages of a certificate that is accepted
+abbrev pub ages_where : Option CheckFault → NamedRows → Option (List ℕ)
+ages_where None claims = Some (numbers_of claims).ages
+ages_where (Some fault) claims = None
 
 -- ---- the answer
 
--- to a certificate: the verdict, and then a line for each margin, where it has the tables' names
-abbrev pub answer_margins : TableRows → NamedRows → Answer
-answer_margins t claims = record {
-  lines = verdict_line t (verdict_of t claims) ∷ lines_where (misnaming t claims) t (numbers_of claims);
-  outcome = verdict_outcome (verdict_of t claims);
-}
+-- to a certificate: the verdict, then a line for each margin, where it has the tables' names, and what is told of a drift
+abbrev pub answer_margins : InTime → WrittenRows → NamedRows → Answer
+answer_margins told w claims =
+    let verdict = verdict_of w.tables claims in
+    record {
+      lines =
+          verdict_line w.tables verdict
+          ∷ (lines_where (misnaming w.tables claims) told.microseconds w.tables (numbers_of claims) ++ lines_of_drift w told.drift (ages_where verdict claims));
+      outcome = verdict_outcome verdict;
+    }
 
 -- to a certificate that reads so
-abbrev pub answer_claims : TableRows → Reading NamedRows → Answer
-answer_claims t (Ok claims) = answer_margins t claims
-answer_claims t (Err fault) = unreadable (fault_text fault)
+abbrev pub answer_claims : InTime → WrittenRows → Reading NamedRows → Answer
+answer_claims told w (Ok claims) = answer_margins told w claims
+answer_claims told w (Err fault) = unreadable (fault_text fault)
 
 -- to the text of a certificate, where the tables read so: they are judged first
-abbrev pub AnswersTables : List ℕ → Answer → Result TableRows BuildError → Type 0
-AnswersTables certificate answer (Ok t) = answer ≡ answer_claims t (certificate_of certificate)
-AnswersTables certificate answer (Err (Refused fault)) = answer ≡ unreadable (table_fault_text fault)
-AnswersTables certificate answer (Err (NoMemory e)) = ⊥
+abbrev pub AnswersTables : InTime → List ℕ → Answer → Result WrittenRows BuildError → Type 0
+AnswersTables told certificate answer (Ok w) = answer ≡ answer_claims told w (certificate_of certificate)
+AnswersTables told certificate answer (Err (Refused fault)) = answer ≡ unreadable (table_fault_text fault)
+AnswersTables told certificate answer (Err (NoMemory e)) = ⊥
 
 -- to both texts
-abbrev pub AnswersMargins : List ℕ → List ℕ → Answer → Type 0
-AnswersMargins tables certificate answer = (read : Result TableRows BuildError) × TellsTables (tables_of tables) read × AnswersTables certificate answer read
+abbrev pub AnswersMargins : InTime → List ℕ → List ℕ → Answer → Type 0
+AnswersMargins told tables certificate answer = (read : Result WrittenRows BuildError) × TellsWritten (tables_of tables) read × AnswersTables told certificate answer read
 
 -- ---- the answer without a certificate
 
 -- to tables, of the least certificate that is accepted, and so has no fault: as to them and that certificate
-pub record AnswersLeast (t : TableRows) (answer : Answer) : Type 0 where
+pub record AnswersLeast (told : InTime) (w : WrittenRows) (answer : Answer) : Type 0 where
   pub claims : NamedRows
-  pub least : IsLeastAccepted t claims
-  pub accepted : verdict_of t claims ≡ None
-  pub told : answer ≡ answer_margins t claims
+  pub least : IsLeastAccepted w.tables claims
+  pub accepted : verdict_of w.tables claims ≡ None
+  pub is : answer ≡ answer_margins told w claims
 
 -- the lines of the margins of the first jobs, the inputs, the outputs and the labels in one row
-abbrev pub lines_of_first : ℕ → TableRows → CertificateRows → List (List ℕ)
-lines_of_first jobs t c = map (margin_text t) (lines_below (job_lines_of t c) jobs)
+abbrev pub lines_of_first : (microseconds : Bool) → ℕ → TableRows → CertificateRows → List (List ℕ)
+lines_of_first microseconds jobs t c = map (margin_line microseconds t) (lines_below (job_lines_of t c) jobs)
 
 -- the line of a margin of what was found
-abbrev pub found_text : TableRows → CertificateRows → MarginLine → List ℕ
-found_text t c line = margin_text t (found_line_of t c line)
+abbrev pub found_text : (microseconds : Bool) → TableRows → CertificateRows → MarginLine → List ℕ
+found_text microseconds t c line = margin_line microseconds t (found_line_of t c line)
 
 -- the lines of the margins of the jobs behind the first ones, of what was found of them
-abbrev pub lines_behind : ℕ → TableRows → CertificateRows → List (List ℕ)
-lines_behind jobs t c = map (found_text t c) (lines_below (λ k. job_lines_of t c (jobs + k)) (job_count t - jobs))
+abbrev pub lines_behind : (microseconds : Bool) → ℕ → TableRows → CertificateRows → List (List ℕ)
+lines_behind microseconds jobs t c = map (found_text microseconds t c) (lines_below (λ k. job_lines_of t c (jobs + k)) (job_count t - jobs))
 
 -- both: the lines of every job, those that are reached first
-abbrev pub lines_reached : ℕ → TableRows → CertificateRows → List (List ℕ)
-lines_reached jobs t c = lines_of_first jobs t c ++ lines_behind jobs t c
+abbrev pub lines_reached : (microseconds : Bool) → ℕ → TableRows → CertificateRows → List (List ℕ)
+lines_reached microseconds jobs t c = lines_of_first microseconds jobs t c ++ lines_behind microseconds jobs t c
 
 -- to tables for which none is accepted: what `find` answers, the line of what stands first in the way of one, then the lines
--- of the margins of the jobs that are reached, with their least numbers, and then those of the jobs behind, of what is found
-pub record AnswersReached (t : TableRows) (answer : Answer) : Type 0 where
+-- of the margins of the jobs that are reached, with their least numbers, those of the jobs behind, of what is found, and
+-- what is told of a drift
+pub record AnswersReached (told : InTime) (w : WrittenRows) (answer : Answer) : Type 0 where
   pub line : Answer
-  pub obstacle : AnswersObstacle t line
+  pub obstacle : AnswersObstacle w.tables line
   pub claims : NamedRows
-  pub reached : IsReached t (jobs_reached t obstacle.fault) claims
-  pub found : IsFound t claims
-  pub told : answer ≡ record { lines = line.lines ++ lines_reached (jobs_reached t obstacle.fault) t (numbers_of claims); outcome = line.outcome }
+  pub reached : IsReached w.tables (jobs_reached w.tables obstacle.fault) claims
+  pub found : IsFound w.tables claims
+  pub is : answer ≡ record {
+    lines = line.lines ++ (lines_reached told.microseconds (jobs_reached w.tables obstacle.fault) w.tables (numbers_of claims) ++ lines_of_drift w told.drift None);
+    outcome = line.outcome;
+  }
 
 -- one or the other
-abbrev pub AnswersRows : TableRows → Answer → Type 0
-AnswersRows t answer = AnswersLeast t answer ⊎ AnswersReached t answer
+abbrev pub AnswersRows : InTime → WrittenRows → Answer → Type 0
+AnswersRows told w answer = AnswersLeast told w answer ⊎ AnswersReached told w answer
 
 -- to tables that read so
-abbrev pub AnswersAlone : Answer → Result TableRows BuildError → Type 0
-AnswersAlone answer (Ok t) = AnswersRows t answer
-AnswersAlone answer (Err (Refused fault)) = answer ≡ unreadable (table_fault_text fault)
-AnswersAlone answer (Err (NoMemory e)) = ⊥
+abbrev pub AnswersAlone : InTime → Answer → Result WrittenRows BuildError → Type 0
+AnswersAlone told answer (Ok w) = AnswersRows told w answer
+AnswersAlone told answer (Err (Refused fault)) = answer ≡ unreadable (table_fault_text fault)
+AnswersAlone told answer (Err (NoMemory e)) = ⊥
 
 -- to the text of tables
-abbrev pub AnswersTablesAlone : List ℕ → Answer → Type 0
-AnswersTablesAlone tables answer = (read : Result TableRows BuildError) × TellsTables (tables_of tables) read × AnswersAlone answer read
+abbrev pub AnswersTablesAlone : InTime → List ℕ → Answer → Type 0
+AnswersTablesAlone told tables answer = (read : Result WrittenRows BuildError) × TellsWritten (tables_of tables) read × AnswersAlone told answer read
 
 -- ---- what is kept, before it is written
 
@@ -132,11 +148,11 @@ Answers wanted = Keeps (λ answer. answer ≡ wanted)
 -- ---- what is reported
 
 -- What `margins` reports, where its sources and its sink failed so often before and after it
-abbrev pub ReportsMargins : List ℕ → List ℕ → Option (List ℕ) → Option (List ℕ) → ℕ → ℕ → ℕ → ℕ → Exit → Type 0
-ReportsMargins tables certificate old new sources sources' sink sink' exit =
-    Reported (WholeOrNone (AnswersMargins tables certificate) (is_answered exit)) old new sources sources' sink sink' exit
+abbrev pub ReportsMargins : InTime → List ℕ → List ℕ → Option (List ℕ) → Option (List ℕ) → ℕ → ℕ → ℕ → ℕ → Exit → Type 0
+ReportsMargins told tables certificate old new sources sources' sink sink' exit =
+    Reported (WholeOrNone (AnswersMargins told tables certificate) (is_answered exit)) old new sources sources' sink sink' exit
 
 -- the same without a certificate
-abbrev pub ReportsLeast : List ℕ → Option (List ℕ) → Option (List ℕ) → ℕ → ℕ → ℕ → ℕ → Exit → Type 0
-ReportsLeast tables old new source source' sink sink' exit =
-    Reported (WholeOrNone (AnswersTablesAlone tables) (is_answered exit)) old new source source' sink sink' exit
+abbrev pub ReportsLeast : InTime → List ℕ → Option (List ℕ) → Option (List ℕ) → ℕ → ℕ → ℕ → ℕ → Exit → Type 0
+ReportsLeast told tables old new source source' sink sink' exit =
+    Reported (WholeOrNone (AnswersTablesAlone told tables) (is_answered exit)) old new source source' sink sink' exit

@@ -9,64 +9,84 @@ ghost use Rattle.dc_cert.specs.NamedRows.{named_rows};
 ghost use Rattle.dc_check.specs.Placed.{IsPlaced};
 ghost use Rattle.dc_check.specs.Verdict.{IsSized, misnaming};
 ghost use Rattle.dc_device.specs.States.{AsksUpTo, CanFail, IsCountable};
-ghost use Rattle.dc_margin.specs.Lines.{IsLinePlaced};
+ghost use Rattle.dc_margin.specs.Lines.{IsLinePlaced, measure_of};
 ghost use Rattle.dc_document.specs.declared.limits.TheConstants.{TEXT_LIMIT};
 ghost use Rattle.dc_toml.specs.Reading.{tables_of};
-ghost use Rattle.dc_run_margins.specs.Lines.{margin_text};
-ghost use Rattle.dc_run_margins.specs.Margins.{Answers, ReportsMargins, answer_margins, fed, verdict_line, verdict_outcome};
+ghost use Rattle.dc_run_margins.specs.Lines.{margin_line, slack_microseconds};
+ghost use Rattle.dc_run_margins.specs.Drift.{lines_of_drift};
+ghost use Rattle.dc_run_margins.specs.Margins.{Answers, ReportsMargins, ages_where, answer_margins, fed, verdict_line, verdict_outcome};
 
+use crate::drift::{InTime, add_drift};
 use crate::lines::print_margin;
-use dc_answer::{End, Exit, Outcome, Page, ReadCertificate, ReadTables, Tell, Then, With, run};
+use dc_answer::{End, Exit, Outcome, Page, ReadCertificate, ReadWritten, Tell, Then, With, run};
+use dc_build::WrittenTables;
 use dc_cert::Certificate;
 use dc_check::{CheckFault, misnamed, verdict};
 use dc_device::{Sink, Source};
-use dc_margin::{MarginLine, margin_lines, verdict_fault};
+use dc_margin::{MarginLine, Measure, margin_lines, verdict_fault};
 use dc_print::{Text, print_accepted, print_refused};
 use dc_tables::Tables;
+use itoa::Buffer;
 use std::alloc::{AllocError, Global};
 
+/// Puts the amount of a margin in microseconds at the end.
+fn add_microseconds(tick_us: u32, line: &MarginLine, page: &mut Page) -> Result<(), AllocError>
+    ensures { IfOk result (λ _. page.new ≡ page.old ++ slack_microseconds tick_us (measure_of line.now.condition) line.now.margin) }
+{
+    if line.measure() == Measure::Words {
+        return page.add(b"-");
+    }
+    let Some(margin) = line.margin else {
+        return page.add(b"-");
+    };
+    let Some(slack) = margin.slack else {
+        return page.add(b"-");
+    };
+    let mut buffer = Buffer::new();
+    page.add(
+        buffer
+            .format(i128::from(slack) * i128::from(tick_us))
+            .as_bytes(),
+    )?;
+    page.add(b"us")
+}
+
 /// Puts the line of a margin at the end, after a line feed.
+#[tactic(auto, unfolding(crate::specs::Lines::margin_line))]
 pub(crate) fn append_line(
     tables: &Tables,
+    microseconds: bool,
     line: &MarginLine,
     page: &mut Page,
 ) -> Result<(), AllocError>
     requires { IsLinePlaced tables.now line.now }
-    ensures { IfOk result (λ _. page.new ≡ page.old ++ 10 ∷ margin_text tables.now line.now) }
+    ensures { IfOk result (λ _. page.new ≡ page.old ++ 10 ∷ margin_line microseconds tables.now line.now) }
 {
     let mut printed = Text::new();
     print_margin(&mut printed, tables, line);
     page.add(b"\n")?;
-    page.add(printed.as_slice())
+    page.add(printed.as_slice())?;
+    if microseconds {
+        page.add(b" ")?;
+        add_microseconds(tables.tick_us(), line, page)?;
+    }
+    Ok(())
 }
 
 /// Puts the lines of margins at the end, each after a line feed.
 pub(crate) fn append_lines(
     tables: &Tables,
+    microseconds: bool,
     lines: &[MarginLine],
     page: &mut Page,
 ) -> Result<(), AllocError>
     requires { All (IsLinePlaced tables.now) lines.now }
-    ensures { IfOk result (λ _. page.new ≡ page.old ++ fed (map (margin_text tables.now) lines.now)) }
+    ensures { IfOk result (λ _. page.new ≡ page.old ++ fed (map (margin_line microseconds tables.now) lines.now)) }
 {
     for own in lines {
-        append_line(tables, own, page)?;
+        append_line(tables, microseconds, own, page)?;
     }
     Ok(())
-}
-
-/// Keeps a first line, and after it the lines of margins.
-fn keep_lines(
-    tables: &Tables,
-    line: &[u8],
-    lines: &[MarginLine],
-    page: &mut Page,
-) -> Result<(), AllocError>
-    requires { All (IsLinePlaced tables.now) lines.now }
-    ensures { IfOk result (λ _. page.new ≡ line.now ++ fed (map (margin_text tables.now) lines.now)) }
-{
-    page.keep(line)?;
-    append_lines(tables, lines, page)
 }
 
 /// Prints a verdict: accepted, or this fault.
@@ -87,86 +107,114 @@ fn print_verdict(tables: &Tables, fault: Option<CheckFault>, line: &mut Text) ->
     }
 }
 
-/// Judges a certificate with other names than the tables', and keeps the verdict.
-fn judge_misnamed(
-    tables: &Tables,
+/// Puts the lines of a drift at the end, each after a line feed, with the ages of the certificate where this is no fault
+/// of its verdict.
+fn append_drift(
+    written: &WrittenTables,
+    drift: Option<u16>,
+    fault: Option<CheckFault>,
     certificate: &Certificate,
     page: &mut Page,
-) -> Result<Outcome, AllocError>
-    requires { misnaming tables.now (named_rows certificate.now) ≢ None }
-    ensures { Answers (answer_margins tables.now (named_rows certificate.now)) page.new result }
+) -> Result<(), AllocError>
+    requires sized { fault ≡ None → IsSized written.now.tables (certificate_rows certificate.now) }
+    ensures { IfOk result (λ _. page.new ≡ page.old ++ fed (lines_of_drift written.now drift (ages_where fault (named_rows certificate.now)))) }
 {
+    match fault {
+        None => add_drift(written, drift, Some(certificate), page),
+        Some(_) => add_drift(written, drift, None, page),
+    }
+}
+
+/// Judges a certificate with other names than the tables', and keeps the verdict, and what is told of a drift.
+fn judge_misnamed(
+    written: &WrittenTables,
+    certificate: &Certificate,
+    told: InTime,
+    page: &mut Page,
+) -> Result<Outcome, AllocError>
+    requires { misnaming written.now.tables (named_rows certificate.now) ≢ None }
+    ensures { Answers (answer_margins told written.now (named_rows certificate.now)) page.new result }
+{
+    let tables = written.tables();
     let mut line = Text::new();
     let outcome = print_verdict(tables, verdict(tables, certificate).err(), &mut line);
-    match keep_lines(tables, line.as_slice(), &[], page) {
+    page.keep(line.as_slice())?;
+    match add_drift(written, told.drift, None, page) {
         Ok(()) => Ok(outcome),
         Err(e) => Err(e),
     }
 }
 
-/// Judges a certificate with the tables' names, and keeps the verdict and the lines of its margins.
+/// Judges a certificate with the tables' names, and keeps the verdict, the lines of its margins, and what is told of a
+/// drift.
 fn judge_named(
     alloc: Global,
-    tables: &Tables,
+    written: &WrittenTables,
     certificate: &Certificate,
+    told: InTime,
     page: &mut Page,
 ) -> Result<Outcome, AllocError>
-    requires named { misnaming tables.now (named_rows certificate.now) ≡ None }
-    requires sized { IsSized tables.now (certificate_rows certificate.now) }
-    ensures { Answers (answer_margins tables.now (named_rows certificate.now)) page.new result }
+    requires named { misnaming written.now.tables (named_rows certificate.now) ≡ None }
+    requires sized { IsSized written.now.tables (certificate_rows certificate.now) }
+    ensures { Answers (answer_margins told written.now (named_rows certificate.now)) page.new result }
 {
+    let tables = written.tables();
     let lines = margin_lines(alloc, tables, certificate)?;
     let fault = verdict_fault(tables, certificate, lines.as_slice());
     let mut line = Text::new();
     let outcome = print_verdict(tables, fault, &mut line);
-    match keep_lines(tables, line.as_slice(), lines.as_slice(), page) {
+    page.keep(line.as_slice())?;
+    append_lines(tables, told.microseconds, lines.as_slice(), page)?;
+    match append_drift(written, told.drift, fault, certificate, page) {
         Ok(()) => Ok(outcome),
         Err(e) => Err(e),
     }
 }
 
-/// Judges a certificate, and keeps the verdict and the lines of its margins.
+/// Judges a certificate, and keeps the verdict, the lines of its margins, and what is told of a drift.
 pub(crate) fn judge(
     alloc: Global,
-    tables: &Tables,
+    written: &WrittenTables,
     certificate: &Certificate,
+    told: InTime,
     page: &mut Page,
 ) -> Result<Outcome, AllocError>
-    ensures { Answers (answer_margins tables.now (named_rows certificate.now)) page.new result }
+    ensures { Answers (answer_margins told written.now (named_rows certificate.now)) page.new result }
 {
-    match misnamed(tables, certificate) {
-        None => judge_named(alloc, tables, certificate, page),
-        Some(_) => judge_misnamed(tables, certificate, page),
+    match misnamed(written.tables(), certificate) {
+        None => judge_named(alloc, written, certificate, told, page),
+        Some(_) => judge_misnamed(written, certificate, told, page),
     }
 }
 
 /// The verdict on a certificate, and a line for each condition of each input, output and label: how far it is from
-/// failing, and what decides that. A certificate with other names than the tables' has the verdict alone.
+/// failing, and what decides that; where a drift is told, what such clocks ask and keep. A certificate with other names
+/// than the tables' has no line of a condition.
 #[derive(Clone, Copy, Debug)]
-pub struct Margins;
+pub struct Margins {
+    /// What is told of time.
+    pub told: InTime,
+}
 
-impl Tell<(Tables, Certificate)> for Margins {
-    ghost answers = { λ _ known answer. answer ≡ answer_margins known.0 (named_rows known.1) };
+impl Tell<(WrittenTables, Certificate)> for Margins {
+    ghost answers = { λ m known answer. answer ≡ answer_margins m.told known.0 (named_rows known.1) };
 
     fn tell(
         &self,
         alloc: Global,
-        known: (Tables, Certificate),
+        known: (WrittenTables, Certificate),
         page: &mut Page,
     ) -> Result<Outcome, AllocError> {
-        let (tables, certificate) = known;
-        judge(alloc, &tables, &certificate, page)
+        let (written, certificate) = known;
+        judge(alloc, &written, &certificate, self.told, page)
     }
 }
 
-/// The engine of `margins` with a certificate.
-pub const MARGINS: ReadTables<ReadCertificate<Then<Margins>>> = ReadTables(ReadCertificate(Then(
-    Margins,
-)));
-
 /// Judges a certificate for tables, both read whole from their sources, the tables first, and writes the verdict onto a
 /// sink, and then a line for each condition of each input, output and label: how far it is from failing, and what
-/// decides that. A certificate with other names than the tables' has the verdict alone.
+/// decides that, with its microseconds where they are told. A certificate with other names than the tables' has none of
+/// these lines. Where a drift is told, a line follows for each wire whose bus is not policed, each stream and each label:
+/// what clocks that drift so far ask and keep, in whole microseconds, beside what is declared.
 ///
 /// It ends `Done` where the certificate is accepted, `Refused` where it is refused, `Unreadable` where a text can't be
 /// read; `Failed` where a device failed or memory was refused: `failed memory` alone was written, or `failed device`
@@ -174,6 +222,7 @@ pub const MARGINS: ReadTables<ReadCertificate<Then<Margins>>> = ReadTables(ReadC
 /// That call is the last of the sink, and at most one pull of each source gives no byte.
 pub fn run_margins<T: Source, C: Source, K: Sink>(
     alloc: Global,
+    told: InTime,
     tables: &mut T,
     certificate: &mut C,
     sink: &mut K,
@@ -182,7 +231,7 @@ pub fn run_margins<T: Source, C: Source, K: Sink>(
     requires certificate { IsCountable (C.state certificate.old) }
     requires sink { CanFail (K.state sink.old) }
     ensures reports { (rows claims : List ℕ) → (T.state tables.old).remaining ≡ Some rows → (C.state certificate.old).remaining ≡ Some claims
-        → ReportsMargins rows claims (K.state sink.old).contents (K.state sink.new).contents
+        → ReportsMargins told rows claims (K.state sink.old).contents (K.state sink.new).contents
         ((T.state tables.old).failed + (C.state certificate.old).failed) ((T.state tables.new).failed + (C.state certificate.new).failed)
         (K.state sink.old).failed (K.state sink.new).failed result }
     ensures reported { Reported Any (K.state sink.old).contents (K.state sink.new).contents
@@ -202,5 +251,6 @@ pub fn run_margins<T: Source, C: Source, K: Sink>(
             rest: End,
         },
     };
-    run(&(), alloc, &MARGINS, &mut given, sink)
+    let engine = ReadWritten(ReadCertificate(Then(Margins { told })));
+    run(&(), alloc, &engine, &mut given, sink)
 }

@@ -1,17 +1,22 @@
 -- What `report` answers, and what it reports from what the frame does.
 use Rattle.std.proofs.Common.{◌≡◌, ◌≢◌, ℕ, ◌+◌, List, [], ◌∷◌, refl, ap, subst, Option, IfOk, Result, Ok, Err, inl, inr}
 use Rattle.dc_cert.specs.NamedRows.{NamedRows, named_rows}
-use Rattle.dc_cert.specs.Reading.{Reading, certificate_of}
+use Rattle.dc_cert.specs.Reading.{Reading as CertificateReading, certificate_of}
 use Rattle.dc_check.specs.Verdict.{verdict_of}
 use Rattle.dc_find.specs.Least.{IsLeastAccepted, NoneAccepted}
 use Rattle.dc_find.specs.Ways.{IsFirstInTheWay}
 use Rattle.dc_find.specs.declared.fault.FindFault.{FindFault}
 use Rattle.dc_find.specs.declared.fault.FindFault.TheVariants.{Memory as NoMemory}
 use Rattle.dc_document.specs.declared.fault.BuildError.TheVariants.{Refused as RefusedTables, Memory as NoTables}
+use Rattle.dc_build.specs.Reported.{AreTablesOf, AreWrittenBy}
+use Rattle.dc_build.specs.Written.{WrittenRows}
 use Rattle.dc_tables.specs.TableRows.{TableRows}
+use Rattle.dc_toml.specs.Faults.{Reading}
+use Rattle.dc_toml.specs.Reading.{tables_of}
+use Rattle.dc_toml.specs.Written.{Written}
 use Rattle.dc_answer.specs.Answer.{Answer, Reported, WholeOrNone, one_line}
 use Rattle.dc_answer.specs.Exits.{is_answered}
-use Rattle.dc_answer.specs.Inputs.{AnswersCertificate, AnswersTables, AnswersClaims as FrameClaims}
+use Rattle.dc_answer.specs.Inputs.{AnswersCertificate, AnswersWritten, AnswersClaims as FrameClaims}
 use Rattle.dc_answer.specs.Judging.{Keeps}
 use Rattle.dc_answer.specs.declared.exit.Exit.{Exit}
 use Rattle.dc_answer.specs.declared.exit.Outcome.{Outcome}
@@ -41,23 +46,27 @@ obstacle_kept t fault text (Err e) none first kept is some = tt
 -- ---- what is reported
 
 abbrev pub ReportFrame : List ℕ → List ℕ → Answer → Type 0
-ReportFrame rows given = AnswersTables (λ t. AnswersCertificate (λ c texts answer. IsPage (outcome_of (verdict_of t (named_rows c))) answer)) (rows ∷ given ∷ [])
+ReportFrame rows given = AnswersWritten (λ w. AnswersCertificate (λ c texts answer. IsPage (outcome_of (verdict_of w.tables (named_rows c))) answer)) (rows ∷ given ∷ [])
 
 abbrev pub LeastFrame : List ℕ → Answer → Type 0
-LeastFrame rows = AnswersTables (λ t texts answer. AnswersRows t answer) (rows ∷ [])
+LeastFrame rows = AnswersWritten (λ w texts answer. AnswersRows w.tables answer) (rows ∷ [])
 
-claims_as : (t : TableRows) (reading : Reading NamedRows) (answer : Answer) → FrameClaims (λ c texts a. IsPage (outcome_of (verdict_of t (named_rows c))) a) [] answer reading
+-- the tables beside a document are its tables
+tables_alone : (reading : Reading Written) (w : WrittenRows) → AreWrittenBy reading w → AreTablesOf reading w.tables
+tables_alone reading w by = record { parts = w.parts; said = by.said; valid = by.valid; rows_of = by.rows_of }
+
+claims_as : (t : TableRows) (reading : CertificateReading NamedRows) (answer : Answer) → FrameClaims (λ c texts a. IsPage (outcome_of (verdict_of t (named_rows c))) a) [] answer reading
     → AnswersClaims t answer reading
 claims_as t (Ok claims) answer (c, same, is) = subst (λ n. IsPage (outcome_of (verdict_of t n)) answer) same is
 claims_as t (Err fault) answer is = is
 
 page_as : (rows given : List ℕ) (answer : Answer) → ReportFrame rows given answer → AnswersReport rows given answer
-page_as rows given answer (Ok t, tells, is) = (Ok t, tells, claims_as t (certificate_of given) answer is)
+page_as rows given answer (Ok w, tells, is) = (Ok w.tables, tables_alone (tables_of rows) w tells, claims_as w.tables (certificate_of given) answer is)
 page_as rows given answer (Err (RefusedTables fault), tells, is) = (Err (RefusedTables fault), tells, is)
 page_as rows given answer (Err (NoTables e), tells, is) = absurd is
 
 least_as : (rows : List ℕ) (answer : Answer) → LeastFrame rows answer → AnswersLeast rows answer
-least_as rows answer (Ok t, tells, is) = (Ok t, tells, is)
+least_as rows answer (Ok w, tells, is) = (Ok w.tables, tables_alone (tables_of rows) w tells, is)
 least_as rows answer (Err (RefusedTables fault), tells, is) = (Err (RefusedTables fault), tells, is)
 least_as rows answer (Err (NoTables e), tells, is) = absurd is
 

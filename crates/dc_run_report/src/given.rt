@@ -11,64 +11,65 @@ ghost use Rattle.dc_toml.specs.Reading.{tables_of};
 ghost use Rattle.dc_run_report.specs.Paper.{IsPage, ReportsPage, outcome_of};
 
 use crate::pages::keep_page;
-use dc_answer::{End, Exit, Outcome, Page, ReadCertificate, ReadTables, Tell, Then, With, run};
+use dc_answer::{End, Exit, Outcome, Page, ReadCertificate, ReadWritten, Tell, Then, With, run};
+use dc_build::WrittenTables;
 use dc_cert::Certificate;
 use dc_check::verdict;
 use dc_device::{Sink, Source};
-use dc_tables::Tables;
 use std::alloc::{AllocError, Global};
 
 /// Keeps the page on a certificate with the outcome of its verdict.
 fn keep_judged(
     alloc: Global,
-    tables: &Tables,
+    written: &WrittenTables,
     certificate: &Certificate,
+    drift: Option<u16>,
     page: &mut Page,
 ) -> Result<Outcome, AllocError>
-    ensures outcome { IfOk result (λ o. o ≡ outcome_of (verdict_of tables.now (named_rows certificate.now))) }
+    ensures outcome { IfOk result (λ o. o ≡ outcome_of (verdict_of written.now.tables (named_rows certificate.now))) }
 {
-    let fault = verdict(tables, certificate).err();
-    keep_page(alloc, tables, certificate, fault, page)
+    let fault = verdict(written.tables(), certificate).err();
+    keep_page(alloc, written, certificate, fault, drift, page)
 }
 
 /// Judges a certificate, and keeps the page on it.
 fn report_on(
     alloc: Global,
-    tables: &Tables,
+    written: &WrittenTables,
     certificate: &Certificate,
+    drift: Option<u16>,
     page: &mut Page,
 ) -> Result<Outcome, AllocError>
-    ensures { Keeps (IsPage (outcome_of (verdict_of tables.now (named_rows certificate.now)))) page.new result }
+    ensures { Keeps (IsPage (outcome_of (verdict_of written.now.tables (named_rows certificate.now)))) page.new result }
 {
-    keep_judged(alloc, tables, certificate, page)
+    keep_judged(alloc, written, certificate, drift, page)
 }
 
 /// Makes the page on a certificate for tables, with the outcome of its verdict. No clause says what stands in the page:
 /// it is tested.
 #[derive(Clone, Copy, Debug)]
-pub struct Report;
+pub struct Report {
+    /// The drift of clocks, in millionths, on which the page has a section.
+    pub drift: Option<u16>,
+}
 
-impl Tell<(Tables, Certificate)> for Report {
-    ghost answers = { λ _ known. IsPage (outcome_of (verdict_of known.0 (named_rows known.1))) };
+impl Tell<(WrittenTables, Certificate)> for Report {
+    ghost answers = { λ _ known. IsPage (outcome_of (verdict_of known.0.tables (named_rows known.1))) };
 
     fn tell(
         &self,
         alloc: Global,
-        known: (Tables, Certificate),
+        known: (WrittenTables, Certificate),
         page: &mut Page,
     ) -> Result<Outcome, AllocError> {
-        let (tables, certificate) = known;
-        report_on(alloc, &tables, &certificate, page)
+        let (written, certificate) = known;
+        report_on(alloc, &written, &certificate, self.drift, page)
     }
 }
 
-/// The engine of `report` with a certificate.
-pub const REPORT: ReadTables<ReadCertificate<Then<Report>>> = ReadTables(ReadCertificate(Then(
-    Report,
-)));
-
 /// Writes the page on a certificate for tables onto a sink, both read whole from their sources, the tables first; where
-/// one of them can't be read, its line. No clause says what stands in the page: it is tested.
+/// one of them can't be read, its line. Where a drift is given, in millionths, the page has a section on clocks that
+/// drift so far. No clause says what stands in the page: it is tested.
 ///
 /// It ends `Done` where the certificate is accepted, `Refused` where it is refused, `Unreadable` where a text can't be
 /// read, `Failed` where a device failed or memory was refused: `failed memory` alone was written, or `failed device`
@@ -77,6 +78,7 @@ pub const REPORT: ReadTables<ReadCertificate<Then<Report>>> = ReadTables(ReadCer
 /// asked for only where the tables are in order.
 pub fn run_report<T: Source, C: Source, K: Sink>(
     alloc: Global,
+    drift: Option<u16>,
     tables: &mut T,
     certificate: &mut C,
     sink: &mut K,
@@ -105,5 +107,6 @@ pub fn run_report<T: Source, C: Source, K: Sink>(
             rest: End,
         },
     };
-    run(&(), alloc, &REPORT, &mut given, sink)
+    let engine = ReadWritten(ReadCertificate(Then(Report { drift })));
+    run(&(), alloc, &engine, &mut given, sink)
 }

@@ -7,19 +7,25 @@ ghost use Rattle.dc_document.specs.declared.limits.TheConstants.{TEXT_LIMIT};
 ghost use Rattle.dc_run_report.specs.Paper.{AnswersRows, ReportsLeast};
 
 use crate::pages::keep_page;
-use dc_answer::{End, Exit, Outcome, Page, ReadTables, Tell, Then, With, run};
+use dc_answer::{End, Exit, Outcome, Page, ReadWritten, Tell, Then, With, run};
+use dc_build::WrittenTables;
 use dc_device::{Sink, Source};
 use dc_find::find;
 use dc_run::tell_obstacle;
-use dc_tables::Tables;
 use std::alloc::{AllocError, Global};
 
 /// Finds the least certificate for tables, and keeps the page on it.
-fn report_least(alloc: Global, tables: &Tables, page: &mut Page) -> Result<Outcome, AllocError>
-    ensures { Keeps (AnswersRows tables.now) page.new result }
+fn report_least(
+    alloc: Global,
+    written: &WrittenTables,
+    drift: Option<u16>,
+    page: &mut Page,
+) -> Result<Outcome, AllocError>
+    ensures { Keeps (AnswersRows written.now.tables) page.new result }
 {
+    let tables = written.tables();
     match find(alloc, tables) {
-        Ok(certificate) => keep_page(alloc, tables, &certificate, None, page),
+        Ok(certificate) => keep_page(alloc, written, &certificate, None, drift, page),
         Err(fault) => tell_obstacle(tables, fault, page),
     }
 }
@@ -27,28 +33,38 @@ fn report_least(alloc: Global, tables: &Tables, page: &mut Page) -> Result<Outco
 /// Makes the page on the least certificate for tables; where none is accepted, one line that says what stands first in
 /// the way of every certificate. No clause says what stands in the page: it is tested.
 #[derive(Clone, Copy, Debug)]
-pub struct ReportLeast;
+pub struct ReportLeast {
+    /// The drift of clocks, in millionths, on which the page has a section.
+    pub drift: Option<u16>,
+}
 
-impl Tell<Tables> for ReportLeast {
-    ghost answers = { λ _. AnswersRows };
+impl Tell<WrittenTables> for ReportLeast {
+    ghost answers = { λ _ known. AnswersRows known.tables };
 
-    fn tell(&self, alloc: Global, tables: Tables, page: &mut Page) -> Result<Outcome, AllocError> {
-        report_least(alloc, &tables, page)
+    fn tell(
+        &self,
+        alloc: Global,
+        written: WrittenTables,
+        page: &mut Page,
+    ) -> Result<Outcome, AllocError> {
+        report_least(alloc, &written, self.drift, page)
     }
 }
 
-/// The engine of `report` without a certificate.
-pub const REPORT_LEAST: ReadTables<Then<ReportLeast>> = ReadTables(Then(ReportLeast));
-
 /// Writes the page on the least certificate for tables, which are read whole from their source, onto a sink; where none
-/// is accepted, one line that says what stands first in the way of every certificate. No clause says what stands in the
-/// page: it is tested.
+/// is accepted, one line that says what stands first in the way of every certificate. Where a drift is given, in
+/// millionths, the page has a section on clocks that drift so far. No clause says what stands in the page: it is tested.
 ///
 /// It ends `Done` where a certificate was found, `Refused` where none is accepted, `Unreadable` where the tables can't
 /// be read, `Failed` where a device failed or memory was refused: `failed memory` alone was written, or `failed device`
 /// behind nothing or all that was to be written; where a push or flush failed, a front of one of these or of the
 /// latter. That call is the last of the sink, and at most one pull of the source gives no byte.
-pub fn run_report_least<T: Source, K: Sink>(alloc: Global, tables: &mut T, sink: &mut K) -> Exit
+pub fn run_report_least<T: Source, K: Sink>(
+    alloc: Global,
+    drift: Option<u16>,
+    tables: &mut T,
+    sink: &mut K,
+) -> Exit
     requires tables { IsCountable (T.state tables.old) }
     requires sink { CanFail (K.state sink.old) }
     ensures reports { (rows : List ℕ) → (T.state tables.old).remaining ≡ Some rows
@@ -64,5 +80,6 @@ pub fn run_report_least<T: Source, K: Sink>(alloc: Global, tables: &mut T, sink:
         first: tables,
         rest: End,
     };
-    run(&(), alloc, &REPORT_LEAST, &mut given, sink)
+    let engine = ReadWritten(Then(ReportLeast { drift }));
+    run(&(), alloc, &engine, &mut given, sink)
 }

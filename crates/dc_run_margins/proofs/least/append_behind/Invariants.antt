@@ -6,4 +6,6 @@ use Rattle.dc_run_margins.proofs.least.append_behind.Given as goal
 
 abbrev pub invariant-loop-behind : goal.invariant-loop-behind
 invariant-loop-behind l =
-    l.page ≡ l.initial.page ++ fed (map (found_text l.tables (certificate_rows l.certificate)) (lines_below (λ k. job_lines_of l.tables (certificate_rows l.certificate) (l.jobs + k)) l.behind))
+    let t = l.fitted.tables.now in
+    let rows = certificate_rows l.fitted.certificate.now in
+    l.page ≡ l.initial.page ++ fed (map (found_text l.microseconds t rows) (lines_below (λ k. job_lines_of t rows (l.jobs + k)) l.behind))

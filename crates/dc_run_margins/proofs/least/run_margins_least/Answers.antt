@@ -8,7 +8,7 @@ use Rattle.dc_run_margins.proofs.least.run_margins_least.Goals as goal
 pub returns-clause-reports : goal.returns-clause-reports
 returns-clause-reports g c = λ rows e.
     let same0 : c.tables-1.given.0 ≡ c.run.new.given.first.now = search rules in
-    subst (λ x. ReportsLeast rows (g.K.Sink.state c.args.sink.now).contents (g.K.Sink.state c.run.new.sink).contents (g.T.Source.state c.args.tables.now).failed (g.T.Source.state x).failed (g.K.Sink.state c.args.sink.now).failed (g.K.Sink.state c.run.new.sink).failed c.run.result) (sym same0) (least_reports rows _ _ _ _ _ _ _ (plain (c.run.ensures.reports (rows ∷ []) (e, tt))))
+    subst (λ x. ReportsLeast c.args.told rows (g.K.Sink.state c.args.sink.now).contents (g.K.Sink.state c.run.new.sink).contents (g.T.Source.state c.args.tables.now).failed (g.T.Source.state x).failed (g.K.Sink.state c.args.sink.now).failed (g.K.Sink.state c.run.new.sink).failed c.run.result) (sym same0) (least_reports c.args.told rows _ _ _ _ _ _ _ (plain (c.run.ensures.reports (rows ∷ []) (e, tt))))
 
 pub returns-clause-reported : goal.returns-clause-reported
 returns-clause-reported g c =

@@ -4,17 +4,27 @@ use Rattle.dc_cert.specs.NamedRows.{named_rows}
 use Rattle.dc_check.specs.Verdict.{verdict_of}
 use Rattle.dc_margin.specs.Lines.{margin_lines_of}
 use Rattle.dc_run_margins.proofs.Advising.{lines_judged, named-lines}
-use Rattle.dc_run_margins.specs.Lines.{margin_text}
-use Rattle.dc_run_margins.specs.Margins.{answer_margins, fed, verdict_line, verdict_outcome}
+use Rattle.dc_run_margins.specs.Drift.{lines_of_drift}
+use Rattle.dc_run_margins.specs.Lines.{margin_line}
+use Rattle.dc_run_margins.specs.Margins.{ages_where, answer_margins, fed, verdict_line, verdict_outcome}
 use Rattle.dc_run_margins.proofs.margins.judge_named.Goals as goal
 
 pub returns-in-Ok : goal.returns-in-Ok
 returns-in-Ok c =
-    let t = c.args.tables.now in
+    let told = c.args.told in
+    let w = c.args.written.now in
     let claims = named_rows c.args.certificate.now in
+    let rows = certificate_rows c.args.certificate.now in
+    let t = c.tables-tables.result.now in
+    let same = c.tables-tables.ensures in
     let line = c.as_slice-2.result.now in
-    let same = c.as_slice-3.ensures.value ∙ c.in_ok-lines.ensures.lines in
-    lines_judged (answer_margins t claims) (verdict_line t (verdict_of t claims)) (map (margin_text t) (margin_lines_of t (certificate_rows c.args.certificate.now))) line c.keep_lines.new.page
-    c.print_verdict-outcome.result (c.as_slice-2.ensures.value ∙ c.print_verdict-outcome.ensures.line ∙ ap (verdict_line t) c.verdict_fault-fault.ensures.exact)
-    (c.in-Ok.ensures ∙ ap (λ lines. line ++ fed (map (margin_text t) lines)) same) (named-lines t claims c.requires.named)
-    (c.print_verdict-outcome.ensures.outcome ∙ ap verdict_outcome c.verdict_fault-fault.ensures.exact)
+    let mid = c.append_lines.new.page in
+    let print = margin_line told.microseconds in
+    let exact = c.verdict_fault-fault.ensures.exact ∙ ap (λ t. verdict_of t claims) same in
+    lines_judged (answer_margins told w claims) (verdict_line w.tables (verdict_of w.tables claims)) (map (print w.tables) (margin_lines_of w.tables rows))
+    (lines_of_drift w told.drift (ages_where (verdict_of w.tables claims) claims)) line mid c.append_drift.new.page c.print_verdict-outcome.result
+    (c.as_slice-2.ensures.value ∙ c.print_verdict-outcome.ensures.line ∙ ap (verdict_line t) exact ∙ ap (λ t. verdict_line t (verdict_of w.tables claims)) same)
+    (c.in_ok-append_lines.ensures ∙ ap (λ p. p ++ fed (map (print t) c.as_slice-3.result.now)) c.in_ok-keep.ensures
+    ∙ ap (λ lines. line ++ fed (map (print t) lines)) (c.as_slice-3.ensures.value ∙ c.in_ok-lines.ensures.lines) ∙ ap (λ t. line ++ fed (map (print t) (margin_lines_of t rows))) same)
+    (c.in-Ok.ensures ∙ ap (λ v. mid ++ fed (lines_of_drift w told.drift (ages_where v claims))) exact)
+    (named-lines told w claims c.requires.named) (c.print_verdict-outcome.ensures.outcome ∙ ap verdict_outcome exact)

@@ -1,6 +1,6 @@
 use Rattle.std.proofs.Common.{◌≡◌, ◌+◌, [], ◌∷◌, ap, arith, rules, subst, sym}
 use Rattle.dc_answer.specs.Answer.{Any, Reported}
-use Rattle.dc_answer.specs.lemmas.Plain.{of_two, order_one, plain}
+use Rattle.dc_answer.specs.lemmas.Plain.{of_two, order_written, plain}
 use Rattle.dc_run_report.specs.Paper.{ReportsPage}
 use Rattle.dc_run_report.proofs.Paging.{page_reports}
 use Rattle.dc_run_report.proofs.given.run_report.Goals as goal
@@ -20,7 +20,7 @@ returns-clause-reported g c =
 pub returns-clause-order : goal.returns-clause-order
 returns-clause-order g c =
     let same : c.certificate-1.given.0 ≡ c.run.new.given.rest.first.now = search rules in
-    rw same (order_one _ _ (λ rows e. c.run.ensures.order (rows ∷ []) (e, tt)))
+    rw same (order_written _ _ (λ rows e. c.run.ensures.order (rows ∷ []) (e, tt)))
 
 pub returns-clause-quiet : goal.returns-clause-quiet
 returns-clause-quiet g c = λ not.
