@@ -8,6 +8,8 @@ from fractions import Fraction
 from functools import cached_property, lru_cache
 from typing import NamedTuple
 
+from definitions import up
+
 LONGEST = 100_000
 # What stands for a least number where there is none, and for those of a queue of which no window closes.
 NONE = float("inf")
@@ -99,6 +101,11 @@ class Condition(NamedTuple):
         unit = "words" if self.code in ("C03", "C04", "C05") else "ticks"
         return f"{self.part:<6} {self.name:<16} {self.code} {'-' if self.margin is None else self.margin:>7} {unit} {self.by}"
 
+    def line_in_time(self, tick):
+        """The line with its microseconds, where it counts ticks and there is a number."""
+        counts = self.code not in ("C03", "C04", "C05") and self.margin not in (None, "none")
+        return f"{self.line} {f'{self.margin * tick}us' if counts else '-'}"
+
     @property
     def refusal(self):
         return f"refused {self.code} {self.part} {self.name}" + (f" window {self.window}" if self.window else "")
@@ -162,6 +169,23 @@ def label_conditions(tables, label, certificate):
                                    row.stale - silences[rarest], f"source={tables.streams[rarest].name}"))
 
 
+def drift_lines(tables, drift, accepted):
+    """What clocks ask and keep that drift by so many millionths, in whole microseconds on the safe side, beside what is declared."""
+    of, longest, shortest = 1_000_000, tables.tick * (1_000_000 + drift), tables.tick * (1_000_000 - drift)
+    for bus in tables.buses:
+        if not bus.police:
+            yield f"wire {bus.name} least {up(bus.spacing * (of + drift), of)} of {bus.spacing}"
+    for it in tables.streams:
+        least, most, jitter = it.declared
+        yield (f"source {it.name} least {up(it.minimum * longest, of)} of {least} most {it.maximum * shortest // of} of {most}"
+               f" jitter {it.jitter * longest // of} of {jitter}")
+    for number, it in enumerate(tables.labels):
+        age = up((accepted["labels"][number]["age"] + 1) * longest, of) if accepted else "-"
+        least, most = it.declared
+        yield (f"sent {it.name} least {(it.minimum - 1) * shortest // of} of {least} most {up((it.maximum + 1) * longest, of)} of {most}"
+               f" age {age}")
+
+
 class Judge:
     """The judge of certificates for tables."""
 
@@ -197,6 +221,12 @@ class Judge:
         """The lines of `margins`."""
         lines = [] if self.misnaming(certificate) else [it.line for it in self.conditions(certificate)]
         return [self.verdict(certificate), *lines]
+
+    def in_time(self, lines, certificate, drift):
+        """The lines of `margins` with their microseconds, and behind them those of clocks that drift; the certificate is that of the
+        margins, whose ages are told where it is accepted."""
+        told = [it.line_in_time(self.tables.tick) for it in self.conditions(certificate)] if len(lines) > 1 else []
+        return [lines[0], *told, *drift_lines(self.tables, drift, certificate if lines[0].startswith("accepted") else None)]
 
     @cached_property
     def least(self):

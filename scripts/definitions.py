@@ -74,13 +74,14 @@ class Tables:
     def stream(self, bus, row):
         of = self.parameter(row)
         return Row(name=row["name"], bus=bus, label=int(row["label"], 8), sdi=row["sdi"], format=of["format"],
-                   minimum=of["min_us"] // self.tick, maximum=up(of["max_us"], self.tick), jitter=up(row.get("jitter_us", 0), self.tick))
+                   minimum=of["min_us"] // self.tick, maximum=up(of["max_us"], self.tick), jitter=up(row.get("jitter_us", 0), self.tick),
+                   declared=(of["min_us"], of["max_us"], row.get("jitter_us", 0)))
 
     def label(self, output, row):
         of, numbers = self.parameter(row), {stream.name: number for number, stream in enumerate(self.streams)}
         return Row(name=row["name"], output=output, label=int(row["label"], 8), sdi=row["sdi"], format=of["format"],
                    sources=[numbers[name] for name in row["sources"]], stale=row["stale"], limit=row["age"], offsets=row["offsets"],
-                   minimum=up(of["min_us"], self.tick) + 1, maximum=of["max_us"] // self.tick - 1)
+                   minimum=up(of["min_us"], self.tick) + 1, maximum=of["max_us"] // self.tick - 1, declared=(of["min_us"], of["max_us"]))
 
     def output(self, output, row):
         """The output's entries, as (offset, label), stand in order of offset."""
