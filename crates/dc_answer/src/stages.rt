@@ -79,9 +79,9 @@ impl<'a, H, S: Source, R: Given, J: Judge<H, WrittenTables, R>> Judge<H, (), Wit
         match load_written(alloc, given.first) {
             Ok(tables) => self.0.judge(rt, alloc, tables, &mut given.rest, page),
             Err(Unloaded::Refused(fault)) => {
-                let mut line = Text::new();
-                print_table_fault(&mut line, fault);
-                page.tell(line);
+                let mut told = Text::new();
+                print_table_fault(&mut told, fault);
+                page.tell(told);
                 Ok(Outcome::Unreadable)
             }
             Err(Unloaded::Failed(failure)) => Err(unread(failure)),
