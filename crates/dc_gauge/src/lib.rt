@@ -1,0 +1,10 @@
+//! What the times of a stream's words and of a wire's tell, in one pass and in constant memory.
+#![tactic(auto)]
+
+mod stream;
+mod timing;
+mod wire;
+
+pub use stream::StreamGauge;
+pub use timing::StreamTiming;
+pub use wire::WireGauge;
