@@ -1,0 +1,5 @@
+pub mod CaptureAnswers
+pub mod CaptureSteps
+mod Decimals
+mod FieldLemmas
+mod Naming

@@ -1,0 +1,5 @@
+-- The text of captures, and how it is read.
+pub mod TimeText
+pub mod CaptureText
+pub mod CaptureFaults
+pub mod Reading
