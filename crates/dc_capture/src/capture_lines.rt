@@ -3,7 +3,8 @@ ghost use Rattle.std.specs.Prelude.{◌≡◌, ◌≢◌, ℕ, List, Option, [],
 ghost use Rattle.dc_device.specs.Device.{IsSnapshot};
 ghost use Rattle.dc_device.specs.States.{IsCountable};
 ghost use Rattle.dc_capture.specs.CaptureText.{capture_of};
-ghost use Rattle.dc_capture.specs.Reading.{AsksFor, IsNext, IsOfLine, NeedsMore, ReadsNext, Stays, StopsBehind, Tells, ahead, at_start, failures_at, stop_behind, stop_of};
+ghost use Rattle.dc_capture.specs.Reading.{AsksFor, IsNext, IsOfLine, NeedsMore, ReadsNext, Stays, StopsBehind, Tells};
+ghost use Rattle.dc_capture.specs.Reading.{ahead, at_start, failures_at, stop_behind, stop_of};
 
 use crate::fault::{CaptureFault, CaptureRule, CaptureStop};
 use crate::line::{CapturedWord, read_line};

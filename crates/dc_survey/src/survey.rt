@@ -79,8 +79,8 @@ impl Survey {
         requires there { bus < length tables.now.buses }
         ensures sized { IsSized tables.now self.new }
         ensures timings { self.new.timings ≡ self.old.timings }
-        ensures surveys { (capture : List (ℕ × (ℕ × ℕ))) → Surveys tables.now capture self.old → last_time (ticks_of capture) ≤ time → length capture < 2 ^ 64 - 1
-            → Surveys tables.now (capture ++ (time, (bus, word)) ∷ []) self.new }
+        ensures surveys { (capture : List (ℕ × (ℕ × ℕ))) → Surveys tables.now capture self.old → last_time (ticks_of capture) ≤ time
+            → length capture < 2 ^ 64 - 1 → Surveys tables.now (capture ++ (time, (bus, word)) ∷ []) self.new }
     {
         tables.valid();
         let line = self.line.saturating_add(1);
