@@ -15,7 +15,8 @@ TracesKeepBudgets t = (from : ℕ) (capture : List (ℕ × (ℕ × ℕ))) → Ke
 
 -- Where times never fall, what it brings is the capture: each word in its tick, in order
 abbrev pub TracesBringTheCapture : TableRows → Type 0
-TracesBringTheCapture t = (from : ℕ) (capture : List (ℕ × (ℕ × ℕ))) → NeverFall (ticks_of capture) → stamped ends brought 0 (traced t from capture) ≡ map (λ x. (tick_at from t.tick_us x.0, x.1)) capture
+TracesBringTheCapture t = (from : ℕ) (capture : List (ℕ × (ℕ × ℕ))) → NeverFall (ticks_of capture)
+    → stamped ends brought 0 (traced t from capture) ≡ map (λ x. (tick_at from t.tick_us x.0, x.1)) capture
 
 -- where the buses of the words are in the tables, so is each number of its events
 abbrev pub TracesAreNumbered : TableRows → Type 0
