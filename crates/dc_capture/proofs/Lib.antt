@@ -3,3 +3,4 @@ pub mod CaptureSteps
 mod Decimals
 mod FieldLemmas
 mod Naming
+mod TextRows
