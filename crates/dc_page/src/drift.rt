@@ -86,7 +86,7 @@ fn push_words(text: &mut String, ppm: u32, tick_us: u32) -> Result<(), AllocErro
     let longest = Millionths(exact.saturating_add(drift));
     write!(
         text,
-        "<h2>Clocks that drift by up to {parts} ppm</h2>\n<p>Each tick lasts from {shortest} to {longest} microseconds. Where wires and sources keep the numbers below, they keep what the promises ask of them, and the labels keep theirs. <span class='s'>All in microseconds; behind &quot;of&quot; stands what the tables say, for clocks that do not drift.</span></p>\n"
+        "<h2>Clocks that drift by up to {parts} ppm</h2>\n<p>Each tick lasts from {shortest} to {longest} microseconds. Wires and sources that keep the numbers below keep what the promises ask of them. <span class='s'>All in microseconds; behind &quot;of&quot; stands what the tables say, for clocks that do not drift.</span></p>\n"
     )
 }
 
@@ -110,7 +110,7 @@ fn push_sources(text: &mut String, sources: &[SourceDrift]) -> Result<(), AllocE
         return Ok(());
     }
     text.push_str(
-        "<table><tr><th>Source</th><th>From word to word at least</th><th>At most</th><th>Jitter</th></tr>\n",
+        "<table><tr><th>Source</th><th>From word to word at least</th><th>At most, to be live</th><th>Jitter</th></tr>\n",
     )?;
     for source in sources {
         let name = Escaped(source.name.text());
@@ -142,7 +142,7 @@ fn push_labels(text: &mut String, labels: &[LabelDrift]) -> Result<(), AllocErro
         return Ok(());
     }
     text.push_str(
-        "<table><tr><th>Label</th><th>From word to word more than</th><th>Less than</th><th>Age under</th></tr>\n",
+        "<p>Then each label keeps these:</p>\n<table><tr><th>Label</th><th>From word to word more than</th><th>Less than</th><th>Age under</th></tr>\n",
     )?;
     for label in labels {
         let name = Escaped(label.name.text());
@@ -158,10 +158,18 @@ fn push_labels(text: &mut String, labels: &[LabelDrift]) -> Result<(), AllocErro
     text.push_str("</table>\n")
 }
 
-/// Adds the section.
-pub fn push_drift(text: &mut String, tables: &Tables, drift: &Drift<'_>) -> Result<(), AllocError> {
+/// Adds the section; of labels something is promised where the certificate is accepted.
+pub fn push_drift(
+    text: &mut String,
+    tables: &Tables,
+    drift: &Drift<'_>,
+    is_accepted: bool,
+) -> Result<(), AllocError> {
     push_words(text, drift.ppm, tables.tick_us())?;
     push_wires(text, drift.wires)?;
     push_sources(text, drift.sources)?;
+    if !is_accepted {
+        return Ok(());
+    }
     push_labels(text, drift.labels)
 }

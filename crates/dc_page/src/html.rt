@@ -111,7 +111,8 @@ pub fn page(
     Ok(text)
 }
 
-/// The page on a certificate for tables as [`page`] makes it, with a section on clocks that drift behind its parts.
+/// The page on a certificate for tables as [`page`] makes it, with a section on clocks that drift behind its parts, of
+/// which labels are left out where the certificate is refused.
 ///
 /// # Errors
 /// `AllocError` where an allocation failed.
@@ -126,7 +127,7 @@ pub fn page_with_drift(
 {
     let mut text = String::new(alloc);
     push_page(alloc, &mut text, tables, certificate, fault)?;
-    push_drift(&mut text, tables, drift)?;
+    push_drift(&mut text, tables, drift, fault.is_none())?;
     text.push_str(FOOT)?;
     Ok(text)
 }
