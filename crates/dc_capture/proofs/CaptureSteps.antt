@@ -6,6 +6,7 @@ use Rattle.dc_device.specs.Lines.{Held, HoldsLine, NoFeed, ReadsOn}
 use Rattle.dc_device.specs.declared.reader.LineEnd.TheVariants.{Long, Whole}
 use Rattle.dc_device.specs.lemmas.LineLemmas.{NoFeed-append}
 use Rattle.dc_tables.specs.TableRows.{TableRows}
+use Rattle.dc_capture.specs.Ahead.{HoldsWord}
 use Rattle.dc_capture.specs.CaptureText.{Capture, ended_by, in_front, latest_after, line_word}
 use Rattle.dc_capture.specs.Reading.{Fits, IsOver, Reading, ReadsNext, Stays, StopsBehind, Tells, TellsWord, ahead, no_more, stop_behind, reported_from, capture_from}
 use Rattle.dc_capture.specs.declared.line.CapturedWord.{CapturedWord}
@@ -141,6 +142,12 @@ held_read t latest old new line whole read none (rest, e, plain, short, fits) pa
     let behind : drop (length whole + 1) (whole ++ 10 ∷ rest) ≡ rest = drop-append-add whole (10 ∷ rest) 1 in
     let left : new.bytes ≡ rest = passed ∙ ap (drop (length whole + 1)) e ∙ behind in
     inr (whole, (whole, e ∙ ap (λ (l : List ℕ). whole ++ 10 ∷ l) (sym left), ap (λ (l : List ℕ). l ++ whole) (sym none), plain, omega (arith, room)), short, says, none)
+
+-- the word of a line that stands whole among the held bytes
+pub word_read : (t : TableRows) (latest : ℕ) (old new : Held) (line : List ℕ) (word : CapturedWord) (count : ℕ) → line ≡ [] → HoldsWord t latest old word count
+    → new.bytes ≡ drop count old.bytes → count + new.room ≡ old.room → ReadsNext t latest old new line line (Some (Ok word))
+word_read t latest old new line word count none (whole, holds, long, says) passed room =
+    held_read t latest old new line whole (Ok word) none holds (passed ∙ ap (λ (n : ℕ). drop n old.bytes) (sym long)) (omega (arith, long)) (sym says)
 
 pub fits_more : (stopped : Option CaptureStop) (line line' : List ℕ) (old new : Held) (number : ℕ) → stopped ≡ None → Fits stopped line old.room number
     → ReadsOn old new line line' None → Fits stopped line' new.room number

@@ -1,7 +1,7 @@
 -- A time read digit by digit.
-use Rattle.std.proofs.Common.{◌≡◌, ℕ, ◌+◌, ◌*◌, ◌≤◌, ◌<◌, List, [], ◌∷◌, length, get_or, drop, drop_of_length-le, Option, Some, None, option_and_then, refl, sym, ap, ◌∙◌, arith}
+use Rattle.std.proofs.Common.{◌≡◌, ℕ, ◌+◌, ◌*◌, ◌≤◌, ◌<◌, List, [], ◌∷◌, ◌++◌, length, get_or, take, drop, drop_of_length-le, Option, Some, None, option_and_then, refl, sym, ap, ◌∙◌, arith}
 use Rattle.std.proofs.lemmas.Bool.{le-ltb, lt-ltb, ne_eqb}
-use Rattle.std.proofs.lemmas.List.{drop_more}
+use Rattle.std.proofs.lemmas.List.{drop_more, take_more}
 use Rattle.dc_word.specs.Digits.{digit_in}
 use Rattle.dc_capture.specs.TimeText.{decimal_behind, time_of, up_to_last}
 use Rattle.dc_capture.specs.declared.time.TheConstants.{LAST_TIME}
@@ -48,3 +48,24 @@ pub read_whole : (n i : ℕ) (text : List ℕ) → 1 ≤ length text → length 
 read_whole n i text some end small goes =
     let whole : decimal_behind 0 text ≡ Some n = sym goes ∙ ap (decimal_behind n) (drop_of_length-le text end) in
     some_text text some ∙ ap (option_and_then (λ m. up_to_last m)) whole ∙ (rw (le-ltb LAST_TIME n small) refl)
+
+-- digits that are a time
+pub whole_time : (time : ℕ) (text : List ℕ) → 1 ≤ length text → time ≤ LAST_TIME → decimal_behind 0 text ≡ Some time → time_of text ≡ Some time
+whole_time time text some small reads = some_text text some ∙ ap (option_and_then (λ m. up_to_last m)) reads ∙ (rw (le-ltb LAST_TIME time small) refl)
+
+-- one digit more
+digit-more : (n c d time : ℕ) (first : Option ℕ) (rest : ℕ → Option ℕ) (longer : ℕ → Option ℕ) → ((e : ℕ) → rest e ≡ Some time → longer e ≡ Some (time * 10 + d)) → option_and_then (λ e. rest (n * 10 + e)) first ≡ Some time
+    → option_and_then (λ e. longer (n * 10 + e)) first ≡ Some (time * 10 + d)
+digit-more n c d time None rest longer more is = absurd (cc)
+digit-more n c d time (Some e) rest longer more is = more (n * 10 + e) is
+
+decimal-push : (n time c d : ℕ) (xs : List ℕ) → decimal_behind n xs ≡ Some time → digit_in 10 c ≡ Some d → decimal_behind n (xs ++ c ∷ []) ≡ Some (time * 10 + d)
+decimal-push n time c d [] reads digit =
+    let e : n ≡ time = cc in
+    ap (option_and_then (λ d. Some (n * 10 + d))) digit ∙ ap (λ k. Some (k * 10 + d)) e
+decimal-push n time c d (x ∷ xs) reads digit =
+    digit-more n c d time (digit_in 10 x) (λ k. decimal_behind k xs) (λ k. decimal_behind k (xs ++ c ∷ [])) (λ e more. decimal-push e time c d xs more digit) reads
+
+pub digits-more : (time i c d : ℕ) (text : List ℕ) → i < length text → c ≡ get_or text i 0 → digit_in 10 c ≡ Some d → decimal_behind 0 (take i text) ≡ Some time → decimal_behind 0 (take (i + 1) text) ≡ Some (time * 10 + d)
+digits-more time i c d text there is digit reads =
+    ap (decimal_behind 0) (take_more text i 0 there ∙ ap (λ b. take i text ++ b ∷ []) (sym is)) ∙ decimal-push 0 time c d (take i text) reads digit

@@ -1,5 +1,5 @@
 -- Worked rows of capture texts, computed from the definitions.
-use Rattle.std.proofs.Common.{◌≡◌, ℕ, Some, None, List, [], ◌∷◌, ◌++◌, refl}
+use Rattle.std.proofs.Common.{◌≡◌, ℕ, Some, None, List, [], ◌∷◌, refl}
 use Rattle.std.specs.Prelude.{codes}
 use Rattle.dc_device.specs.Lines.{spelled}
 use Rattle.dc_document.specs.Names.{padded}

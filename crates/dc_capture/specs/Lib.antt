@@ -3,3 +3,4 @@ pub mod TimeText
 pub mod CaptureText
 pub mod CaptureFaults
 pub mod Reading
+pub mod Ahead

@@ -2,10 +2,12 @@
 ghost use Rattle.std.specs.Prelude.{◌≡◌, ◌≢◌, ℕ, List, Option, [], ◌+◌, ◌^◌, ◌<◌, Some, None, IfSome, IfOk, MatchOption, false};
 ghost use Rattle.dc_device.specs.Device.{IsSnapshot};
 ghost use Rattle.dc_device.specs.States.{IsCountable};
+ghost use Rattle.dc_capture.specs.Ahead.{HoldsWord};
 ghost use Rattle.dc_capture.specs.CaptureText.{capture_of};
 ghost use Rattle.dc_capture.specs.Reading.{AsksFor, IsNext, IsOfLine, NeedsMore, ReadsNext, Stays, StopsBehind, Tells};
 ghost use Rattle.dc_capture.specs.Reading.{ahead, at_start, failures_at, stop_behind, stop_of};
 
+use crate::ahead::word_ahead;
 use crate::fault::{CaptureFault, CaptureRule, CaptureStop};
 use crate::line::{CapturedWord, read_line};
 use dc_device::{Line, LineEnd, LineReader, LineWriter, Sink, Source};
@@ -32,9 +34,24 @@ fn end_inside(line: &[u8], number: u64) -> CaptureStop
     }
 }
 
+/// The word of the line that the held bytes begin with, where the last time was this, and how many of them it takes,
+/// where that is told at once.
+#[inline(always)]
+fn word_held(tables: &Tables, latest: u64, reader: &LineReader) -> Option<(CapturedWord, usize)>
+    ensures holds { IfSome result (λ held. HoldsWord tables.now latest reader.now held.0 held.1) }
+    ensures next { IfSome result (λ held. IsNext tables.now latest held.0) }
+{
+    let (word, count) = word_ahead(tables, latest, reader.held())?;
+    if count as u64 > reader.room() {
+        return None;
+    }
+    Some((word, count))
+}
+
 /// The word of the next line, or its fault, as far as the held bytes go, where the last time was this. A line is read
-/// where it stands if all of it is held; else its bytes are gathered.
-fn read_next(
+/// where it stands if all of it is held; else its bytes are gathered. It serves the lines that are not told at once.
+#[inline(never)]
+fn read_any(
     tables: &Tables,
     latest: u64,
     reader: &mut LineReader,
@@ -59,6 +76,27 @@ fn read_next(
             Some(read)
         }
     }
+}
+
+/// The word of the next line, or its fault, as far as the held bytes go, where the last time was this. A word that the
+/// held bytes tell at once is read where it stands.
+#[inline(always)]
+fn read_next(
+    tables: &Tables,
+    latest: u64,
+    reader: &mut LineReader,
+    line: &mut Line,
+) -> Option<Result<CapturedWord, CaptureRule>>
+    ensures reads { ReadsNext tables.now latest reader.old reader.new line.old.items line.new.items result }
+    ensures next { IfSome result (λ read. IfOk read (λ x. IsNext tables.now latest x)) }
+{
+    if line.is_empty() {
+        if let Some((word, count)) = word_held(tables, latest, reader) {
+            reader.pass(count);
+            return Some(Ok(word));
+        }
+    }
+    read_any(tables, latest, reader, line)
 }
 
 /// Reads the lines of a capture in the bytes that it holds, and pulls where its owner says so: who knows when the
@@ -112,6 +150,7 @@ impl<'t> CaptureLines<'t> {
 
     /// Tells the next word, or why there is none, as far as the held bytes go. None where they end before the line
     /// does: then pull, and call again. Once it reported why there is none, it tells that same from then on.
+    #[inline(always)]
     pub fn advance(&mut self) -> Option<Result<CapturedWord, CaptureStop>>
         ensures reported { (coming : Option (List ℕ)) →
             MatchOption result (Stays (ahead self.old coming) (ahead self.new coming))

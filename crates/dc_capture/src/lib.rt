@@ -1,6 +1,7 @@
 //! Captures: what a bus analyser wrote, a line for each word with its time and its bus.
 #![tactic(auto)]
 
+mod ahead;
 mod capture_lines;
 mod fault;
 mod fields;

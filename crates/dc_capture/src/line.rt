@@ -24,7 +24,8 @@ pub struct CapturedWord {
 }
 
 /// The number of the bus that a text names.
-fn bus_named(tables: &Tables, text: &[u8]) -> Option<usize>
+#[inline(always)]
+pub(crate) fn bus_named(tables: &Tables, text: &[u8]) -> Option<usize>
     ensures number { result ≡ number_named tables.now.names.buses text.now }
     ensures there { IfSome result (λ bus. bus < length tables.now.buses) }
 {
