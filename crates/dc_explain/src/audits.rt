@@ -2,25 +2,45 @@
 use crate::lines::Line;
 use crate::output::Answer;
 use crate::steps::tell_budget;
+use crate::trace::field;
 use dc_codes::{Kind, meaning_of};
 use dc_document::Name;
 use dc_keep::Kept;
 use dc_tables::Tables;
 use dc_tell::Explanation;
 use dc_tell::Value::{Number, Text, Ticks};
-use dc_word::Word;
+use dc_word::{Word, digit_in};
 
-/// The word and the bus of a line that says that a word comes.
+/// The word that a field of a line writes.
+fn word_in(field: &[u8]) -> Option<Word> {
+    let mut bits = 0u32;
+    for byte in field {
+        let Some(digit) = digit_in(16, *byte) else {
+            return None;
+        };
+        bits = bits.wrapping_shl(4) | digit;
+    }
+    Some(Word(bits))
+}
+
+/// The bus and the word of a line that says that a word comes.
 fn arrival(line: &[u8], tables: &Tables) -> Option<(usize, Word)> {
-    let text = str::from_utf8(line).ok()?;
-    let mut fields = text.split(' ');
-    if fields.next()? != "A" {
+    let (kind, _) = field(line, 0);
+    let (name, _) = field(line, 1);
+    let (word, _) = field(line, 2);
+    if kind != b"A".as_slice() {
         return None;
     }
-    let name = Name::new(fields.next()?.as_bytes())?;
-    let bus = tables.bus_named(&name)?;
-    let bits = u32::from_str_radix(fields.next()?, 16).ok()?;
-    Some((bus, Word(bits)))
+    let Some(name) = Name::new(name) else {
+        return None;
+    };
+    let Some(bus) = tables.bus_named(&name) else {
+        return None;
+    };
+    let Some(word) = word_in(word) else {
+        return None;
+    };
+    Some((bus, word))
 }
 
 /// Tells which stream sent too soon, where the line is a word of one.
@@ -66,14 +86,16 @@ pub(crate) fn tell_failing(
     if answer.verb == "budgets" && tell_budget(out, line, kept, tables) {
         return;
     }
-    let meaning = meaning_of(Kind::Audit, answer.verb);
+    let (means, mend) = match meaning_of(Kind::Audit, answer.verb) {
+        Some(meaning) => (meaning.means, meaning.mend),
+        None => ("", ""),
+    };
     let is_told = answer.verb == "sources" && tell_source(out, line, tables);
     if !is_told {
-        let means = meaning.map_or("", |it| it.means);
         out.say("in tick {}: {}", &[Number(line.tick), Text(means)]);
     }
     line.show(out, 0);
-    if let Some(meaning) = meaning {
-        out.help("{}", &[Text(meaning.mend)]);
+    if !mend.is_empty() {
+        out.help("{}", &[Text(mend)]);
     }
 }

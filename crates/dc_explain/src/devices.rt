@@ -6,18 +6,39 @@ use dc_tell::Value::Text;
 use std::alloc::Global;
 use std::io::{Error, ErrorKind};
 
+/// What to do where a call on a file or a device failed so.
+static MENDS: [(ErrorKind, &'static str); 6] = [
+    (
+        ErrorKind::NotFound,
+        "see how it is spelled, and in which folder dc429 is run: a path is taken from there",
+    ),
+    (
+        ErrorKind::PermissionDenied,
+        "let the file be read by who runs dc429",
+    ),
+    (
+        ErrorKind::IsADirectory,
+        "this is a folder: name the file in it",
+    ),
+    (
+        ErrorKind::NotADirectory,
+        "a part of the path before its last is a file, and no folder",
+    ),
+    (
+        ErrorKind::StorageFull,
+        "there is no room left where the output goes to",
+    ),
+    (ErrorKind::InvalidFilename, "the path is too long"),
+];
+
 /// What to do where a call on a file or a device failed.
 fn mend_of(kind: ErrorKind) -> &'static str {
-    match kind {
-        ErrorKind::NotFound =>
-            "see how it is spelled, and in which folder dc429 is run: a path is taken from there",
-        ErrorKind::PermissionDenied => "let the file be read by who runs dc429",
-        ErrorKind::IsADirectory => "this is a folder: name the file in it",
-        ErrorKind::NotADirectory => "a part of the path before its last is a file, and no folder",
-        ErrorKind::StorageFull => "there is no room left where the output goes to",
-        ErrorKind::InvalidFilename => "the path is too long",
-        _ => "see what the path leads to",
+    for (own, mend) in &MENDS {
+        if *own == kind {
+            return mend;
+        }
     }
+    "see what the path leads to"
 }
 
 /// Tells what kept the program from its work, and what to do.

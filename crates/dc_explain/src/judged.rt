@@ -7,8 +7,7 @@ use dc_cert::{CertFault, read_cert};
 use dc_codes::Kind;
 use dc_command::Order;
 use dc_document::BuildError;
-use dc_explain_certificate::explain_certificate;
-use dc_explain_tables::explain_tables;
+use dc_explain_unreadable::{explain_certificate, explain_tables};
 use dc_explain_verdict::{Files, explain_find, explain_verdict};
 use dc_tables::Tables;
 use dc_tell::File;
@@ -33,7 +32,7 @@ fn explain_unread_certificate(alloc: Global, file: File<'_>) -> Option<String> {
 /// Explains tables or a certificate that can't be read.
 pub(crate) fn explain_unread(alloc: Global, ran: &Ran<'_>, answer: Answer<'_>) -> Option<String> {
     let (tables, certificate) = ran.files();
-    let (told, kind) = if answer.code.starts_with('K') {
+    let (told, kind) = if answer.code.as_bytes().starts_with(b"K") {
         (
             explain_unread_certificate(alloc, certificate),
             Kind::Certificate,

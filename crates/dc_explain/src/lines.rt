@@ -1,6 +1,6 @@
 //! The lines of standard input.
 use dc_keep::Kept;
-use dc_tell::Explanation;
+use dc_tell::{Explanation, place_at};
 
 /// What standard input is called.
 pub(crate) const INPUT: &str = "<stdin>";
@@ -23,19 +23,26 @@ impl<'a> Line<'a> {
     /// Writes where the line has what was told, behind so many of its bytes.
     pub(crate) fn show(self, out: &mut Explanation, offset: usize) {
         let before = self.bytes.get(..offset).unwrap_or(b"");
-        let letters = str::from_utf8(before).map_or(offset, |text| text.chars().count());
-        let column = letters.saturating_add(1);
+        let column = match str::from_utf8(before) {
+            Ok(_) => place_at(before, offset).column,
+            Err(_) => offset.saturating_add(1),
+        };
         out.show("-->", INPUT, self.number, self.bytes, column);
     }
 }
 
 /// The line of this number, from 1, where it was kept.
 pub(crate) fn line_of(kept: &Kept, number: u64) -> Option<Line<'_>> {
-    let mut lines = kept.before.lines;
+    let text = kept.text.as_slice();
+    let mut now = kept.before.lines.saturating_add(1);
     let mut tick = kept.before.ticks;
-    for bytes in kept.text.as_slice().split(|byte| *byte == b'\n') {
-        lines = lines.saturating_add(1);
-        if lines == number {
+    let mut from = 0usize;
+    for (at, byte) in text.iter().enumerate() {
+        if *byte != b'\n' {
+            continue;
+        }
+        let bytes = text.get(from..at).unwrap_or(b"");
+        if now == number {
             return Some(Line {
                 bytes,
                 number,
@@ -43,8 +50,22 @@ pub(crate) fn line_of(kept: &Kept, number: u64) -> Option<Line<'_>> {
             });
         }
         tick = tick.saturating_add(u64::from(bytes == TICK));
+        now = now.saturating_add(1);
+        from = at.saturating_add(1);
     }
-    None
+    if now != number {
+        return None;
+    }
+    Some(Line {
+        bytes: text.get(from..).unwrap_or(b""),
+        number,
+        tick,
+    })
+}
+
+/// Whether a line is an event of this letter, with the blank behind it, and of this name.
+fn is_event(line: &[u8], letter: &[u8], name: &[u8]) -> bool {
+    line.starts_with(letter) && line.get(letter.len()..).unwrap_or(b"") == name
 }
 
 /// How many lines before a line are an event of this letter and name, from a tick on, where all of these were kept.
@@ -55,22 +76,25 @@ pub(crate) fn events_since(
     letter: &str,
     name: &str,
 ) -> Option<u64> {
-    let mut lines = kept.before.lines;
+    let text = kept.text.as_slice();
+    let mut number = kept.before.lines.saturating_add(1);
     let mut now = kept.before.ticks;
-    if lines > 0 && now >= tick {
+    if number > 1 && now >= tick {
         return None;
     }
     let mut count = 0u64;
-    for bytes in kept.text.as_slice().split(|byte| *byte == b'\n') {
-        lines = lines.saturating_add(1);
-        if lines >= line.number {
-            break;
+    let mut from = 0usize;
+    for (at, byte) in text.iter().enumerate() {
+        if *byte != b'\n' || number >= line.number {
+            continue;
         }
-        let is_one = now >= tick
-            && bytes.starts_with(letter.as_bytes())
-            && bytes.get(2..) == Some(name.as_bytes());
-        count = count.saturating_add(u64::from(is_one));
+        let bytes = text.get(from..at).unwrap_or(b"");
+        if now >= tick && is_event(bytes, letter.as_bytes(), name.as_bytes()) {
+            count = count.saturating_add(1);
+        }
         now = now.saturating_add(u64::from(bytes == TICK));
+        number = number.saturating_add(1);
+        from = at.saturating_add(1);
     }
     if now == line.tick { Some(count) } else { None }
 }

@@ -1,67 +1,109 @@
 //! The lines that a run wrote last.
+use dc_word::digit_in;
 
-/// A line that says what ended a run: a word, a code, and the words behind it.
+/// A line that says what ended a run, by its words.
 #[derive(Clone, Copy)]
-pub struct Answer<'a> {
+pub(crate) struct Answer<'a> {
     /// The first word of the line.
-    pub verb: &'a str,
+    pub(crate) verb: &'a str,
     /// The second word: a code, or what failed.
-    pub code: &'a str,
-    /// What stands behind it.
-    pub rest: &'a str,
+    pub(crate) code: &'a str,
+    /// The third word.
+    pub(crate) name: &'a str,
+    /// The last word behind the second.
+    pub(crate) last: &'a str,
 }
 
 /// The words of a line of the end of a run.
 fn answer_in(line: &str) -> Answer<'_> {
-    let (verb, behind) = line.split_once(' ').unwrap_or((line, ""));
-    let (code, rest) = behind.split_once(' ').unwrap_or((behind, ""));
-    Answer { verb, code, rest }
+    let mut answer = Answer {
+        verb: "",
+        code: "",
+        name: "",
+        last: "",
+    };
+    for (number, word) in line.split(' ').enumerate() {
+        if number == 0 {
+            answer.verb = word;
+        } else if number == 1 {
+            answer.code = word;
+        } else {
+            answer.last = word;
+        }
+        if number == 2 {
+            answer.name = word;
+        }
+    }
+    answer
+}
+
+/// Whether a line holds a piece.
+fn holds(line: &[u8], piece: &[u8]) -> bool {
+    for (at, _) in line.iter().enumerate() {
+        if line.get(at..).unwrap_or(b"").starts_with(piece) {
+            return true;
+        }
+    }
+    false
 }
 
 /// Whether a line says that something was judged and found wanting.
-fn is_failing(line: &str) -> bool {
-    line.contains(" fail at ") || line.contains(" fails at ")
-}
-
-/// The last line of a text.
-fn last_line(text: &str) -> &str {
-    let whole = text.trim_end_matches('\n');
-    match whole.rsplit_once('\n') {
-        Some((_, line)) => line,
-        None => whole,
-    }
+fn is_failing(line: &[u8]) -> bool {
+    holds(line, b" fail at ") || holds(line, b" fails at ")
 }
 
 /// Bytes of UTF-8 from the first that begins a letter on: those before it end one that was cut.
 fn whole_letters(bytes: &[u8]) -> &[u8] {
-    let from = bytes.iter().position(|byte| *byte & 0xC0 != 0x80);
-    bytes.get(from.unwrap_or(0)..).unwrap_or(b"")
+    for (from, byte) in bytes.iter().enumerate() {
+        if *byte & 0xC0 != 0x80 {
+            return bytes.get(from..).unwrap_or(b"");
+        }
+    }
+    bytes
+}
+
+/// The line of this number, from 0.
+fn line_at(text: &str, number: usize) -> &str {
+    for (at, line) in text.split('\n').enumerate() {
+        if at == number {
+            return line;
+        }
+    }
+    ""
 }
 
 /// The line that says what ended a run, of the last lines that it wrote: the first one that tells of a failing, where
-/// one does, else the last.
-pub fn answer_of(output: &[u8]) -> Option<Answer<'_>> {
-    let text = str::from_utf8(whole_letters(output)).ok()?;
-    for line in text.lines() {
-        if is_failing(line) {
+/// one does, else the last that is not empty.
+pub(crate) fn answer_of(output: &[u8]) -> Option<Answer<'_>> {
+    let Ok(text) = str::from_utf8(whole_letters(output)) else {
+        return None;
+    };
+    let mut last = 0usize;
+    for (number, line) in text.split('\n').enumerate() {
+        if is_failing(line.as_bytes()) {
             return Some(answer_in(line));
         }
+        if !line.is_empty() {
+            last = number;
+        }
     }
-    Some(answer_in(last_line(text)))
+    Some(answer_in(line_at(text, last)))
 }
 
 impl<'a> Answer<'a> {
     /// The number of the line that it names, where it names one: the last of its words.
-    pub fn line(self) -> Option<u64> {
-        let (_, number) = self.rest.rsplit_once(' ').unwrap_or(("", self.rest));
-        number.parse::<u64>().ok()
-    }
-
-    /// The first word of what stands behind the code.
-    pub fn name(self) -> &'a str {
-        match self.rest.split_once(' ') {
-            Some((name, _)) => name,
-            None => self.rest,
+    pub(crate) fn line(self) -> Option<u64> {
+        let mut number = 0u64;
+        for byte in self.last.as_bytes() {
+            let Some(digit) = digit_in(10, *byte) else {
+                return None;
+            };
+            number = number.saturating_mul(10).saturating_add(u64::from(digit));
+        }
+        if self.last.is_empty() {
+            None
+        } else {
+            Some(number)
         }
     }
 }

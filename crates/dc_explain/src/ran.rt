@@ -17,19 +17,19 @@ const STANDARD_INPUT: &str = "-";
 
 /// A run that has ended, with what was kept of it.
 #[derive(Clone, Copy)]
-pub struct Ran<'a> {
+pub(crate) struct Ran<'a> {
     /// What was asked.
-    pub order: Order<'a>,
+    pub(crate) order: Order<'a>,
     /// What it ended with.
-    pub exit: Exit,
+    pub(crate) exit: Exit,
     /// Its first file.
-    pub first: &'a Kept,
+    pub(crate) first: &'a Kept,
     /// Its second file.
-    pub second: &'a Kept,
+    pub(crate) second: &'a Kept,
     /// Standard input.
-    pub input: &'a Kept,
+    pub(crate) input: &'a Kept,
     /// What it wrote last.
-    pub output: &'a Kept,
+    pub(crate) output: &'a Kept,
 }
 
 /// The name of a file as it is told.
@@ -43,10 +43,10 @@ fn told(name: &str) -> &str {
 
 impl<'a> Ran<'a> {
     /// The names of its files, in the order in which it opens them; an empty one where it has none.
-    pub fn names(&self) -> (&'a str, &'a str) {
+    pub(crate) fn names(&self) -> (&'a str, &'a str) {
         match self.order {
             Order::Decode(_) | Order::Explain { .. } => ("", ""),
-            Order::Find { tables } | Order::Replay { tables, .. } => (told(tables), ""),
+            Order::Find { tables, .. } | Order::Replay { tables, .. } => (told(tables), ""),
             Order::Report {
                 tables,
                 certificate,
@@ -65,6 +65,7 @@ impl<'a> Ran<'a> {
             | Order::Audit {
                 tables,
                 certificate,
+                ..
             }
             | Order::Bench {
                 tables,
@@ -100,7 +101,7 @@ impl<'a> Ran<'a> {
 
 /// Explains a text that can't be read.
 fn explain_text(alloc: Global, ran: &Ran<'_>, answer: Answer<'_>) -> Option<String> {
-    if !answer.code.starts_with('E') {
+    if !answer.code.as_bytes().starts_with(b"E") {
         return explain_unread(alloc, ran, answer);
     }
     let kind = match ran.order {
@@ -140,6 +141,27 @@ fn explain(alloc: Global, ran: &Ran<'_>) -> Option<String> {
     }
 }
 
+/// What there is to say of the end of a run of which both files were kept.
+fn explain_behind(
+    alloc: Global,
+    order: Order<'_>,
+    exit: Exit,
+    files: (&Kept, &Kept),
+    notes: &Notes,
+) -> Result<Option<String>, AllocError> {
+    let input = notes.input.end(alloc)?;
+    let output = notes.output.end(alloc)?;
+    let ran = Ran {
+        order,
+        exit,
+        first: files.0,
+        second: files.1,
+        input: &input,
+        output: &output,
+    };
+    Ok(explain(alloc, &ran))
+}
+
 /// What there is to say of the end of a run, by the notes that were kept of it.
 ///
 /// # Errors
@@ -152,15 +174,5 @@ pub fn explain_end(
 ) -> Result<Option<String>, AllocError> {
     let first = notes.first.end(alloc)?;
     let second = notes.second.end(alloc)?;
-    let input = notes.input.end(alloc)?;
-    let output = notes.output.end(alloc)?;
-    let ran = Ran {
-        order,
-        exit,
-        first: &first,
-        second: &second,
-        input: &input,
-        output: &output,
-    };
-    Ok(explain(alloc, &ran))
+    explain_behind(alloc, order, exit, (&first, &second), notes)
 }

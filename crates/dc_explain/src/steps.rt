@@ -10,7 +10,9 @@ use dc_tell::Value::{Number, Several, Text, Ticks};
 
 /// The router of this name, where the tables have one.
 fn router_of<'t>(tables: &'t Tables, name: &Name) -> Option<&'t Router> {
-    let router = tables.router_named(name)?;
+    let Some(router) = tables.router_named(name) else {
+        return None;
+    };
     if router >= tables.router_count() {
         return None;
     }
@@ -19,7 +21,9 @@ fn router_of<'t>(tables: &'t Tables, name: &Name) -> Option<&'t Router> {
 
 /// The output of this name, where the tables have one.
 fn output_of<'t>(tables: &'t Tables, name: &Name) -> Option<&'t Output> {
-    let output = tables.output_named(name)?;
+    let Some(output) = tables.output_named(name) else {
+        return None;
+    };
     if output >= tables.output_count() {
         return None;
     }
@@ -86,7 +90,9 @@ fn actor_of(tables: &Tables, name: &Name) -> Option<Actor> {
             within: u64::from(row.within),
         });
     }
-    let row = output_of(tables, name)?;
+    let Some(row) = output_of(tables, name) else {
+        return None;
+    };
     Some(Actor {
         kind: "output",
         letter: "S ",
@@ -95,33 +101,19 @@ fn actor_of(tables: &Tables, name: &Name) -> Option<Actor> {
     })
 }
 
-/// Tells how many steps an actor made, where that is known, and in which ticks it owes so many.
-fn tell_made(out: &mut Explanation, actor: Actor, made: Option<u64>, first: u64, last: u64) {
-    let owed = Several(actor.steps, "step", "steps");
-    match made {
-        Some(made) => out.say("{} of the {} that it owes", &[Number(made), owed]),
-        None => out.say("fewer than the {} that it owes", &[owed]),
-    }
-    if first == last {
-        return out.say(" in tick {}", &[Number(last)]);
-    }
-    out.say(" in ticks {} to {}", &[Number(first), Number(last)])
-}
-
 /// Tells which lines help, how many of them where that is known, and what else.
 fn tell_missing(out: &mut Explanation, actor: Actor, made: Option<u64>, name: &str) {
     let missing = actor.steps.saturating_sub(made.unwrap_or(0));
-    let (letter, name) = (Text(actor.letter), Text(name));
-    match made {
-        Some(_) => out.help(
-            "put {} `{}{}` before this `T`, unless this is a recording: then the actor broke its pace",
-            &[Several(missing, "line", "lines"), letter, name],
-        ),
-        None => out.help(
-            "put lines `{}{}` before this `T`, unless this is a recording: then the actor broke its pace",
-            &[letter, name],
-        ),
-    }
+    let name = Text(name);
+    let count = if made.is_some() {
+        Several(missing, "line", "lines")
+    } else {
+        Text("lines")
+    };
+    out.help(
+        "put {} `{}{}` before this `T`, unless this is a recording: then the actor broke its pace",
+        &[count, Text(actor.letter), name],
+    );
     out.help(
         "or weaken a promise: write smaller `steps` or a greater `within` of {} `{}` in the tables",
         &[Text(actor.kind), name],
@@ -158,6 +150,21 @@ fn owing_at(line: Line<'_>, kept: &Kept, tables: &Tables) -> Option<Name> {
         }
     }
     None
+}
+
+/// Tells how many steps an actor made, where that is known, and in which ticks it owes so many.
+fn tell_made(out: &mut Explanation, actor: Actor, made: Option<u64>, first: u64, last: u64) {
+    let owed = Several(actor.steps, "step", "steps");
+    match made {
+        Some(made) => out.say("{} of the {} that it owes", &[Number(made), owed]),
+        None => out.say("fewer than the {} that it owes", &[owed]),
+    }
+    let (ticks, begin) = if first == last {
+        (" in tick {}", last)
+    } else {
+        (" in ticks {} to {}", first)
+    };
+    out.say(ticks, &[Number(begin), Number(last)]);
 }
 
 /// Tells of a router or an output that made too few steps for the tick to end.
@@ -221,7 +228,7 @@ pub(crate) fn tell_step(
     kept: &Kept,
     tables: &Tables,
 ) {
-    let Some(name) = Name::new(answer.name().as_bytes()) else {
+    let Some(name) = Name::new(answer.name.as_bytes()) else {
         return out.say("{}", &[Text(answer.code)]);
     };
     match answer.code {

@@ -2,23 +2,43 @@
 use crate::lines::Line;
 use crate::words::{tell_long, tell_no_word, tell_unended, tell_unseen};
 use dc_tables::Tables;
-use dc_tell::Explanation;
-use dc_tell::Value::{Bytes, Names, Number, Several, Text};
-use std::alloc::{AllocError, Global};
+use dc_tell::Value::{Bytes, Number, Several, Text};
+use dc_tell::{Explanation, Names, Value};
+use std::alloc::Global;
 
 /// How many events an audit reads.
 const MOST_EVENTS: u64 = 100_000;
 
 /// The field of this number, from 0, and behind how many bytes of the line it begins.
 pub(crate) fn field(line: &[u8], number: usize) -> (&[u8], usize) {
-    let mut at = 0usize;
-    for (index, field) in line.split(|byte| *byte == b' ').enumerate() {
-        if index == number {
-            return (field, at);
+    let mut index = 0usize;
+    let mut from = 0usize;
+    for (at, byte) in line.iter().enumerate() {
+        if *byte != b' ' {
+            continue;
         }
-        at = at.saturating_add(field.len()).saturating_add(1);
+        if index == number {
+            return (line.get(from..at).unwrap_or(b""), from);
+        }
+        index = index.saturating_add(1);
+        from = at.saturating_add(1);
     }
-    (b"", 0)
+    if index == number {
+        (line.get(from..).unwrap_or(b""), from)
+    } else {
+        (b"", 0)
+    }
+}
+
+/// How many fields a line has.
+fn fields_in(line: &[u8]) -> u64 {
+    let mut count = 1u64;
+    for byte in line {
+        if *byte == b' ' {
+            count = count.saturating_add(1);
+        }
+    }
+    count
 }
 
 /// Tells that a line begins with no kind of event.
@@ -52,13 +72,12 @@ fn form(kind: &[u8]) -> (&'static str, &'static str) {
 fn tell_fields(out: &mut Explanation, line: Line<'_>) {
     let (kind, _) = field(line.bytes, 0);
     let (form, what) = form(kind);
-    let count = line.bytes.split(|byte| *byte == b' ').count();
     out.say(
         "{} is written `{}`, and this line has {}",
         &[
             Text(what),
             Text(form),
-            Several(count as u64, "field", "fields"),
+            Several(fields_in(line.bytes), "field", "fields"),
         ],
     );
     line.show(out, 0);
@@ -68,42 +87,46 @@ fn tell_fields(out: &mut Explanation, line: Line<'_>) {
     );
 }
 
-/// What a kind of line names, and the names that it may have.
-fn names_for<'t>(
-    alloc: Global,
-    tables: &'t Tables,
-    kind: &[u8],
-) -> Result<(&'static str, Vec<&'t str>), AllocError> {
-    let mut names = Vec::new(alloc);
+/// What a kind of line names.
+fn named_by(kind: &[u8]) -> &'static str {
     match kind {
-        b"A" => {
-            for bus in 0..tables.bus_count() {
-                names.push(tables.bus_name(bus).as_str())?;
-            }
-            Ok(("bus", names))
-        }
-        b"R" => {
-            for router in 0..tables.router_count() {
-                names.push(tables.router_name(router).as_str())?;
-            }
-            Ok(("router", names))
-        }
-        _ => {
-            for output in 0..tables.output_count() {
-                names.push(tables.output_name(output).as_str())?;
-            }
-            Ok(("output", names))
+        b"A" => "bus",
+        b"R" => "router",
+        _ => "output",
+    }
+}
+
+/// The names that a kind of line may have.
+fn names_for<'t>(alloc: Global, tables: &'t Tables, kind: &[u8]) -> Names<'t> {
+    let mut names = Names::new(alloc);
+    let (is_bus, is_router) = (kind == b"A".as_slice(), kind == b"R".as_slice());
+    for bus in 0..tables.bus_count() {
+        if is_bus {
+            names.add(tables.bus_name(bus).as_str());
         }
     }
+    for router in 0..tables.router_count() {
+        if is_router {
+            names.add(tables.router_name(router).as_str());
+        }
+    }
+    for output in 0..tables.output_count() {
+        if !is_bus && !is_router {
+            names.add(tables.output_name(output).as_str());
+        }
+    }
+    names
 }
 
 /// Tells that a line names what is not in the tables, and which name was meant, or which there are.
 fn tell_name(alloc: Global, out: &mut Explanation, line: Line<'_>, tables: &Tables) {
     let (kind, _) = field(line.bytes, 0);
     let (name, at) = field(line.bytes, 1);
-    let Ok((what, names)) = names_for(alloc, tables, kind) else {
+    let what = named_by(kind);
+    let names = names_for(alloc, tables, kind);
+    if names.is_lost() {
         return out.lose();
-    };
+    }
     out.say(
         "in tick {}: the tables have no {} `",
         &[Number(line.tick), Text(what)],
@@ -120,7 +143,7 @@ fn tell_name(alloc: Global, out: &mut Explanation, line: Line<'_>, tables: &Tabl
         }
         None => {
             out.help("of this kind there are: ", &[]);
-            out.put(Names(names.as_slice()))
+            out.put(Value::Names(names.as_slice()))
         }
     }
 }

@@ -11,37 +11,40 @@ struct Unseen {
     mend: &'static str,
 }
 
+/// How many bytes of a line stand before the first that is this one; all where none is.
+fn before(line: &[u8], wanted: u8) -> usize {
+    for (at, byte) in line.iter().enumerate() {
+        if *byte == wanted {
+            return at;
+        }
+    }
+    line.len()
+}
+
 /// What of a line is not seen and does not belong there.
 fn unseen_in(line: &[u8]) -> Option<Unseen> {
-    if line.starts_with(b"\xEF\xBB\xBF") {
-        return Some(Unseen {
-            at: 0,
-            what: "begins with a byte order mark",
-            mend: "save the text as UTF-8 without a byte order mark",
-        });
-    }
-    if line.ends_with(b"\r") {
-        return Some(Unseen {
-            at: line.len().saturating_sub(1),
-            what: "ends in a carriage return and a line feed",
-            mend: "lines end in a line feed alone: convert them all by `tr -d '\\r' < OLD > NEW`",
-        });
-    }
-    if let Some(at) = line.iter().position(|byte| *byte == b'\t') {
-        return Some(Unseen {
-            at,
-            what: "has a tab",
-            mend: "part the fields by one blank",
-        });
-    }
-    if line.ends_with(b" ") {
-        return Some(Unseen {
-            at: line.len().saturating_sub(1),
-            what: "has a blank at its end",
-            mend: "take the blank out",
-        });
-    }
-    None
+    let tab = before(line, b'\t');
+    let last = line.len().saturating_sub(1);
+    let (at, what, mend) = if line.starts_with(b"\xEF\xBB\xBF") {
+        (
+            0,
+            "begins with a byte order mark",
+            "save the text as UTF-8 without a byte order mark",
+        )
+    } else if line.ends_with(b"\r") {
+        (
+            last,
+            "ends in a carriage return and a line feed",
+            "lines end in a line feed alone: convert them all by `tr -d '\\r' < OLD > NEW`",
+        )
+    } else if tab < line.len() {
+        (tab, "has a tab", "part the fields by one blank")
+    } else if line.ends_with(b" ") {
+        (last, "has a blank at its end", "take the blank out")
+    } else {
+        return None;
+    };
+    Some(Unseen { at, what, mend })
 }
 
 /// Tells what of a line is not seen and does not belong there, where there is such.
@@ -57,37 +60,36 @@ pub(crate) fn tell_unseen(out: &mut Explanation, line: Line<'_>) -> bool {
 
 /// How many of the first bytes are hexadecimal digits.
 fn digits_in(bytes: &[u8]) -> usize {
-    bytes
-        .iter()
-        .take_while(|byte| byte.is_ascii_hexdigit())
-        .count()
+    for (at, byte) in bytes.iter().enumerate() {
+        if !byte.is_ascii_hexdigit() {
+            return at;
+        }
+    }
+    bytes.len()
 }
 
 /// Tells why a piece of a line, from this byte on, is no word.
 pub(crate) fn tell_no_word(out: &mut Explanation, line: Line<'_>, from: usize) {
     let piece = line.bytes.get(from..).unwrap_or(b"");
-    let token = Bytes(piece);
     let digits = digits_in(piece);
-    let mut at = from;
-    if piece.is_empty() {
-        out.say("there is no word: the line is empty", &[]);
+    let is_other = digits < piece.len();
+    let sentence = if piece.is_empty() {
+        "there is no word: the line is empty"
     } else if piece.starts_with(b"0x") || piece.starts_with(b"0X") {
-        out.say("`{}` is no word: it is written without `0x`", &[token]);
-    } else if digits < piece.len() {
-        at = from.saturating_add(digits);
-        out.say(
-            "`{}` is no word: it has what is no hexadecimal digit",
-            &[token],
-        );
+        "`{}` is no word: it is written without `0x`"
+    } else if is_other {
+        "`{}` is no word: it has what is no hexadecimal digit"
     } else {
-        out.say(
-            "`{}` is no word: it has {}, and a word has 8",
-            &[
-                token,
-                Several(digits as u64, "hexadecimal digit", "hexadecimal digits"),
-            ],
-        );
-    }
+        "`{}` is no word: it has {}, and a word has 8"
+    };
+    let count = Several(digits as u64, "hexadecimal digit", "hexadecimal digits");
+    out.say(sentence, &[Bytes(piece), count]);
+    let is_marked = piece.starts_with(b"0x") || piece.starts_with(b"0X");
+    let at = if is_other && !is_marked {
+        from.saturating_add(digits)
+    } else {
+        from
+    };
     line.show(out, at);
     out.help(
         "a word of 32 bits is written as 8 hexadecimal digits, as 600000C1",

@@ -2,15 +2,13 @@
 //! with its shape. No program reads it, and no clause speaks of it but that it ends and is safe.
 #![tactic(auto)]
 
-mod document;
 mod keys;
 mod refused;
 mod shape;
 mod values;
 mod wanted;
 
-pub use document::{tell_bytes, tell_length, tell_other};
-pub use keys::{Wanted, key_of};
+pub use keys::{Sort, Wanted, key_of};
 pub use refused::{Fact, Refused};
 pub use shape::{tell_absent, tell_no_table, tell_unknown, tell_version};
 pub use values::{Misfit, number};

@@ -1,8 +1,10 @@
 //! A text that was refused, and what is told of it.
-use crate::keys::{Wanted, keys_of};
+use crate::keys::{Sort, keys_of};
 use crate::values::{is_spelled, number};
-use dc_layout::{Form, Key, Kind, Layout, Span, called, naming, unquoted};
-use dc_tell::{Explanation, File, Value, place_at};
+use dc_tell::{
+    Explanation, File, Form, Key, Kind, Layout, Names, Span, Value, called, naming, place_at,
+    unquoted,
+};
 use std::alloc::Global;
 
 /// A text that was refused, the table of it that has the fault, and what is told.
@@ -41,6 +43,8 @@ pub enum Fact {
     Place(usize, &'static str),
     /// Where a piece of the text stands, in the same way.
     Here(Span),
+    /// Whether the line is told that begins with its hole.
+    If(bool),
 }
 
 impl<'a> Refused<'a> {
@@ -92,25 +96,21 @@ impl<'a> Refused<'a> {
     }
 
     /// The names of the tables of a kind.
-    pub fn names(&mut self, kind: Kind) -> Vec<&'a str> {
-        match self.layout.names(self.alloc, kind) {
-            Some(names) => names,
-            None => {
-                self.out.lose();
-                Vec::new(self.alloc)
-            }
+    pub fn names(&mut self, kind: Kind) -> Names<'a> {
+        let names = self.layout.names(self.alloc, kind);
+        if names.is_lost() {
+            self.out.lose();
         }
+        names
     }
 
     /// The names of the keys of the table with the fault.
-    pub fn keys(&mut self) -> Vec<&'static str> {
-        match keys_of(self.alloc, self.kind(self.row), self.is_policed()) {
-            Some(names) => names,
-            None => {
-                self.out.lose();
-                Vec::new(self.alloc)
-            }
+    pub fn keys(&mut self) -> Names<'static> {
+        let names = keys_of(self.alloc, self.kind(self.row), self.is_policed());
+        if names.is_lost() {
+            self.out.lose();
         }
+        names
     }
 
     /// Writes a table by its kind, its number and its name; a parameter has its label and its code for one.
@@ -124,7 +124,7 @@ impl<'a> Refused<'a> {
             self.out.say(kind, &[]);
             return;
         }
-        let name = if is_spelled(Wanted::Name, name) {
+        let name = if is_spelled(Sort::Name, name) {
             str::from_utf8(name).unwrap_or("")
         } else {
             ""
@@ -138,8 +138,7 @@ impl<'a> Refused<'a> {
     fn put_codes(&mut self, row: usize) {
         let label = self.layout.value(row, "label");
         let equipment = self.layout.value(row, "equipment");
-        let is_spelled = is_spelled(Wanted::Label, label)
-            && is_spelled(Wanted::Equipment, equipment);
+        let is_spelled = is_spelled(Sort::Label, label) && is_spelled(Sort::Equipment, equipment);
         if self.kind(row) == Kind::Parameter && is_spelled {
             let codes = [Value::Brief(label), Value::Brief(equipment)];
             self.out.say(" (label {}, equipment {})", &codes);
@@ -181,27 +180,32 @@ impl<'a> Refused<'a> {
                 self.out.at(self.file, place);
             }
             Fact::Here(span) => self.out.at(self.file, span.from),
+            Fact::If(_) => {}
         }
     }
 
     /// Goes on in the explanation with a sentence, in which each `{}` is a hole for the next fact; behind a line feed it
-    /// begins a line of its own, as `help: ..`.
+    /// begins a line of its own, as `help: ..`. A line that begins with a hole for `If` is told where that says so.
     pub fn say(&mut self, sentence: &'static str, facts: &[Fact]) {
         let mut next = 0usize;
         for (number, line) in sentence.split("\n").enumerate() {
-            if number != 0 {
+            let is_guarded = line.as_bytes().starts_with(b"{}");
+            let is_told = !is_guarded || !matches!(facts.get(next), Some(Fact::If(false)));
+            if number != 0 && is_told {
                 self.out.end_line();
-                self.out.say("   = ", &[]);
+                self.out.put(Value::Text("   = "));
             }
             for (hole, piece) in line.split("{}").enumerate() {
                 if hole != 0 {
                     if let Some(fact) = facts.get(next) {
-                        self.put(*fact);
+                        if is_told {
+                            self.put(*fact);
+                        }
                     }
                     next = next.saturating_add(1);
                 }
-                if !piece.is_empty() {
-                    self.out.say(piece, &[]);
+                if is_told && !piece.is_empty() {
+                    self.out.put(Value::Text(piece));
                 }
             }
         }
@@ -209,7 +213,7 @@ impl<'a> Refused<'a> {
 }
 
 /// Where a key is shown: at its value, or at itself where it heads tables.
-pub fn place_of(key: Key) -> usize {
+pub(crate) fn place_of(key: Key) -> usize {
     if key.form == Form::Value {
         key.value.from
     } else {
@@ -218,6 +222,6 @@ pub fn place_of(key: Key) -> usize {
 }
 
 /// A key without the quotes round it.
-pub fn name_of(refused: &Refused<'_>, key: Key) -> Span {
+pub(crate) fn name_of(refused: &Refused<'_>, key: Key) -> Span {
     unquoted(key.name, refused.layout.text)
 }

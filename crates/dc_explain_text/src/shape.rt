@@ -1,17 +1,18 @@
 //! Keys that are unknown or absent, and what stands in the place of a table.
-use crate::keys::{Wanted, key_of, other_with};
+use crate::keys::{Sort, key_of, other_with};
 use crate::refused::{Fact, Refused, name_of};
 use crate::wanted::tell_wanted;
-use dc_layout::{Form, Key, Kind, Span, called, is_of_certificate};
-use dc_tell::Value;
+use dc_tell::{Form, Key, Kind, Span, Value, called, is_of_certificate};
 
 /// The first key of the table with the fault that is unknown.
 fn unknown_key(refused: &Refused<'_>) -> Option<Key> {
     let kind = refused.kind(refused.row);
     let is_policed = refused.is_policed();
     for key in refused.layout.keys.as_slice() {
-        let is_own = key.row == Some(refused.row);
-        if is_own && key_of(kind, refused.layout.bare(key.name), is_policed).is_none() {
+        if key.row != Some(refused.row) {
+            continue;
+        }
+        if key_of(kind, refused.layout.bare(key.name), is_policed).is_none() {
             return Some(*key);
         }
     }
@@ -42,19 +43,25 @@ static ELSEWHERE: [(Kind, bool, &'static str); 4] = [
     ),
 ];
 
-/// Writes what to do with a key that another kind of table has.
-fn tell_elsewhere(refused: &mut Refused<'_>, key: Key, other: Kind) {
-    let is_list = key.form != Form::Value;
+/// What to do with a key that another kind of table has.
+fn elsewhere(other: Kind, is_list: bool) -> &'static str {
     for (kind, is_of_lists, sentence) in &ELSEWHERE {
         if *kind == other && *is_of_lists == is_list {
-            let name = name_of(refused, key);
-            return refused.say(sentence, &[Fact::Piece(name)]);
+            return sentence;
         }
     }
+    ""
+}
+
+/// Writes what to do with a key that another kind of table has.
+fn tell_elsewhere(refused: &mut Refused<'_>, key: Key, other: Kind) {
+    let sentence = elsewhere(other, key.form != Form::Value);
     let (_, article) = called(other);
+    let name = name_of(refused, key);
+    refused.say(sentence, &[Fact::Piece(name)]);
     refused.say(
-        "\nhelp: {} has this key: write it in one, or take it out",
-        &[Fact::Word(article)],
+        "\n{}help: {} has this key: write it in one, or take it out",
+        &[Fact::If(sentence.is_empty()), Fact::Word(article)],
     );
 }
 
@@ -118,12 +125,14 @@ pub fn tell_unknown(refused: &mut Refused<'_>) -> bool {
     true
 }
 
-/// The first key that the table with the fault lacks.
-fn lacked(refused: &mut Refused<'_>) -> Option<&'static str> {
+/// The first of these keys that the table with the fault lacks.
+fn lacked(refused: &Refused<'_>, names: &[&'static str]) -> Option<&'static str> {
     let is_top = refused.kind(refused.row) == Kind::Top;
-    for name in refused.keys().as_slice() {
-        let may_lack = is_top && *name != "version" && *name != "tick_us";
-        if !may_lack && refused.layout.key(refused.row, name.as_bytes()).is_none() {
+    for name in names {
+        if is_top && *name != "version" && *name != "tick_us" {
+            continue;
+        }
+        if refused.layout.key(refused.row, name.as_bytes()).is_none() {
             return Some(*name);
         }
     }
@@ -135,7 +144,10 @@ fn holders(refused: &Refused<'_>, key: &str, value: &[u8]) -> u64 {
     let kind = refused.kind(refused.row);
     let mut count = 0u64;
     for (row, it) in refused.layout.rows.iter().enumerate() {
-        if it.kind == kind && row != refused.row && refused.layout.value(row, key) == value {
+        if it.kind != kind || row == refused.row {
+            continue;
+        }
+        if refused.layout.value(row, key) == value {
             count = count.saturating_add(1);
         }
     }
@@ -200,8 +212,10 @@ fn tell_usual(refused: &mut Refused<'_>, key: &'static str) {
 /// Where a key of the top stands below a heading.
 fn misplaced(refused: &Refused<'_>, name: &str) -> Option<Span> {
     for key in refused.layout.keys.as_slice() {
-        let is_it = refused.layout.bare(key.name) == name.as_bytes() && key.form == Form::Value;
-        if key.row != Some(0) && is_it {
+        if key.row == Some(0) || key.form != Form::Value {
+            continue;
+        }
+        if refused.layout.bare(key.name) == name.as_bytes() {
             return Some(key.name);
         }
     }
@@ -219,13 +233,19 @@ fn tell_misplaced(refused: &mut Refused<'_>, name: &'static str) {
     );
 }
 
+/// Whether tables have the same at a key that wants such a value, more often than not.
+fn has_usual(sort: Sort) -> bool {
+    sort == Sort::Number || sort == Sort::Word || sort == Sort::Truth
+}
+
 /// Tells of a key that is not there.
 pub fn tell_absent(refused: &mut Refused<'_>) -> bool {
-    let Some(name) = lacked(refused) else {
+    let names = refused.keys();
+    let Some(name) = lacked(refused, names.as_slice()) else {
         return false;
     };
     let kind = refused.kind(refused.row);
-    let Some((wanted, meaning)) = key_of(kind, name.as_bytes(), true) else {
+    let Some(wanted) = key_of(kind, name.as_bytes(), true) else {
         return false;
     };
     refused.say(
@@ -235,14 +255,11 @@ pub fn tell_absent(refused: &mut Refused<'_>) -> bool {
             Fact::Word(name),
             Fact::Place(refused.row, ""),
             Fact::Word(name),
-            Fact::Word(meaning),
+            Fact::Word(wanted.meaning),
         ],
     );
     tell_wanted(refused, wanted);
-    if matches!(
-        wanted,
-        Wanted::Number(_, _, _) | Wanted::Word(_) | Wanted::Truth
-    ) {
+    if has_usual(wanted.sort) {
         tell_usual(refused, name);
     }
     if kind == Kind::Top {

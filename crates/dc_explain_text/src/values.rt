@@ -1,5 +1,5 @@
 //! Whether what stands at a key is what is wanted there.
-use crate::keys::Wanted;
+use crate::keys::{Sort, Wanted};
 
 /// What is wrong with a value.
 #[derive(Clone, Copy, PartialEq, Eq)]
@@ -18,11 +18,13 @@ const GREATEST: u64 = 4_294_967_295;
 /// What a digit stands for, 16 where it is none.
 fn digit(byte: u8) -> u64 {
     let low = u64::from(byte & 0x0F);
-    match byte {
-        b'0'..=b'9' => low,
-        b'a'..=b'f' | b'A'..=b'F' => low.saturating_add(9),
-        _ => 16,
+    if byte.is_ascii_digit() {
+        return low;
     }
+    if byte.is_ascii_hexdigit() {
+        return low.saturating_add(9);
+    }
+    16
 }
 
 /// The number that digits of a base write; one that is too great is the greatest.
@@ -69,54 +71,60 @@ fn is_within(value: &[u8], least: u64, most: u64) -> bool {
 }
 
 /// Whether a value is written as a text.
-pub fn is_text(value: &[u8]) -> bool {
+pub(crate) fn is_text(value: &[u8]) -> bool {
     matches!(value.first(), Some(b'"' | b'\''))
 }
 
-/// Whether a value is of the kind that is wanted.
-fn fits_kind(wanted: Wanted, value: &[u8]) -> bool {
-    match wanted {
-        Wanted::Number(_, _, _) => is_number(value),
-        Wanted::Count => is_number(value) && is_within(value, 0, GREATEST),
-        Wanted::Sdi => is_number(value) || is_text(value),
-        Wanted::Truth => matches!(value, b"true" | b"false"),
-        Wanted::Names(_, _) | Wanted::Offsets | Wanted::Tables(_, _) | Wanted::List => value.first()
-            == Some(&b'['),
-        Wanted::Name | Wanted::Label | Wanted::Equipment | Wanted::Word(_) => is_text(value),
+/// Whether a value is a list in brackets.
+fn is_list(value: &[u8]) -> bool {
+    value.first() == Some(&b'[')
+}
+
+/// Whether a value is of the sort that is wanted.
+fn fits_sort(sort: Sort, value: &[u8]) -> bool {
+    match sort {
+        Sort::Number => is_number(value),
+        Sort::Count => is_within(value, 0, GREATEST),
+        Sort::Sdi => is_number(value) || is_text(value),
+        Sort::Truth => value == b"true".as_slice() || value == b"false".as_slice(),
+        Sort::Names | Sort::Offsets | Sort::Tables | Sort::List => is_list(value),
+        Sort::Name | Sort::Label | Sort::Equipment | Sort::Word => is_text(value),
     }
 }
 
 /// Whether a number is in its range; a text is in each.
 fn fits_range(wanted: Wanted, value: &[u8]) -> bool {
-    match wanted {
-        Wanted::Number(least, most, _) => is_within(value, least, most),
-        Wanted::Sdi => is_text(value) || is_within(value, 0, 3),
+    match wanted.sort {
+        Sort::Number => is_within(value, wanted.least, wanted.most),
+        Sort::Sdi => is_text(value) || is_within(value, wanted.least, wanted.most),
         _ => true,
     }
 }
 
 /// Whether a byte may stand in a text that is wanted.
-fn may_have(wanted: Wanted, byte: u8) -> bool {
-    match wanted {
-        Wanted::Label => matches!(byte, b'0'..=b'7'),
-        Wanted::Equipment => byte.is_ascii_hexdigit(),
-        _ => byte.is_ascii_alphanumeric() || matches!(byte, b'_' | b'-'),
+fn may_have(sort: Sort, byte: u8) -> bool {
+    if sort == Sort::Label {
+        return matches!(byte, b'0'..=b'7');
     }
+    if sort == Sort::Equipment {
+        return byte.is_ascii_hexdigit();
+    }
+    byte.is_ascii_alphanumeric() || matches!(byte, b'_' | b'-')
 }
 
 /// How many bytes of a text may stand there, before the first that may not; nothing where all may.
-pub fn wrong_at(wanted: Wanted, text: &[u8]) -> Option<usize> {
+pub(crate) fn wrong_at(sort: Sort, text: &[u8]) -> Option<usize> {
     for (at, byte) in text.iter().enumerate() {
-        if !may_have(wanted, *byte) {
+        if !may_have(sort, *byte) {
             return Some(at);
         }
     }
     None
 }
 
-/// Whether a text is one of these words.
-fn is_among(text: &[u8], words: &[&str]) -> bool {
-    for word in words {
+/// Whether a text is one of these words, which are parted by commas.
+fn is_among(text: &[u8], words: &str) -> bool {
+    for word in words.split(", ") {
         if word.as_bytes() == text {
             return true;
         }
@@ -124,36 +132,51 @@ fn is_among(text: &[u8], words: &[&str]) -> bool {
     false
 }
 
+/// Whether a text is a name, a label or an equipment code.
+pub(crate) fn is_spelled(sort: Sort, text: &[u8]) -> bool {
+    if wrong_at(sort, text).is_some() {
+        return false;
+    }
+    match sort {
+        Sort::Name => 1 <= text.len() && text.len() <= 16,
+        Sort::Label => {
+            text.len() == 3 && text.first() <= Some(&b'3') && text != b"000".as_slice()
+        }
+        _ => text.len() == 3,
+    }
+}
+
 /// Whether a text is in the spelling that is wanted.
-pub fn is_spelled(wanted: Wanted, text: &[u8]) -> bool {
-    let fits = wrong_at(wanted, text).is_none();
-    match wanted {
-        Wanted::Name => fits && 1 <= text.len() && text.len() <= 16,
-        Wanted::Label => fits
-            && text.len() == 3
-            && text.first() <= Some(&b'3')
-            && text != b"000".as_slice(),
-        Wanted::Equipment => fits && text.len() == 3,
-        Wanted::Word(words) => is_among(text, words),
-        Wanted::Sdi => text == b"any".as_slice(),
+fn fits_spelling(wanted: Wanted, text: &[u8]) -> bool {
+    match wanted.sort {
+        Sort::Name | Sort::Label | Sort::Equipment => is_spelled(wanted.sort, text),
+        Sort::Word => is_among(text, wanted.what),
+        Sort::Sdi => text == b"any".as_slice(),
         _ => true,
     }
 }
 
 /// Whether a value, and what it says without its quotes, keeps a rule.
-pub fn keeps(rule: Misfit, wanted: Wanted, value: &[u8], bare: &[u8]) -> bool {
+pub(crate) fn keeps(rule: Misfit, wanted: Wanted, value: &[u8], bare: &[u8]) -> bool {
     match rule {
-        Misfit::Kind => fits_kind(wanted, value),
+        Misfit::Kind => fits_sort(wanted.sort, value),
         Misfit::Range => fits_range(wanted, value),
-        Misfit::Spelling => !is_text(value) || is_spelled(wanted, bare),
+        Misfit::Spelling => !is_text(value) || fits_spelling(wanted, bare),
     }
 }
 
 /// What is wanted of the members of a list, where they are no tables.
-pub fn member_of(wanted: Wanted) -> Option<Wanted> {
-    match wanted {
-        Wanted::Names(_, _) => Some(Wanted::Name),
-        Wanted::Offsets => Some(Wanted::Number(0, 99_999, "ticks")),
-        _ => None,
-    }
+pub(crate) fn member_of(wanted: Wanted) -> Option<Wanted> {
+    let (sort, most, what) = match wanted.sort {
+        Sort::Names => (Sort::Name, 0, ""),
+        Sort::Offsets => (Sort::Number, 99_999, "ticks"),
+        _ => return None,
+    };
+    Some(Wanted {
+        sort,
+        least: 0,
+        most,
+        what,
+        meaning: wanted.meaning,
+    })
 }

@@ -1,7 +1,6 @@
 //! Labels whose words may be too old: C10, C11 and C12.
-
 use crate::fact::Fact;
-use crate::fact::Fact::{Name, Number, Place, Range, Tick, Ticks};
+use crate::fact::Fact::{If, Name, Number, Place, Range, Tick, Ticks};
 use crate::labels::{Aging, silence};
 use crate::teller::Teller;
 use crate::ways::{mended_at, tell_no_shorter_delay, tell_shorter_delay};
@@ -36,19 +35,15 @@ fn tell_limit_ways(told: &mut Teller<'_>, own: &Aging) {
     let shortest = silence(&own.rarest);
     let shorter = own.limit.saturating_sub(own.slowest.delay);
     tell_shorter_delay(told, queue, most);
-    if shortest <= shorter {
-        told.say(
-            "\nhelp: write a `stale` of {} ticks",
-            &[Range(shortest, shorter)],
-        );
-    }
+    told.say(
+        "\n{}help: write a `stale` of {} ticks",
+        &[If(shortest <= shorter), Range(shortest, shorter)],
+    );
     tell_no_shorter_delay(told, queue, most);
-    if least <= u64::from(GREATEST_AGE) {
-        told.say(
-            "\nweaker: write an `age` of at least {} in the tables: words may then be so old",
-            &[Ticks(least)],
-        );
-    }
+    told.say(
+        "\n{}weaker: write an `age` of at least {} in the tables: words may then be so old",
+        &[If(least <= u64::from(GREATEST_AGE)), Ticks(least)],
+    );
 }
 
 /// Where to mend an age: in the certificate where one is accepted, or where the bus of the source may be quick enough.
@@ -145,22 +140,18 @@ pub(crate) fn tell_stale(told: &mut Teller<'_>, code: &str, own: &Aging) {
 /// of the age.
 fn tell_stale_ways(told: &mut Teller<'_>, own: &Aging) {
     let left = own.stale.saturating_sub(own.rarest.delay);
-    if left >= own.rarest.minimum {
-        let most = left.saturating_mul(u64::from(told.tables.tick_us()));
-        told.say(
-            "\nasked: write a `max_us` of at most {} microseconds in the parameter of `{}`",
-            &[Number(most), Name(Section::Stream, own.rarest.number)],
-        );
-    }
+    let most = left.saturating_mul(u64::from(told.tables.tick_us()));
     let wanted = silence(&own.rarest);
-    if wanted <= u64::from(LONGEST_STALE) {
-        told.say(
-            "\nweaker: write a `stale` of at least {}: words may then be {} old, and the tables allow {} (`age`)",
-            &[
-                Ticks(wanted),
-                Number(wanted.saturating_add(own.slowest.delay)),
-                Number(own.limit),
-            ],
-        );
-    }
+    told.say(
+        "\n{}asked: write a `max_us` of at most {} microseconds in the parameter of `{}`\n{}weaker: write a `stale` of at least {}: words may then be {} old, and the tables allow {} (`age`)",
+        &[
+            If(left >= own.rarest.minimum),
+            Number(most),
+            Name(Section::Stream, own.rarest.number),
+            If(wanted <= u64::from(LONGEST_STALE)),
+            Ticks(wanted),
+            Number(wanted.saturating_add(own.slowest.delay)),
+            Number(own.limit),
+        ],
+    );
 }

@@ -1,5 +1,4 @@
 //! The numbers of a queue by its bounds.
-
 use dc_bound::{ArrivalBound, LONGEST_SPAN, ServiceBound};
 use dc_busy::{LONGEST_WINDOW, closes, least_window};
 use dc_find::Queue;
@@ -39,30 +38,16 @@ fn counted<A: ArrivalBound, S: ServiceBound>(
 
 /// The same of a queue of the tables.
 pub(crate) fn counts_of(tables: &Tables, queue: Queue, ticks: u32, served: u32) -> Counts {
-    let none = Counts { come: 0, served: 0 };
     match queue {
-        Queue::Input(bus) => {
-            if bus >= tables.bus_count() {
-                return none;
-            }
-            counted(
-                &tables.bus_bound(bus),
-                &tables.bus_service(bus),
-                ticks,
-                served,
-            )
+        Queue::Input(bus) if bus < tables.bus_count() => {
+            let (bound, service) = (tables.bus_bound(bus), tables.bus_service(bus));
+            counted(&bound, &service, ticks, served)
         }
-        Queue::Output(output) => {
-            if output >= tables.output_count() {
-                return none;
-            }
-            counted(
-                &tables.output_bound(output),
-                &tables.output_service(output),
-                ticks,
-                served,
-            )
+        Queue::Output(output) if output < tables.output_count() => {
+            let (bound, service) = (tables.output_bound(output), tables.output_service(output));
+            counted(&bound, &service, ticks, served)
         }
+        _ => Counts { come: 0, served: 0 },
     }
 }
 
@@ -79,10 +64,7 @@ pub(crate) fn closed_by<A: ArrivalBound, S: ServiceBound>(
     let Some(window) = found else {
         return None;
     };
-    if window < 1 || window > LONGEST_WINDOW {
-        return None;
-    }
-    if !closes(arrivals, service, window) {
+    if window < 1 || window > LONGEST_WINDOW || !closes(arrivals, service, window) {
         return None;
     }
     Some(Closing {
@@ -94,29 +76,21 @@ pub(crate) fn closed_by<A: ArrivalBound, S: ServiceBound>(
 /// The same of a queue of the tables.
 pub(crate) fn closing_of(tables: &Tables, queue: Queue, claimed: Option<u32>) -> Option<Closing> {
     match queue {
-        Queue::Input(bus) => {
-            if bus >= tables.bus_count() {
-                return None;
-            }
+        Queue::Input(bus) if bus < tables.bus_count() => {
             closed_by(&tables.bus_bound(bus), &tables.bus_service(bus), claimed)
         }
-        Queue::Output(output) => {
-            if output >= tables.output_count() {
-                return None;
-            }
-            closed_by(
-                &tables.output_bound(output),
-                &tables.output_service(output),
-                claimed,
-            )
+        Queue::Output(output) if output < tables.output_count() => {
+            let (bound, service) = (tables.output_bound(output), tables.output_service(output));
+            closed_by(&bound, &service, claimed)
         }
+        _ => None,
     }
 }
 
-/// The least delay of a queue in the least window that closes; `None` where none does.
-pub(crate) fn least_delay_of(tables: &Tables, queue: Queue) -> Option<u64> {
+/// The least delay of a queue in the least window that closes; the greatest number where none does.
+pub(crate) fn least_delay_of(tables: &Tables, queue: Queue) -> u64 {
     match closing_of(tables, queue, None) {
-        None => None,
-        Some(closing) => Some(closing.peaks.delay.height),
+        None => u64::MAX,
+        Some(closing) => closing.peaks.delay.height,
     }
 }

@@ -1,5 +1,4 @@
 //! What stands in the holes of sentences.
-
 use dc_check::CertificateList;
 use dc_document::Section;
 
@@ -26,4 +25,6 @@ pub(crate) enum Fact {
     Written(CertificateList, usize),
     /// Where it is mended: whether in the certificate, and at which table.
     Place(bool, Section, usize),
+    /// Whether the line is told that begins with its hole.
+    If(bool),
 }

@@ -1,5 +1,4 @@
 //! What is known of a label.
-
 use dc_cert::Certificate;
 use dc_tables::Tables;
 use dc_transmit::Schedule;
@@ -61,7 +60,9 @@ fn source_of(tables: &Tables, certificate: &Certificate, stream: usize) -> Optio
         return None;
     }
     let bus = tables.bus_of(stream);
-    let row = certificate.inputs.get(bus)?;
+    let Some(row) = certificate.inputs.get(bus) else {
+        return None;
+    };
     let own = tables.stream(stream);
     Some(Source {
         number: stream,
@@ -111,7 +112,9 @@ pub(crate) fn sending_of(
     }
     tables.valid();
     let row = tables.label(label);
-    let own = certificate.outputs.get(row.output)?;
+    let Some(own) = certificate.outputs.get(row.output) else {
+        return None;
+    };
     let schedule = Schedule::of(tables, row.output);
     Some(Sending {
         number: label,
@@ -130,8 +133,13 @@ pub(crate) fn aging_of(tables: &Tables, certificate: &Certificate, label: usize)
         return None;
     }
     let row = tables.label(label);
-    let own = certificate.labels.get(label)?;
-    let (slowest, rarest) = slowest_and_rarest(tables, certificate, row.sources.as_slice())?;
+    let Some(own) = certificate.labels.get(label) else {
+        return None;
+    };
+    let found = slowest_and_rarest(tables, certificate, row.sources.as_slice());
+    let Some((slowest, rarest)) = found else {
+        return None;
+    };
     Some(Aging {
         number: label,
         stale: u64::from(row.stale),

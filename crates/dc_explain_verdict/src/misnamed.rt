@@ -1,6 +1,5 @@
 //! Names of a certificate that are not the tables', once each and in their order: C01.
-
-use crate::fact::Fact::{Name, Number, Place, Word, Written};
+use crate::fact::Fact::{If, Name, Number, Place, Word, Written};
 use crate::names::{name_of, written_at};
 use crate::teller::Teller;
 use dc_check::CertificateList;
@@ -43,46 +42,45 @@ fn number_of(told: &Teller<'_>, section: Section, name: &str) -> Option<usize> {
     None
 }
 
-/// Tells what the certificate's name is in the tables: that of another place, or none.
-fn tell_meaning(told: &mut Teller<'_>, list: CertificateList, place: usize) {
-    let (_, one, _, section) = words_of(list);
-    let written = Written(list, place);
-    match number_of(told, section, written_at(told.certificate, list, place)) {
-        Some(number) => told.say(
-            "\nnote: {} `{}` is number {} of the tables",
-            &[Word(one), written, Number(number as u64)],
-        ),
-        None => told.say("\nnote: the tables have no {} `{}`", &[Word(one), written]),
-    }
-}
-
 /// C01: the names of a list are not the tables', once each and in their order.
 pub(crate) fn tell_names(told: &mut Teller<'_>, list: CertificateList) {
     let (kind, one, many, section) = words_of(list);
     let place = first_place(told, list, section);
-    let number = Number(place.saturating_add(1) as u64);
     let is_missing = written_at(told.certificate, list, place).is_empty();
     let is_more = name_of(told.tables, section, place).is_empty();
-    let (one, kind, many) = (Word(one), Word(kind), Word(many));
-    let (wanted, written) = (Name(section, place), Written(list, place));
-    told.out.begin("C01");
-    told.say("number {} of the {}", &[number, kind]);
-    if is_more {
-        told.say(", `{}`, is more than the tables have", &[written]);
+    let number = number_of(told, section, written_at(told.certificate, list, place));
+    let (one, wanted, written) = (Word(one), Name(section, place), Written(list, place));
+    let (how, facts) = if is_more {
+        (
+            ", `{}`, is more than the tables have",
+            [written, one, wanted],
+        )
     } else if is_missing {
-        told.say(", {} `{}`, is missing", &[one, wanted]);
+        (", {} `{}`, is missing", [one, wanted, written])
     } else {
-        told.say(
+        (
             " is `{}`, and the tables have {} `{}`",
-            &[written, one, wanted],
-        );
-    }
-    told.say("{}", &[Place(true, section, place)]);
-    if !is_missing {
-        tell_meaning(told, list, place);
-    }
+            [written, one, wanted],
+        )
+    };
+    told.out.begin("C01");
     told.say(
-        "\nhelp: list the {} once each, in the order of the tables, or let `dc429 find` write the certificate",
-        &[many],
+        "number {} of the {}",
+        &[Number(place.saturating_add(1) as u64), Word(kind)],
+    );
+    told.say(how, &facts);
+    told.say(
+        "{}\n{}note: {} `{}` is number {} of the tables\n{}note: the tables have no {} `{}`\nhelp: list the {} once each, in the order of the tables, or let `dc429 find` write the certificate",
+        &[
+            Place(true, section, place),
+            If(!is_missing && number.is_some()),
+            one,
+            written,
+            Number(number.unwrap_or(0) as u64),
+            If(!is_missing && number.is_none()),
+            one,
+            written,
+            Word(many),
+        ],
     );
 }

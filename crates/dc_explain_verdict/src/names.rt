@@ -1,10 +1,9 @@
 //! The names of tables and of a certificate, and where they stand in their texts.
-
 use dc_cert::Certificate;
 use dc_check::CertificateList;
 use dc_document::Section;
-use dc_layout::{Kind, layout_of};
 use dc_tables::Tables;
+use dc_tell::{Kind, layout_of};
 use std::alloc::Global;
 
 /// The name of a table, empty where there is none of this number.
@@ -54,8 +53,13 @@ pub(crate) fn offset_of(
     kind: Kind,
     number: usize,
 ) -> Option<usize> {
-    let layout = layout_of(alloc, text, is_json)?;
-    let row = layout.row(kind, number)?;
-    let found = layout.rows.get(row)?;
-    Some(found.at.from)
+    let Some(layout) = layout_of(alloc, text, is_json) else {
+        return None;
+    };
+    for row in layout.rows.as_slice() {
+        if row.kind == kind && row.index == number {
+            return Some(row.at.from);
+        }
+    }
+    None
 }

@@ -1,5 +1,4 @@
 //! Why no certificate is found.
-
 ghost use Rattle.dc_find.specs.Ways.{IsFirstInTheWay};
 
 use crate::bounds::{closing_of, counts_of};
@@ -8,15 +7,16 @@ use crate::labels::{aging_of, sending_of};
 use crate::refused::tell_label;
 use crate::servers::{Server, begin_counts, place, server_of, tell_terms};
 use crate::teller::Teller;
-use crate::waits::{claim_of, tell_room_ways};
+use crate::waits::tell_room_ways;
 use crate::ways::tell_never_ways;
 use dc_busy::LONGEST_WINDOW;
 use dc_cert::Certificate;
 use dc_check::Condition;
+use dc_find::FindFault::{LabelRule, QueueTooShort, WindowNeverCloses};
 use dc_find::{FindFault, Queue, find, reach};
 use dc_tables::Tables;
 use dc_tell::{Explanation, File};
-use std::alloc::{AllocError, Global};
+use std::alloc::Global;
 
 /// How many are told in full.
 const TOLD: usize = 10;
@@ -28,23 +28,15 @@ fn is_found(delay: u64) -> bool {
 
 /// What stands in the way at a queue, by what was found of it.
 fn queue_obstacle(tables: &Tables, certificate: &Certificate, queue: Queue) -> Option<FindFault> {
-    let Some(claim) = claim_of(certificate, queue) else {
+    let Some(server) = server_of(tables, certificate, queue) else {
         return None;
     };
-    if !is_found(u64::from(claim.delay)) {
-        return Some(FindFault::WindowNeverCloses(queue));
+    if !is_found(u64::from(server.delay)) {
+        return Some(WindowNeverCloses(queue));
     }
     match queue {
-        Queue::Input(bus) => {
-            let Some(server) = server_of(tables, queue) else {
-                return None;
-            };
-            if claim.backlog > server.room {
-                return Some(FindFault::QueueTooShort(bus));
-            }
-            None
-        }
-        Queue::Output(_) => None,
+        Queue::Input(bus) if server.backlog > server.room => Some(QueueTooShort(bus)),
+        _ => None,
     }
 }
 
@@ -74,36 +66,44 @@ fn breaks(tables: &Tables, certificate: &Certificate, label: usize, rule: Condit
     }
 }
 
-/// All that stands in the way, in the order in which the first is told.
+/// The rules on a label, in the order in which the first that it breaks is told.
+static RULES: [Condition; 4] = [
+    Condition::SentTooSoon,
+    Condition::SentTooLate,
+    Condition::AgeOverLimit,
+    Condition::SourceGoesStale,
+];
+
+/// All that stands in the way, in the order in which the first is told; nothing where memory was refused.
 fn obstacles_of(
     alloc: Global,
     tables: &Tables,
     certificate: &Certificate,
-) -> Result<Vec<FindFault>, AllocError> {
+) -> Option<Vec<FindFault>> {
     let mut all = Vec::new(alloc);
     for bus in 0..tables.bus_count() {
         if let Some(fault) = queue_obstacle(tables, certificate, Queue::Input(bus)) {
-            all.push(fault)?;
+            if all.push(fault).is_err() {
+                return None;
+            }
         }
     }
     for output in 0..tables.output_count() {
         if let Some(fault) = queue_obstacle(tables, certificate, Queue::Output(output)) {
-            all.push(fault)?;
-        }
-    }
-    for label in 0..tables.label_count() {
-        for rule in [
-            Condition::SentTooSoon,
-            Condition::SentTooLate,
-            Condition::AgeOverLimit,
-            Condition::SourceGoesStale,
-        ] {
-            if breaks(tables, certificate, label, rule) {
-                all.push(FindFault::LabelRule(label, rule))?;
+            if all.push(fault).is_err() {
+                return None;
             }
         }
     }
-    Ok(all)
+    for label in 0..tables.label_count() {
+        for rule in &RULES {
+            let fault = LabelRule(label, *rule);
+            if breaks(tables, certificate, label, *rule) && all.push(fault).is_err() {
+                return None;
+            }
+        }
+    }
+    Some(all)
 }
 
 /// F1: no window of a queue closes.
@@ -142,14 +142,12 @@ fn tell_short(told: &mut Teller<'_>, server: &Server) {
 /// Tells one thing that stands in the way.
 fn tell_obstacle(told: &mut Teller<'_>, fault: FindFault) {
     let (queue, is_short) = match fault {
-        FindFault::WindowNeverCloses(queue) => (queue, false),
-        FindFault::QueueTooShort(bus) => (Queue::Input(bus), true),
-        FindFault::LabelRule(label, rule) => {
-            return tell_label(told, "F3", label, rule);
-        }
+        WindowNeverCloses(queue) => (queue, false),
+        QueueTooShort(bus) => (Queue::Input(bus), true),
+        LabelRule(label, rule) => return tell_label(told, "F3", label, rule),
         FindFault::Memory => return,
     };
-    let Some(server) = server_of(told.tables, queue) else {
+    let Some(server) = server_of(told.tables, told.certificate, queue) else {
         return;
     };
     if is_short {
@@ -166,14 +164,10 @@ fn tell_rest(told: &mut Teller<'_>, rest: usize) {
     }
     told.out.say("\n", &[]);
     told.out.begin("");
-    told.say(
-        "{} in the way of a certificate",
-        &[Several(
-            rest as u64,
-            "more input, output or label stands",
-            "more inputs, outputs and labels stand",
-        )],
-    );
+    let one = "more input, output or label stands";
+    let many = "more inputs, outputs and labels stand";
+    let rest = Several(rest as u64, one, many);
+    told.say("{} in the way of a certificate", &[rest]);
     told.out.name_file(told.file.name);
     told.out.help(
         "`dc429 margins` shows all of them: each line with a negative margin",
@@ -183,7 +177,7 @@ fn tell_rest(told: &mut Teller<'_>, rest: usize) {
 
 /// Tells the first of what stands in the way, and how many more do.
 fn tell_all(mut told: Teller<'_>, all: &[FindFault]) -> Option<String> {
-    for fault in all.iter().take(TOLD) {
+    for fault in all.get(..TOLD).unwrap_or(all) {
         if told.is_known {
             told.out.say("\n", &[]);
         }
@@ -203,7 +197,7 @@ fn explain_from(alloc: Global, tables: &Tables, fault: FindFault, file: File<'_>
     let Ok(reached) = reach(alloc, tables, fault) else {
         return None;
     };
-    let Ok(all) = obstacles_of(alloc, tables, &reached.certificate) else {
+    let Some(all) = obstacles_of(alloc, tables, &reached.certificate) else {
         return None;
     };
     let told = Teller {
@@ -226,23 +220,8 @@ pub fn explain_find(alloc: Global, tables: &Tables, file: File<'_>) -> Option<St
     };
     match fault {
         FindFault::Memory => None,
-        FindFault::WindowNeverCloses(queue) => explain_from(
-            alloc,
-            tables,
-            FindFault::WindowNeverCloses(queue),
-            file,
-        ),
-        FindFault::QueueTooShort(bus) => explain_from(
-            alloc,
-            tables,
-            FindFault::QueueTooShort(bus),
-            file,
-        ),
-        FindFault::LabelRule(label, rule) => explain_from(
-            alloc,
-            tables,
-            FindFault::LabelRule(label, rule),
-            file,
-        ),
+        WindowNeverCloses(queue) => explain_from(alloc, tables, WindowNeverCloses(queue), file),
+        QueueTooShort(bus) => explain_from(alloc, tables, QueueTooShort(bus), file),
+        LabelRule(label, rule) => explain_from(alloc, tables, LabelRule(label, rule), file),
     }
 }

@@ -1,5 +1,4 @@
 //! Why a certificate is refused.
-
 use crate::ages::{tell_age, tell_limit, tell_oldest, tell_stale};
 use crate::gaps::tell_gap;
 use crate::labels::{aging_of, sending_of};
@@ -7,7 +6,7 @@ use crate::misnamed::tell_names;
 use crate::servers::server_of;
 use crate::teller::Teller;
 use crate::waits::{
-    claim_of, tell_backlog, tell_delay, tell_long_delay, tell_open_window, tell_room, tell_window,
+    tell_backlog, tell_delay, tell_long_delay, tell_open_window, tell_room, tell_window,
 };
 use dc_cert::Certificate;
 use dc_check::{CertificateList, CheckFault, Condition, verdict};
@@ -27,19 +26,16 @@ pub struct Files<'a> {
 
 /// Tells what is wrong with a queue.
 fn tell_queue(told: &mut Teller<'_>, fault: &CheckFault, queue: Queue) {
-    let Some(server) = server_of(told.tables, queue) else {
-        return;
-    };
-    let Some(claim) = claim_of(told.certificate, queue) else {
+    let Some(server) = server_of(told.tables, told.certificate, queue) else {
         return;
     };
     match fault.condition {
-        Condition::WindowOutOfRange => tell_window(told, &server, &claim),
-        Condition::DelayOutOfRange => tell_long_delay(told, &server, &claim),
-        Condition::WindowDoesNotClose => tell_open_window(told, &server, &claim),
-        Condition::BacklogTooSmall => tell_backlog(told, &server, &claim, fault.window),
-        Condition::QueueTooShort => tell_room(told, &server, &claim),
-        Condition::DelayTooSmall => tell_delay(told, &server, &claim, fault.window),
+        Condition::WindowOutOfRange => tell_window(told, &server),
+        Condition::DelayOutOfRange => tell_long_delay(told, &server),
+        Condition::WindowDoesNotClose => tell_open_window(told, &server),
+        Condition::BacklogTooSmall => tell_backlog(told, &server, fault.window),
+        Condition::QueueTooShort => tell_room(told, &server),
+        Condition::DelayTooSmall => tell_delay(told, &server, fault.window),
         _ => {}
     }
 }

@@ -1,150 +1,205 @@
 //! The queues of the tables: who serves each, and at what pace.
-
 use crate::bounds::Counts;
 use crate::fact::Fact;
 use crate::fact::Fact::{Name, Number, Only, Several, Word};
 use crate::teller::Teller;
+use dc_cert::Certificate;
 use dc_document::{MOST_STEPS, Section};
 use dc_find::Queue;
 use dc_tables::Tables;
+
+/// What the queues of a kind, what comes to them and what serves them are called.
+#[derive(Clone, Copy)]
+pub(crate) struct Words {
+    /// What the certificate calls one.
+    pub(crate) queue: &'static str,
+    /// What comes to it, in the singular and in the plural.
+    pub(crate) one: &'static str,
+    pub(crate) many: &'static str,
+    /// That it may have come.
+    pub(crate) may: &'static str,
+    /// What was done where it was served.
+    pub(crate) done: &'static str,
+    /// What serves it.
+    pub(crate) server: &'static str,
+    /// That it waits.
+    pub(crate) waits: &'static str,
+}
+
+/// Of the queue of a bus.
+const BUS: Words = Words {
+    queue: "input",
+    one: "word",
+    many: "words",
+    may: "may have come on",
+    done: "taken",
+    server: "router",
+    waits: "word waits in the queue",
+};
+
+/// Of an output.
+const OUTPUT: Words = Words {
+    queue: "output",
+    one: "entry",
+    many: "entries",
+    may: "may have fallen due at",
+    done: "sent",
+    server: "output",
+    waits: "entry waits to be sent",
+};
 
 /// A queue, with who serves it: a bus with its router, or an output, which serves itself.
 #[derive(Clone, Copy)]
 pub(crate) struct Server {
     /// The queue.
     pub(crate) queue: Queue,
-    /// The number of the router; of an output its own.
-    pub(crate) by: usize,
+    /// What it is called.
+    pub(crate) words: Words,
+    /// Whether it is that of a bus.
+    pub(crate) is_bus: bool,
+    /// Its name.
+    pub(crate) name: Fact,
+    /// The name of what serves it.
+    pub(crate) server: Fact,
     /// So many steps are made at least ..
     pub(crate) steps: u32,
     /// .. in each so many ticks.
     pub(crate) within: u32,
-    /// The most steps of a router in one tick; of an output 0.
+    /// The most steps of a router in one tick; of an output the most that there are.
     pub(crate) most: u32,
     /// The greatest `steps` that the tables may have.
     pub(crate) limit: u32,
     /// How many words a receive queue holds; of an output 0.
     pub(crate) room: u32,
+    /// The window, the backlog and the delay that the certificate claims of it; of an output its backlog is 0.
+    pub(crate) window: u32,
+    pub(crate) backlog: u32,
+    pub(crate) delay: u32,
 }
 
-/// The kind and the number of the table of a queue.
-pub(crate) fn table_of(queue: Queue) -> (Section, usize) {
-    match queue {
-        Queue::Input(bus) => (Section::Bus, bus),
-        Queue::Output(output) => (Section::Output, output),
+impl Server {
+    /// So many of what comes to the queue.
+    pub(crate) fn several(&self, count: u64) -> Fact {
+        Several(count, self.words.one, self.words.many)
     }
-}
-
-/// The name of a queue.
-pub(crate) fn name(queue: Queue) -> Fact {
-    let (section, number) = table_of(queue);
-    Name(section, number)
 }
 
 /// The place of a queue in the tables, with whether it is mended in the certificate.
 pub(crate) fn place(is_claimed: bool, queue: Queue) -> Fact {
-    let (section, number) = table_of(queue);
-    Fact::Place(is_claimed, section, number)
-}
-
-/// The name of what serves a queue.
-pub(crate) fn server_name(server: &Server) -> Fact {
-    match server.queue {
-        Queue::Input(_) => Name(Section::Router, server.by),
-        Queue::Output(_) => Name(Section::Output, server.by),
-    }
-}
-
-/// So many of what comes to a queue.
-pub(crate) fn several(queue: Queue, count: u64) -> Fact {
     match queue {
-        Queue::Input(_) => Several(count, "word", "words"),
-        Queue::Output(_) => Several(count, "entry", "entries"),
+        Queue::Input(bus) => Fact::Place(is_claimed, Section::Bus, bus),
+        Queue::Output(output) => Fact::Place(is_claimed, Section::Output, output),
     }
 }
 
-/// The first word where the queue is one of a bus, and the second where it is one of an output.
-pub(crate) fn either(queue: Queue, bus: &'static str, output: &'static str) -> Fact {
-    match queue {
-        Queue::Input(_) => Word(bus),
-        Queue::Output(_) => Word(output),
-    }
-}
-
-/// The bus of this number, where there is one, with its router.
-fn bus_server(tables: &Tables, bus: usize) -> Option<Server> {
+/// The bus of this number with its router, where the tables and the certificate have one.
+fn bus_server(tables: &Tables, certificate: &Certificate, bus: usize) -> Option<Server> {
     if bus >= tables.bus_count() {
         return None;
     }
     tables.valid();
     let own = tables.bus(bus);
     let router = tables.router(own.router);
+    let Some(claim) = certificate.inputs.get(bus) else {
+        return None;
+    };
     Some(Server {
         queue: Queue::Input(bus),
-        by: own.router,
+        words: BUS,
+        is_bus: true,
+        name: Name(Section::Bus, bus),
+        server: Name(Section::Router, own.router),
         steps: router.steps,
         within: router.within,
         most: router.most,
         limit: MOST_STEPS,
         room: own.queue,
+        window: claim.window,
+        backlog: claim.backlog,
+        delay: claim.delay,
     })
 }
 
-/// The output of this number, where there is one.
-fn output_server(tables: &Tables, output: usize) -> Option<Server> {
+/// The output of this number, where the tables and the certificate have one.
+fn output_server(tables: &Tables, certificate: &Certificate, output: usize) -> Option<Server> {
     if output >= tables.output_count() {
         return None;
     }
     let own = tables.output(output);
+    let Some(claim) = certificate.outputs.get(output) else {
+        return None;
+    };
     Some(Server {
         queue: Queue::Output(output),
-        by: output,
+        words: OUTPUT,
+        is_bus: false,
+        name: Name(Section::Output, output),
+        server: Name(Section::Output, output),
         steps: own.steps,
         within: own.within,
-        most: 0,
+        most: MOST_STEPS,
         limit: own.within.checked_div(own.gap).unwrap_or(0).min(MOST_STEPS),
         room: 0,
+        window: claim.window,
+        backlog: 0,
+        delay: claim.delay,
     })
 }
 
 /// The queue with who serves it, where it is there.
-pub(crate) fn server_of(tables: &Tables, queue: Queue) -> Option<Server> {
+pub(crate) fn server_of(
+    tables: &Tables,
+    certificate: &Certificate,
+    queue: Queue,
+) -> Option<Server> {
     match queue {
-        Queue::Input(bus) => bus_server(tables, bus),
-        Queue::Output(output) => output_server(tables, output),
+        Queue::Input(bus) => bus_server(tables, certificate, bus),
+        Queue::Output(output) => output_server(tables, certificate, output),
     }
 }
 
-/// How many places the visits of a bus's router have, and how many of them are the bus.
-pub(crate) fn visits_of(tables: &Tables, bus: usize) -> (usize, usize) {
-    if bus >= tables.bus_count() {
-        return (0, 0);
+/// How often a bus stands among places.
+fn visits_in(places: &[usize], bus: usize) -> u64 {
+    let mut count = 0u64;
+    for place in places {
+        if *place == bus {
+            count = count.saturating_add(1);
+        }
     }
-    tables.valid();
-    let router = tables.router(tables.bus(bus).router);
-    let visits = router.visits.as_slice();
-    let own = visits.iter().filter(|visited| **visited == bus).count();
-    (visits.len(), own)
+    count
 }
 
-/// Whether some stream of a bus has a jitter.
-pub(crate) fn has_jitter(tables: &Tables, bus: usize) -> bool {
+/// Of a bus how many places the visits of its router have, and how many of them are the bus; of an output how many
+/// entries its frame has, and how many ticks.
+pub(crate) fn shares_of(tables: &Tables, queue: Queue) -> (u64, u64) {
+    match queue {
+        Queue::Input(bus) if bus < tables.bus_count() => {
+            tables.valid();
+            let places = tables.router(tables.bus(bus).router).visits.as_slice();
+            (places.len() as u64, visits_in(places, bus))
+        }
+        Queue::Output(output) if output < tables.output_count() => {
+            let own = tables.output(output);
+            (own.entries.len() as u64, u64::from(own.frame))
+        }
+        _ => (0, 0),
+    }
+}
+
+/// Whether some stream of the bus of a queue has a jitter; an output has none.
+pub(crate) fn has_jitter(tables: &Tables, queue: Queue) -> bool {
+    let Queue::Input(bus) = queue else {
+        return false;
+    };
     if bus >= tables.bus_count() {
         return false;
     }
-    tables
-        .bus_streams(bus)
-        .iter()
-        .any(|stream| stream.jitter > 0)
-}
-
-/// How many entries the frame of an output has, and how many ticks.
-pub(crate) fn frame_of(tables: &Tables, output: usize) -> (usize, u32) {
-    if output >= tables.output_count() {
-        return (0, 0);
+    for stream in tables.bus_streams(bus).iter() {
+        if stream.jitter > 0 {
+            return true;
+        }
     }
-    let own = tables.output(output);
-    (own.entries.len(), own.frame)
+    false
 }
 
 /// Begins the explanation of a queue by what may have come to it by some tick, and what has surely been served by
@@ -156,18 +211,20 @@ pub(crate) fn begin_counts(
     ticks: (u32, u32),
     counts: &Counts,
 ) {
-    let queue = server.queue;
-    let kind = either(queue, "input", "output");
-    let may = either(queue, "may have come on", "may have fallen due at");
-    let done = either(queue, "taken", "sent");
-    let come = several(queue, counts.come);
-    let (own, served) = (name(queue), Only(counts.served));
+    let words = server.words;
     let (first, last) = (u64::from(ticks.0), u64::from(ticks.1));
     told.out.begin(code);
     told.say(
         "{} `{}`: {} {} it by tick {}",
-        &[kind, own, come, may, Number(first)],
+        &[
+            Word(words.queue),
+            server.name,
+            server.several(counts.come),
+            Word(words.may),
+            Number(first),
+        ],
     );
+    let (served, done) = (Only(counts.served), Word(words.done));
     if first == last {
         return told.say(" and {} surely been {}", &[served, done]);
     }
@@ -179,14 +236,13 @@ pub(crate) fn begin_counts(
 
 /// Tells from which tick the others are counted, and what is sure, where that was not told before.
 pub(crate) fn tell_terms(told: &mut Teller<'_>, server: &Server) {
-    if told.is_known {
-        return;
-    }
-    let sentence = match server.queue {
-        Queue::Input(_) =>
-            "\nnote: tick 1 is any tick before which no word waits in the queue; sure is what `steps` and `within` of router `{}` promise",
-        Queue::Output(_) =>
-            "\nnote: tick 1 is any tick before which no entry waits to be sent; sure is what `steps` and `within` of output `{}` promise",
-    };
-    told.say(sentence, &[server_name(server)]);
+    told.say(
+        "\n{}note: tick 1 is any tick before which no {}; sure is what `steps` and `within` of {} `{}` promise",
+        &[
+            Fact::If(!told.is_known),
+            Word(server.words.waits),
+            Word(server.words.server),
+            server.server,
+        ],
+    );
 }

@@ -1,5 +1,4 @@
 //! How many steps a queue would want.
-
 use crate::bounds::closed_by;
 use crate::servers::Server;
 use dc_bound::{ArrivalBound, MOST_PLACES, Paced, ServiceBound, Visits};
@@ -44,40 +43,26 @@ fn is_granted<A: ArrivalBound, S: ServiceBound>(
     }
 }
 
-/// Whether a bus has what is wished where its router makes so many steps.
-fn is_bus_granted(tables: &Tables, bus: usize, steps: u32, wish: &Wish, quick: bool) -> bool {
-    if bus >= tables.bus_count() {
-        return false;
-    }
-    tables.valid();
-    let router = tables.router(tables.bus(bus).router);
-    let visits = router.visits.as_slice();
-    if router.within == 0 || visits.is_empty() || visits.len() > MOST_PLACES {
-        return false;
-    }
-    let pace = Paced::new(steps, router.within);
-    let service = Visits::new(pace, visits, bus);
-    is_granted(&tables.bus_bound(bus), &service, wish, quick)
-}
-
-/// Whether an output has what is wished where it makes so many steps.
-fn is_output_granted(tables: &Tables, output: usize, steps: u32, wish: &Wish, quick: bool) -> bool {
-    if output >= tables.output_count() {
-        return false;
-    }
-    let own = tables.output(output);
-    if own.within == 0 {
-        return false;
-    }
-    let service = Paced::new(steps, own.within);
-    is_granted(&tables.output_bound(output), &service, wish, quick)
-}
-
 /// Whether the queue has what is wished where so many steps are made.
 fn is_granted_at(tables: &Tables, server: &Server, steps: u32, wish: &Wish, quick: bool) -> bool {
+    if server.within == 0 {
+        return false;
+    }
+    let pace = Paced::new(steps, server.within);
     match server.queue {
-        Queue::Input(bus) => is_bus_granted(tables, bus, steps, wish, quick),
-        Queue::Output(output) => is_output_granted(tables, output, steps, wish, quick),
+        Queue::Input(bus) if bus < tables.bus_count() => {
+            tables.valid();
+            let visits = tables.router(tables.bus(bus).router).visits.as_slice();
+            if visits.is_empty() || visits.len() > MOST_PLACES {
+                return false;
+            }
+            let service = Visits::new(pace, visits, bus);
+            is_granted(&tables.bus_bound(bus), &service, wish, quick)
+        }
+        Queue::Output(output) if output < tables.output_count() => {
+            is_granted(&tables.output_bound(output), &pace, wish, quick)
+        }
+        _ => false,
     }
 }
 

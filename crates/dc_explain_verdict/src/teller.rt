@@ -1,5 +1,4 @@
 //! What is explained, and how the sentences about it are filled.
-
 use crate::fact::Fact;
 use crate::names::{kinds_of, name_of, offset_of, written_at};
 use dc_cert::Certificate;
@@ -28,24 +27,26 @@ pub(crate) struct Teller<'a> {
     pub(crate) is_known: bool,
 }
 
-/// Begins a line of a sentence by what stands before its colon, and gives what stands behind it. A `note` is to be known.
-/// What helps is a `help`, and instead of those before it: it keeps the design, where it is not `asked` of what sends on
-/// the buses, or makes a promise `weaker`.
-fn begin_line<'s>(out: &mut Explanation, line: &'s str) -> &'s str {
-    let (kind, rest) = line.split_once(": ").unwrap_or(("", line));
-    if kind == "note" {
-        out.note("", &[]);
-        return rest;
+/// What a line begins with that does not keep the design, by its kind.
+static ASKED: [(&'static str, &'static str); 2] = [
+    ("asked", "ask more of a source: "),
+    ("weaker", "weaken a promise: "),
+];
+
+/// Begins a line of a sentence by what stands before its colon. A `note` is to be known. What helps is a `help`, and
+/// instead of those before it: it keeps the design, where it is not `asked` of what sends on the buses, or makes a promise
+/// `weaker`.
+fn begin_line(out: &mut Explanation, kind: &[u8]) {
+    if kind.ends_with(b"note") {
+        return out.note("", &[]);
     }
     let lead = if out.is_helped() { "or " } else { "" };
     out.help(lead, &[]);
-    if kind == "asked" {
-        out.put(Value::Text("ask more of a source: "));
+    for (own, words) in &ASKED {
+        if kind.ends_with(own.as_bytes()) {
+            out.put(Value::Text(words));
+        }
     }
-    if kind == "weaker" {
-        out.put(Value::Text("weaken a promise: "));
-    }
-    rest
 }
 
 impl<'a> Teller<'a> {
@@ -88,6 +89,7 @@ impl<'a> Teller<'a> {
             Fact::Place(is_claimed, section, number) => {
                 return self.tell_place(is_claimed, section, number);
             }
+            Fact::If(_) => return,
         };
         if matches!(fact, Fact::Only(1..)) {
             self.out.put(Value::Text("only "));
@@ -96,23 +98,31 @@ impl<'a> Teller<'a> {
     }
 
     /// Goes on with a sentence, of which each `{}` is a hole for the next of these facts, and each line behind the first
-    /// begins with what it is for.
+    /// begins with what it is for. A line that begins with a hole for `If` is told where that says so.
     pub(crate) fn say(&mut self, sentence: &str, facts: &[Fact]) {
         let mut next = 0usize;
-        for (number, line) in sentence.split('\n').enumerate() {
-            let rest = if number == 0 {
-                line
+        for (number, line) in sentence.split("\n").enumerate() {
+            let (kind, rest) = if number == 0 {
+                ("", line)
             } else {
-                begin_line(&mut self.out, line)
+                line.split_once(": ").unwrap_or(("", line))
             };
+            let is_guarded = kind.as_bytes().starts_with(b"{}");
+            let is_told = !is_guarded || !matches!(facts.get(next), Some(Fact::If(false)));
+            next = next.saturating_add(usize::from(is_guarded));
+            if number != 0 && is_told {
+                begin_line(&mut self.out, kind.as_bytes());
+            }
             for (hole, piece) in rest.split("{}").enumerate() {
                 if hole != 0 {
                     if let Some(fact) = facts.get(next) {
-                        self.put(*fact);
+                        if is_told {
+                            self.put(*fact);
+                        }
                     }
                     next = next.saturating_add(1);
                 }
-                if !piece.is_empty() {
+                if is_told && !piece.is_empty() {
                     self.out.put(Value::Text(piece));
                 }
             }
@@ -122,31 +132,32 @@ impl<'a> Teller<'a> {
     /// Begins the explanation of a label. Where no certificate is found, it says which condition on it fails.
     pub(crate) fn begin_label(&mut self, code: &str, condition: Condition, number: usize) {
         let rule = condition.code();
-        let name = Fact::Name(Section::Label, number);
+        let sentence = if code == rule {
+            "label `{}`: "
+        } else {
+            "label `{}` ({}): "
+        };
         self.out.begin(code);
-        if code == rule {
-            return self.say("label `{}`: ", &[name]);
-        }
-        self.say("label `{}` ({}): ", &[name, Fact::Word(rule)])
+        self.say(
+            sentence,
+            &[Fact::Name(Section::Label, number), Fact::Word(rule)],
+        )
     }
 
     /// Tells what it is to close, where that was not told before.
     pub(crate) fn tell_closing(&mut self) {
-        if !self.is_known {
-            self.say(
-                "\nnote: a window closes where all that may come in it is surely served by its end: the queue is then empty again, and here it never surely is",
-                &[],
-            );
-        }
+        self.say(
+            "\n{}note: a window closes where all that may come in it is surely served by its end: the queue is then empty again, and here it never surely is",
+            &[Fact::If(!self.is_known)],
+        );
     }
 
     /// Tells for how much the ways are enough that were told, where some were.
     pub(crate) fn tell_alone(&mut self) {
-        if self.out.is_helped() && !self.is_known {
-            self.say(
-                "\nnote: what helps here is enough for this rule alone: `dc429 find` tells whether all hold then, and writes a certificate",
-                &[],
-            );
-        }
+        let is_new = self.out.is_helped() && !self.is_known;
+        self.say(
+            "\n{}note: what helps here is enough for this rule alone: `dc429 find` tells whether all hold then, and writes a certificate",
+            &[Fact::If(is_new)],
+        );
     }
 }

@@ -1,61 +1,35 @@
 //! What is wrong with the window, the backlog or the delay of a queue: C02 to C07.
-
 use crate::bounds::{closing_of, counts_of};
 use crate::fact::Fact;
-use crate::fact::Fact::{Number, Range, Several, Ticks};
-use crate::servers::{Server, begin_counts, either, has_jitter, name, place, several, tell_terms};
+use crate::fact::Fact::{If, Number, Range, Several, Ticks, Word};
+use crate::servers::{Server, begin_counts, has_jitter, place, tell_terms};
 use crate::steps::{ANY_WINDOW, Wish};
 use crate::teller::Teller;
 use crate::ways::{tell_never_ways, tell_no_steps, tell_steps};
 use dc_bound::GREATEST_QUEUE;
 use dc_busy::LONGEST_WINDOW;
-use dc_cert::Certificate;
-use dc_find::Queue;
-
-/// What a certificate claims of a queue; of an output its backlog is 0.
-#[derive(Clone, Copy)]
-pub(crate) struct Claim {
-    pub(crate) window: u32,
-    pub(crate) backlog: u32,
-    pub(crate) delay: u32,
-}
-
-/// What the certificate claims of the queue, where it does.
-pub(crate) fn claim_of(certificate: &Certificate, queue: Queue) -> Option<Claim> {
-    match queue {
-        Queue::Input(bus) => match certificate.inputs.get(bus) {
-            None => None,
-            Some(row) => Some(Claim {
-                window: row.window,
-                backlog: row.backlog,
-                delay: row.delay,
-            }),
-        },
-        Queue::Output(output) => match certificate.outputs.get(output) {
-            None => None,
-            Some(row) => Some(Claim {
-                window: row.window,
-                backlog: 0,
-                delay: row.delay,
-            }),
-        },
-    }
-}
 
 /// The longest window, and the longest delay.
 const LONGEST: u64 = LONGEST_WINDOW as u64;
 
 /// Tells the least window that closes, or that there is none.
 fn tell_least_window(told: &mut Teller<'_>, server: &Server) {
-    match closing_of(told.tables, server.queue, None) {
-        None => {
-            told.say("\nnote: no window up to {} closes", &[Ticks(LONGEST)]);
-            tell_never_ways(told, server)
-        }
-        Some(closing) => told.say(
-            "\nhelp: write a `window` of {}, the least that closes",
-            &[Ticks(u64::from(closing.window))],
-        ),
+    let closing = closing_of(told.tables, server.queue, None);
+    let window = match closing {
+        None => 0,
+        Some(closing) => closing.window,
+    };
+    told.say(
+        "\n{}note: no window up to {} closes\n{}help: write a `window` of {}, the least that closes",
+        &[
+            If(closing.is_none()),
+            Ticks(LONGEST),
+            If(closing.is_some()),
+            Ticks(u64::from(window)),
+        ],
+    );
+    if closing.is_none() {
+        tell_never_ways(told, server);
     }
 }
 
@@ -65,28 +39,33 @@ fn window_place(told: &Teller<'_>, server: &Server) -> Fact {
     place(is_closing, server.queue)
 }
 
-/// Begins what is told of a window or a delay that is out of its range.
-fn begin_range(told: &mut Teller<'_>, code: &str, server: &Server, sentence: &str, claimed: u32) {
-    let kind = either(server.queue, "input", "output");
-    let (ticks, place) = (Ticks(u64::from(claimed)), window_place(told, server));
+/// Begins what is told of a window or a delay that is out of its range, by its code.
+fn begin_range(told: &mut Teller<'_>, code: &str, server: &Server, claimed: u32) {
+    let place = window_place(told, server);
+    let sentence = if code == "C02" {
+        "{} `{}`: the certificate has a window of {}; one of 1 tick to {} is wanted{}"
+    } else {
+        "{} `{}`: the certificate has a delay of {}; {} is the longest that is accepted{}"
+    };
+    let (queue, claimed) = (Word(server.words.queue), Ticks(u64::from(claimed)));
     told.out.begin(code);
-    told.say("{} `{}`: the certificate has ", &[kind, name(server.queue)]);
-    told.say(sentence, &[ticks, Ticks(LONGEST), place]);
+    told.say(
+        sentence,
+        &[queue, server.name, claimed, Ticks(LONGEST), place],
+    );
 }
 
 /// C02: the window is out of its range.
-pub(crate) fn tell_window(told: &mut Teller<'_>, server: &Server, claim: &Claim) {
-    let sentence = "a window of {}; one of 1 tick to {} is wanted{}";
-    begin_range(told, "C02", server, sentence, claim.window);
+pub(crate) fn tell_window(told: &mut Teller<'_>, server: &Server) {
+    begin_range(told, "C02", server, server.window);
     told.tell_closing();
     tell_least_window(told, server);
 }
 
 /// C07: the delay is out of its range.
-pub(crate) fn tell_long_delay(told: &mut Teller<'_>, server: &Server, claim: &Claim) {
-    let sentence = "a delay of {}; {} is the longest that is accepted{}";
-    begin_range(told, "C07", server, sentence, claim.delay);
-    let own = closing_of(told.tables, server.queue, Some(claim.window));
+pub(crate) fn tell_long_delay(told: &mut Teller<'_>, server: &Server) {
+    begin_range(told, "C07", server, server.delay);
+    let own = closing_of(told.tables, server.queue, Some(server.window));
     match own.or(closing_of(told.tables, server.queue, None)) {
         Some(closing) => tell_delay_way(told, closing.peaks.delay.height),
         None => {
@@ -98,17 +77,20 @@ pub(crate) fn tell_long_delay(told: &mut Teller<'_>, server: &Server, claim: &Cl
 
 /// Tells the least delay that would be accepted, where there is one.
 fn tell_delay_way(told: &mut Teller<'_>, least: u64) {
-    let (sentence, ticks) = if least > LONGEST {
-        ("\nnote: no `delay` up to {} is enough", LONGEST)
-    } else {
-        ("\nhelp: write a `delay` of at least {}", least)
-    };
-    told.say(sentence, &[Ticks(ticks)]);
+    told.say(
+        "\n{}note: no `delay` up to {} is enough\n{}help: write a `delay` of at least {}",
+        &[
+            If(least > LONGEST),
+            Ticks(LONGEST),
+            If(least <= LONGEST),
+            Ticks(least),
+        ],
+    );
 }
 
 /// C03: the window does not close.
-pub(crate) fn tell_open_window(told: &mut Teller<'_>, server: &Server, claim: &Claim) {
-    let window = claim.window;
+pub(crate) fn tell_open_window(told: &mut Teller<'_>, server: &Server) {
+    let window = server.window;
     let before = window.saturating_sub(1);
     let counts = counts_of(told.tables, server.queue, window, before);
     let left = counts.come.saturating_sub(counts.served);
@@ -116,7 +98,7 @@ pub(crate) fn tell_open_window(told: &mut Teller<'_>, server: &Server, claim: &C
     begin_counts(told, "C03", server, (window, window), &counts);
     told.say(
         ": a window of {} does not close, {} may be left{}",
-        &[Ticks(u64::from(window)), several(server.queue, left), place],
+        &[Ticks(u64::from(window)), server.several(left), place],
     );
     tell_terms(told, server);
     told.tell_closing();
@@ -132,17 +114,19 @@ pub(crate) fn tell_open_window(told: &mut Teller<'_>, server: &Server, claim: &C
 
 /// Tells that a condition fails before the tick that was named.
 fn tell_earlier(told: &mut Teller<'_>, first: u32, worst: u32) {
-    if first != worst {
-        told.say(
-            "\nnote: it is so from tick {} on; tick {} is the worst",
-            &[Number(u64::from(first)), Number(u64::from(worst))],
-        );
-    }
+    told.say(
+        "\n{}note: it is so from tick {} on; tick {} is the worst",
+        &[
+            If(first != worst),
+            Number(u64::from(first)),
+            Number(u64::from(worst)),
+        ],
+    );
 }
 
 /// C04: more may wait than the backlog says; `first` is the first tick by which it is so.
-pub(crate) fn tell_backlog(told: &mut Teller<'_>, server: &Server, claim: &Claim, first: u32) {
-    let Some(closing) = closing_of(told.tables, server.queue, Some(claim.window)) else {
+pub(crate) fn tell_backlog(told: &mut Teller<'_>, server: &Server, first: u32) {
+    let Some(closing) = closing_of(told.tables, server.queue, Some(server.window)) else {
         return;
     };
     let peak = closing.peaks.backlog;
@@ -155,18 +139,19 @@ pub(crate) fn tell_backlog(told: &mut Teller<'_>, server: &Server, claim: &Claim
         ": {} may wait, and the certificate lets {} wait{}",
         &[
             least,
-            Number(u64::from(claim.backlog)),
+            Number(u64::from(server.backlog)),
             place(is_claimed, server.queue),
         ],
     );
     tell_terms(told, server);
     tell_earlier(told, first, peak.ticks);
-    if is_claimed {
-        told.say("\nhelp: write a `backlog` of at least {}", &[least]);
-    }
+    told.say(
+        "\n{}help: write a `backlog` of at least {}",
+        &[If(is_claimed), least],
+    );
     let wish = Wish {
-        window: Some(claim.window),
-        waiting: u64::from(claim.backlog),
+        window: Some(server.window),
+        waiting: u64::from(server.backlog),
         ..ANY_WINDOW
     };
     tell_steps(told, server, &wish);
@@ -179,16 +164,13 @@ pub(crate) fn tell_backlog(told: &mut Teller<'_>, server: &Server, claim: &Claim
 /// Tells how long the queue of a bus would have to be, or that none is long enough.
 fn tell_longer_queue(told: &mut Teller<'_>, server: &Server, least: u64) {
     let greatest = u64::from(GREATEST_QUEUE);
-    if least > greatest {
-        return told.say(
-            "\nnote: no `queue` is long enough: the longest holds {} words",
-            &[Number(greatest)],
-        );
-    }
     told.say(
-        "\nhelp: make the `queue` of bus `{}` at least {} long, where it has {}: that costs memory alone",
+        "\n{}note: no `queue` is long enough: the longest holds {} words\n{}help: make the `queue` of bus `{}` at least {} long, where it has {}: that costs memory alone",
         &[
-            name(server.queue),
+            If(least > greatest),
+            Number(greatest),
+            If(least <= greatest),
+            server.name,
             Several(least, "word", "words"),
             Number(u64::from(server.room)),
         ],
@@ -196,8 +178,8 @@ fn tell_longer_queue(told: &mut Teller<'_>, server: &Server, least: u64) {
 }
 
 /// C05: the backlog is over the room of the queue.
-pub(crate) fn tell_room(told: &mut Teller<'_>, server: &Server, claim: &Claim) {
-    let Some(closing) = closing_of(told.tables, server.queue, Some(claim.window)) else {
+pub(crate) fn tell_room(told: &mut Teller<'_>, server: &Server) {
+    let Some(closing) = closing_of(told.tables, server.queue, Some(server.window)) else {
         return;
     };
     let least = closing.peaks.backlog.height;
@@ -206,9 +188,9 @@ pub(crate) fn tell_room(told: &mut Teller<'_>, server: &Server, claim: &Claim) {
     told.say(
         "input `{}`: the certificate lets {} wait, and the queue of bus `{}` holds {}{}",
         &[
-            name(server.queue),
-            Several(u64::from(claim.backlog), "word", "words"),
-            name(server.queue),
+            server.name,
+            Several(u64::from(server.backlog), "word", "words"),
+            server.name,
             Number(room),
             place(least <= room, server.queue),
         ],
@@ -230,37 +212,34 @@ pub(crate) fn tell_room_ways(told: &mut Teller<'_>, server: &Server, least: u64)
     };
     tell_steps(told, server, &wish);
     tell_no_steps(told, server, &wish);
-    if let Queue::Input(bus) = server.queue {
-        if has_jitter(told.tables, bus) {
-            told.say(
-                "\nasked: write a smaller `jitter_us` for the streams of bus `{}`",
-                &[name(server.queue)],
-            );
-        }
-    }
+    let is_asked = has_jitter(told.tables, server.queue);
+    told.say(
+        "\n{}asked: write a smaller `jitter_us` for the streams of bus `{}`",
+        &[If(is_asked), server.name],
+    );
     tell_longer_queue(told, server, least);
 }
 
 /// C06: a word may wait longer than the delay says; `first` is the first tick by which it is so.
-pub(crate) fn tell_delay(told: &mut Teller<'_>, server: &Server, claim: &Claim, first: u32) {
-    let Some(closing) = closing_of(told.tables, server.queue, Some(claim.window)) else {
+pub(crate) fn tell_delay(told: &mut Teller<'_>, server: &Server, first: u32) {
+    let Some(closing) = closing_of(told.tables, server.queue, Some(server.window)) else {
         return;
     };
     let peak = closing.peaks.delay;
-    let by = peak.ticks.saturating_add(claim.delay);
+    let by = peak.ticks.saturating_add(server.delay);
     let before = by.saturating_sub(1);
     let counts = counts_of(told.tables, server.queue, peak.ticks, before);
     begin_counts(told, "C06", server, (peak.ticks, by), &counts);
     told.say(
         "; the certificate has a delay of {}{}",
-        &[Ticks(u64::from(claim.delay)), place(true, server.queue)],
+        &[Ticks(u64::from(server.delay)), place(true, server.queue)],
     );
     tell_terms(told, server);
     tell_earlier(told, first, peak.ticks);
     tell_delay_way(told, peak.height);
     let wish = Wish {
-        window: Some(claim.window),
-        delay: u64::from(claim.delay),
+        window: Some(server.window),
+        delay: u64::from(server.delay),
         ..ANY_WINDOW
     };
     tell_steps(told, server, &wish);

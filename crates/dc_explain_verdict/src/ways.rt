@@ -1,29 +1,25 @@
 //! What helps. What keeps the design is told first, then what is asked of sources, then what weakens a promise.
-
 use crate::bounds::least_delay_of;
 use crate::fact::Fact;
-use crate::fact::Fact::{Number, Range, Several, Tick, Ticks};
-use crate::servers::{
-    Server, either, frame_of, name, place, server_name, server_of, several, visits_of,
-};
+use crate::fact::Fact::{If, Number, Range, Several, Ticks, Word};
+use crate::servers::{Server, place, server_of, shares_of};
 use crate::steps::{ANY_WINDOW, Wish, least_steps};
 use crate::teller::Teller;
 use dc_document::Section;
 use dc_find::Queue;
 
-/// Goes on with what is wished.
-fn tell_wish(told: &mut Teller<'_>, wish: &Wish) {
-    let (words, number) = if wish.delay < ANY_WINDOW.delay {
-        (" for none to wait longer than {}", Ticks(wish.delay))
-    } else if wish.waiting < ANY_WINDOW.waiting {
-        (" for no more than {} to wait", Number(wish.waiting))
-    } else {
-        match wish.window {
-            None => (" for a window to close", Tick),
-            Some(window) => (" for a window of {} to close", Ticks(u64::from(window))),
-        }
-    };
-    told.say(words, &[number]);
+/// What is wished, as a sentence goes on with it, and its number.
+fn wished(wish: &Wish) -> (&'static str, Fact) {
+    if wish.delay < ANY_WINDOW.delay {
+        return (" for none to wait longer than {}", Ticks(wish.delay));
+    }
+    if wish.waiting < ANY_WINDOW.waiting {
+        return (" for no more than {} to wait", Number(wish.waiting));
+    }
+    match wish.window {
+        None => (" for a window to close", Number(0)),
+        Some(window) => (" for a window of {} to close", Ticks(u64::from(window))),
+    }
 }
 
 /// Tells how many steps would be enough for what is wished, where some are. A router that may not make as many in a tick
@@ -35,17 +31,18 @@ pub(crate) fn tell_steps(told: &mut Teller<'_>, server: &Server, wish: &Wish) {
     told.say(
         "\nhelp: give {} `{}` `steps` of at least {} in place of {}",
         &[
-            either(server.queue, "router", "output"),
-            server_name(server),
+            Word(server.words.server),
+            server.server,
             Number(u64::from(steps)),
             Number(u64::from(server.steps)),
         ],
     );
     let most = steps.div_ceil(server.within.max(1));
-    if matches!(server.queue, Queue::Input(_)) && most > server.most {
+    if most > server.most {
         told.say(" and `most` of at least {}", &[Number(u64::from(most))]);
     }
-    tell_wish(told, wish);
+    let (words, number) = wished(wish);
+    told.say(words, &[number]);
 }
 
 /// Tells that no steps that tables may have are enough for what is wished, where nothing that helps was told.
@@ -53,27 +50,28 @@ pub(crate) fn tell_no_steps(told: &mut Teller<'_>, server: &Server, wish: &Wish)
     if told.out.is_helped() {
         return;
     }
-    let sentence = match server.queue {
-        Queue::Input(_) => "\nnote: no `steps` of router `{}` up to {} are enough",
-        Queue::Output(_) =>
-            "\nnote: no `steps` of output `{}` that its wire carries, up to {} in {}, are enough",
-    };
     told.say(
-        sentence,
+        "\n{}note: no `steps` of router `{}` up to {} are enough\n{}note: no `steps` of output `{}` that its wire carries, up to {} in {}, are enough",
         &[
-            server_name(server),
+            If(server.is_bus),
+            server.server,
+            Number(u64::from(server.limit)),
+            If(!server.is_bus),
+            server.server,
             Number(u64::from(server.limit)),
             Ticks(u64::from(server.within)),
         ],
     );
-    tell_wish(told, wish);
+    let (words, number) = wished(wish);
+    told.say(words, &[number]);
 }
 
 /// Where a label is mended: in the certificate at a queue where that may claim a delay of at most so many ticks, else in
 /// the tables at the label.
 pub(crate) fn mended_at(told: &Teller<'_>, queue: Queue, most: Option<u64>, label: usize) -> Fact {
-    match (least_delay_of(told.tables, queue), most) {
-        (Some(least), Some(most)) if least <= most => place(true, queue),
+    let least = least_delay_of(told.tables, queue);
+    match most {
+        Some(most) if least <= most => place(true, queue),
         _ => Fact::Place(false, Section::Label, label),
     }
 }
@@ -81,73 +79,63 @@ pub(crate) fn mended_at(told: &Teller<'_>, queue: Queue, most: Option<u64>, labe
 /// What is wished where a queue is to have a delay of at most so many ticks.
 fn shorter(most: u64) -> Wish {
     Wish {
+        window: None,
+        waiting: u64::MAX,
         delay: most,
-        ..ANY_WINDOW
     }
 }
 
 /// Tells how a queue would have a delay of at most so many ticks, in the certificate or by more steps.
 pub(crate) fn tell_shorter_delay(told: &mut Teller<'_>, queue: Queue, most: Option<u64>) {
-    let (Some(server), Some(most)) = (server_of(told.tables, queue), most) else {
+    let Some(server) = server_of(told.tables, told.certificate, queue) else {
         return;
     };
-    let least = least_delay_of(told.tables, queue).unwrap_or(u64::MAX);
+    let Some(most) = most else {
+        return;
+    };
+    let least = least_delay_of(told.tables, queue);
     if least > most {
         return tell_steps(told, &server, &shorter(most));
     }
     told.say(
         "\nhelp: write a `delay` of {} ticks for {} `{}`",
-        &[
-            Range(least, most),
-            either(queue, "input", "output"),
-            name(queue),
-        ],
+        &[Range(least, most), Word(server.words.queue), server.name],
     );
 }
 
 /// Tells that no steps would give a queue a delay of at most so many ticks, where nothing that helps was told.
 pub(crate) fn tell_no_shorter_delay(told: &mut Teller<'_>, queue: Queue, most: Option<u64>) {
-    let (Some(server), Some(most)) = (server_of(told.tables, queue), most) else {
+    let Some(server) = server_of(told.tables, told.certificate, queue) else {
         return;
     };
-    tell_no_steps(told, &server, &shorter(most));
+    if let Some(most) = most {
+        tell_no_steps(told, &server, &shorter(most));
+    }
 }
 
-/// Tells at what pace a queue is served.
+/// Tells at what pace a queue is served, of which no window closes.
 fn tell_pace(told: &mut Teller<'_>, server: &Server) {
     let steps = u64::from(server.steps);
     let within = Ticks(u64::from(server.within));
-    let own = name(server.queue);
-    match server.queue {
-        Queue::Input(bus) => {
-            let (places, visits) = visits_of(told.tables, bus);
-            told.say(
-                "\nnote: router `{}` makes at least {} in each {}; of its `visits`, {} in all, bus `{}` has {}",
-                &[
-                    server_name(server),
-                    Several(steps, "step", "steps"),
-                    within,
-                    Number(places as u64),
-                    own,
-                    Number(visits as u64),
-                ],
-            )
-        }
-        Queue::Output(output) => {
-            let (entries, frame) = frame_of(told.tables, output);
-            let frame = Ticks(u64::from(frame));
-            told.say(
-                "\nnote: output `{}` sends at least {} in each {}; its `frame` of {} has {}",
-                &[
-                    own,
-                    Several(steps, "word", "words"),
-                    within,
-                    frame,
-                    several(server.queue, entries as u64),
-                ],
-            )
-        }
-    }
+    let (all, own) = shares_of(told.tables, server.queue);
+    told.say(
+        "\n{}note: router `{}` makes at least {} in each {}; of its `visits`, {} in all, bus `{}` has {}\n{}note: output `{}` sends at least {} in each {}; its `frame` of {} has {}",
+        &[
+            If(server.is_bus),
+            server.server,
+            Several(steps, "step", "steps"),
+            within,
+            Number(all),
+            server.name,
+            Number(own),
+            If(!server.is_bus),
+            server.name,
+            Several(steps, "word", "words"),
+            within,
+            Ticks(own),
+            server.several(all),
+        ],
+    );
 }
 
 /// Tells what helps a queue of which no window closes.
@@ -155,15 +143,17 @@ pub(crate) fn tell_never_ways(told: &mut Teller<'_>, server: &Server) {
     tell_pace(told, server);
     tell_steps(told, server, &ANY_WINDOW);
     tell_no_steps(told, server, &ANY_WINDOW);
-    let (own, by) = (name(server.queue), server_name(server));
-    match server.queue {
-        Queue::Input(_) => told.say(
-            "\nhelp: make the `within` of router `{}` smaller, which shortens every delay too, or let it visit bus `{}` more often\nweaker: bring fewer streams on bus `{}`",
-            &[by, own, own],
-        ),
-        Queue::Output(_) => told.say(
-            "\nhelp: make the `within` of output `{}` smaller, which shortens every delay too\nweaker: send its labels less often, by a longer `frame` or fewer `offsets`",
-            &[by],
-        ),
-    }
+    told.say(
+        "\n{}help: make the `within` of router `{}` smaller, which shortens every delay too, or let it visit bus `{}` more often\n{}weaker: bring fewer streams on bus `{}`\n{}help: make the `within` of output `{}` smaller, which shortens every delay too\n{}weaker: send its labels less often, by a longer `frame` or fewer `offsets`",
+        &[
+            If(server.is_bus),
+            server.server,
+            server.name,
+            If(server.is_bus),
+            server.name,
+            If(!server.is_bus),
+            server.name,
+            If(!server.is_bus),
+        ],
+    );
 }

@@ -1,9 +1,81 @@
 //! An explanation as it grows.
+use crate::letters::{is_seen, start_of, text_of};
 use crate::likeness::nearest;
-use crate::place::{line_of, place_at};
-use crate::tell::{File, locate_line};
-use crate::value::Value;
-use std::alloc::{AllocError, Global};
+use crate::place::{around, begins_letter, line_of, place_at};
+use std::alloc::Global;
+
+/// A text that was read, under the name that the command line gives it.
+#[derive(Clone, Copy)]
+pub struct File<'a> {
+    /// Its name, `<stdin>` for standard input.
+    pub name: &'a str,
+    /// What was read of it.
+    pub text: &'a [u8],
+}
+
+/// What stands in a hole of a sentence. No letter of a text among them but a printed one reaches a terminal.
+#[derive(Clone, Copy)]
+pub enum Value<'a> {
+    /// A number.
+    Number(u64),
+    /// A byte, as 0x2F.
+    Byte(u8),
+    /// So many of what the first word names in the singular, the second in the plural.
+    Several(u64, &'a str, &'a str),
+    /// From the first number to the second, or the one where both are the same.
+    Range(u64, u64),
+    /// So many ticks, and how long they take with ticks of so many microseconds, where these are known (not 0).
+    Ticks(u64, u64),
+    /// A text.
+    Text(&'a str),
+    /// Bytes that are a text, or what says that they are none.
+    Bytes(&'a [u8]),
+    /// The beginning of bytes that are a text.
+    Brief(&'a [u8]),
+    /// Names with commas, the first eight.
+    Names(&'a [&'a str]),
+    /// A thing by its kind, its number from 0, how many there are of its kind, and its name, as in: bus 2 of 3 `A`.
+    Thing(&'a str, usize, usize, &'a str),
+}
+
+/// How many names are listed.
+const LISTED: usize = 8;
+
+/// The digits, those from ten on in lower and then in upper case.
+static DIGITS: [&'static str; 22] = [
+    "0", "1", "2", "3", "4", "5", "6", "7", "8", "9", "a", "b", "c", "d", "e", "f", "A", "B", "C",
+    "D", "E", "F",
+];
+
+/// What each digit of a decimal number stands for, the greatest first.
+static POWERS: [u64; 20] = [
+    10_000_000_000_000_000_000,
+    1_000_000_000_000_000_000,
+    100_000_000_000_000_000,
+    10_000_000_000_000_000,
+    1_000_000_000_000_000,
+    100_000_000_000_000,
+    10_000_000_000_000,
+    1_000_000_000_000,
+    100_000_000_000,
+    10_000_000_000,
+    1_000_000_000,
+    100_000_000,
+    10_000_000,
+    1_000_000,
+    100_000,
+    10_000,
+    1_000,
+    100,
+    10,
+    1,
+];
+
+/// What each digit of the number of a letter stands for.
+static SCALES: [u32; 6] = [0x10_0000, 0x1_0000, 0x1000, 0x100, 0x10, 1];
+
+/// Letters that have an escape of their own.
+static ESCAPES: [(char, &'static str); 3] = [('\n', "\\n"), ('\r', "\\r"), ('\t', "\\t")];
 
 /// What a person is told, as far as it is written. Where memory gives out it is lost whole, so nothing that writes it
 /// has an error.
@@ -14,20 +86,6 @@ pub struct Explanation {
     is_open: bool,
     is_helped: bool,
     is_lost: bool,
-}
-
-/// Writes a sentence with its values, one for each `{}` in it.
-fn fill(out: &mut String, sentence: &str, values: &[Value<'_>]) -> Result<(), AllocError> {
-    for (number, piece) in sentence.split("{}").enumerate() {
-        if number != 0 {
-            if let Some(value) = values.get(number.saturating_sub(1)) {
-                let value = *value;
-                write!(out, "{value}")?;
-            }
-        }
-        out.push_str(piece)?;
-    }
-    Ok(())
 }
 
 impl Explanation {
@@ -47,32 +105,168 @@ impl Explanation {
         self.is_lost = true;
     }
 
-    /// Notes whether memory was refused.
-    fn keep(&mut self, written: Result<(), AllocError>) {
-        if written.is_err() {
+    /// Writes a text as it is.
+    fn push(&mut self, text: &str) {
+        if self.text.push_str(text).is_err() {
             self.is_lost = true;
+        }
+    }
+
+    /// Writes a digit of [`DIGITS`].
+    fn push_digit(&mut self, digit: usize) {
+        self.push(DIGITS.get(digit).copied().unwrap_or(""));
+    }
+
+    /// Writes a number.
+    fn push_number(&mut self, number: u64) {
+        let mut is_begun = false;
+        for power in &POWERS {
+            let digit = number.checked_div(*power).unwrap_or(0) % 10;
+            is_begun = is_begun || digit != 0 || *power == 1;
+            if is_begun {
+                self.push_digit(digit as usize);
+            }
+        }
+    }
+
+    /// Writes a letter as its escape.
+    fn push_escape(&mut self, letter: char) {
+        for (own, escape) in &ESCAPES {
+            if *own == letter {
+                return self.push(escape);
+            }
+        }
+        let code = u32::from(letter);
+        let mut is_begun = false;
+        self.push("\\u{");
+        for scale in &SCALES {
+            let digit = code.checked_div(*scale).unwrap_or(0) % 16;
+            is_begun = is_begun || digit != 0 || *scale == 1;
+            if is_begun {
+                self.push_digit(digit as usize);
+            }
+        }
+        self.push("}");
+    }
+
+    /// Writes a text as a terminal may have it: each letter that is not seen stands as its escape.
+    fn push_text(&mut self, text: &str) {
+        for letter in text.chars() {
+            if !is_seen(letter) {
+                self.push_escape(letter);
+            } else if self.text.push(letter).is_err() {
+                self.is_lost = true;
+            }
+        }
+    }
+
+    /// Writes a byte.
+    fn push_byte(&mut self, byte: u8) {
+        self.push("0x");
+        for digit in [usize::from(byte / 16), usize::from(byte % 16)] {
+            self.push_digit(if digit < 10 {
+                digit
+            } else {
+                digit.saturating_add(6)
+            });
+        }
+    }
+
+    /// Writes so many of a thing.
+    fn push_several(&mut self, count: u64, one: &str, many: &str) {
+        self.push_number(count);
+        self.push(" ");
+        self.push(if count == 1 { one } else { many });
+    }
+
+    /// Writes from which number to which.
+    fn push_range(&mut self, low: u64, high: u64) {
+        self.push_number(low);
+        if low != high {
+            self.push(" to ");
+            self.push_number(high);
+        }
+    }
+
+    /// Writes so many ticks, and how long they take.
+    fn push_ticks(&mut self, ticks: u64, tick: u64) {
+        self.push_several(ticks, "tick", "ticks");
+        let micros = ticks.saturating_mul(tick);
+        if micros == 0 {
+            return;
+        }
+        let is_whole = micros.is_multiple_of(1_000);
+        self.push(" (");
+        self.push_number(if is_whole { micros / 1_000 } else { micros });
+        self.push(if is_whole { " ms)" } else { " us)" });
+    }
+
+    /// Writes the beginning of a text.
+    fn push_brief(&mut self, text: &str) {
+        let start = start_of(text);
+        self.push_text(start);
+        self.push(if start.len() < text.len() { " .." } else { "" });
+    }
+
+    /// Writes the first of some names with commas.
+    fn push_names(&mut self, names: &[&str]) {
+        for (number, name) in names.iter().enumerate() {
+            if number < LISTED {
+                self.push(if number == 0 { "" } else { ", " });
+                self.push_text(name);
+            }
+        }
+        self.push(if names.len() > LISTED { ", .." } else { "" });
+    }
+
+    /// Writes a thing by its kind, its number from 1 among so many, and its name.
+    fn push_thing(&mut self, kind: &str, index: usize, count: usize, name: &str) {
+        self.push(kind);
+        self.push(" ");
+        self.push_number((index as u64).saturating_add(1));
+        self.push(" of ");
+        self.push_number(count as u64);
+        if !name.is_empty() {
+            self.push(" `");
+            self.push_text(name);
+            self.push("`");
+        }
+    }
+
+    /// Goes on in the line with a value.
+    pub fn put(&mut self, value: Value<'_>) {
+        self.is_open = true;
+        match value {
+            Value::Number(number) => self.push_number(number),
+            Value::Byte(byte) => self.push_byte(byte),
+            Value::Several(count, one, many) => self.push_several(count, one, many),
+            Value::Range(low, high) => self.push_range(low, high),
+            Value::Ticks(ticks, tick) => self.push_ticks(ticks, tick),
+            Value::Text(text) => self.push_text(text),
+            Value::Bytes(bytes) => self.push_text(text_of(bytes)),
+            Value::Brief(bytes) => self.push_brief(text_of(bytes)),
+            Value::Names(names) => self.push_names(names),
+            Value::Thing(kind, index, count, name) => self.push_thing(kind, index, count, name),
         }
     }
 
     /// Goes on in the line with a sentence, in which each `{}` is a hole for the next of these values.
     pub fn say(&mut self, sentence: &str, values: &[Value<'_>]) {
-        let written = fill(&mut self.text, sentence, values);
-        self.keep(written);
-        self.is_open = true;
-    }
-
-    /// Goes on in the line with a value.
-    pub fn put(&mut self, value: Value<'_>) {
-        let written = write!(self.text, "{value}");
-        self.keep(written);
+        for (number, piece) in sentence.split("{}").enumerate() {
+            if number != 0 {
+                if let Some(value) = values.get(number.saturating_sub(1)) {
+                    self.put(*value);
+                }
+            }
+            self.push(piece);
+        }
         self.is_open = true;
     }
 
     /// Ends the line, where one has begun.
     pub fn end_line(&mut self) {
         if self.is_open {
-            let written = self.text.push_str("\n");
-            self.keep(written);
+            self.push("\n");
         }
         self.is_open = false;
     }
@@ -92,14 +286,14 @@ impl Explanation {
     pub fn help(&mut self, sentence: &str, values: &[Value<'_>]) {
         self.end_line();
         self.is_helped = true;
-        self.say("   = help: ", &[]);
+        self.push("   = help: ");
         self.say(sentence, values);
     }
 
     /// Begins a line of what is to be known beside it.
     pub fn note(&mut self, sentence: &str, values: &[Value<'_>]) {
         self.end_line();
-        self.say("   = note: ", &[]);
+        self.push("   = note: ");
         self.say(sentence, values);
     }
 
@@ -108,11 +302,42 @@ impl Explanation {
         self.is_helped
     }
 
+    /// Writes blanks as wide as so many letters of a piece are shown.
+    fn push_blanks(&mut self, part: &str, letters: usize) {
+        let mut count = 0usize;
+        for byte in part.as_bytes() {
+            if begins_letter(*byte) && count < letters {
+                let is_wide = *byte == b'\t' || *byte == b'\r';
+                self.push(if is_wide { "  " } else { " " });
+                count = count.saturating_add(1);
+            }
+        }
+    }
+
     /// Shows a line by the name of its file, its number and a column in it, both from 1, with a mark below the place.
-    pub fn show(&mut self, arrow: &str, name: &str, number: u64, line: &[u8], column: usize) {
+    pub fn show<'x>(
+        &mut self,
+        arrow: &'x str,
+        name: &'x str,
+        number: u64,
+        line: &'x [u8],
+        column: usize,
+    ) {
         self.end_line();
-        let written = locate_line(&mut self.text, arrow, name, number, line, column);
-        self.keep(written);
+        let place = [
+            Value::Text(arrow),
+            Value::Text(name),
+            Value::Number(number),
+            Value::Number(column as u64),
+        ];
+        self.say("  {} {}:{}:{}\n", &place);
+        if let Ok(whole) = str::from_utf8(line) {
+            let (part, before) = around(whole, column);
+            self.say("   | {}\n   | ", &[Value::Text(part)]);
+            self.push_blanks(part, before);
+            self.push("^\n");
+        }
+        self.is_open = false;
     }
 
     /// Shows where a text has what was told, behind so many of its bytes.

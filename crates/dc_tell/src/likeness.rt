@@ -2,8 +2,69 @@
 use std::alloc::{AllocError, Global};
 use strsim::jaro_winkler;
 
+/// Names, as they are found. Where memory gives out they are lost, and nothing is told.
+#[derive(Drop)]
+pub struct Names<'a> {
+    list: Vec<&'a str>,
+    is_lost: bool,
+}
+
+impl<'a> Names<'a> {
+    /// No names.
+    pub fn new(alloc: Global) -> Names<'a> {
+        Names {
+            list: Vec::new(alloc),
+            is_lost: false,
+        }
+    }
+
+    /// Adds a name.
+    pub fn add(&mut self, name: &'a str) {
+        if self.list.push(name).is_err() {
+            self.is_lost = true;
+        }
+    }
+
+    /// The names.
+    pub fn as_slice(&self) -> &[&'a str] {
+        self.list.as_slice()
+    }
+
+    /// Whether memory was refused.
+    pub fn is_lost(&self) -> bool {
+        self.is_lost
+    }
+}
+
 /// How like a name has to be, as clap has it.
 const LIKE: f64 = 0.7;
+
+/// How like a name is to a text in lower case.
+fn likeness_of(alloc: Global, lower: &str, name: &str) -> Result<f64, AllocError> {
+    let own = name.to_ascii_lowercase(alloc)?;
+    jaro_winkler(alloc, lower, own.as_str())
+}
+
+/// The one of these names that is most like a text in lower case, where one is like it.
+fn likest<'a>(
+    alloc: Global,
+    lower: &str,
+    names: &[&'a str],
+) -> Result<Option<&'a str>, AllocError> {
+    let mut best = None;
+    let mut most = LIKE;
+    for name in names {
+        if name.eq_ignore_ascii_case(lower) {
+            return Ok(Some(*name));
+        }
+        let likeness = likeness_of(alloc, lower, name)?;
+        if likeness > most {
+            most = likeness;
+            best = Some(*name);
+        }
+    }
+    Ok(best)
+}
 
 /// The one of these names that is most like a text, upper and lower case being alike, where one is like it. The same
 /// name but for its case is before all others.
@@ -13,18 +74,5 @@ pub(crate) fn nearest<'a>(
     names: &[&'a str],
 ) -> Result<Option<&'a str>, AllocError> {
     let lower = text.to_ascii_lowercase(alloc)?;
-    let mut best = None;
-    let mut most = LIKE;
-    for name in names {
-        if name.eq_ignore_ascii_case(text) {
-            return Ok(Some(*name));
-        }
-        let own = name.to_ascii_lowercase(alloc)?;
-        let likeness = jaro_winkler(alloc, lower.as_str(), own.as_str())?;
-        if likeness > most {
-            most = likeness;
-            best = Some(*name);
-        }
-    }
-    Ok(best)
+    likest(alloc, lower.as_str(), names)
 }

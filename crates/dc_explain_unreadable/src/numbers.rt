@@ -27,12 +27,12 @@ pub(crate) fn tell_reversed(refused: &mut Refused<'_>) {
 }
 
 /// Tells of a stream whose words may come within one tick.
-pub(crate) fn tell_quick(refused: &mut Refused<'_>, parameter: usize) {
+fn tell_quick(refused: &mut Refused<'_>, parameter: usize) {
     let row = refused.row;
     let least = refused.count(parameter, "min_us");
     let tick = refused.count(0, "tick_us");
     refused.say(
-        "{} may bring a word every {} microseconds, less than one tick: the `min_us` of {} is {}, and `tick_us` is {}{}\nnote: {} is here{}",
+        "{} may bring a word every {} microseconds, less than one tick: the `min_us` of {} is {}, and `tick_us` is {}{}\nnote: {} is here{}\n{}help: write `tick_us = {}` or less (line {}; {} at least)\nhelp: write a `min_us` of {} or more in this parameter, where its words do come no sooner (no tick is shorter than {} microseconds)",
         &[
             Fact::Row(row),
             Fact::Number(least),
@@ -42,21 +42,13 @@ pub(crate) fn tell_quick(refused: &mut Refused<'_>, parameter: usize) {
             Fact::Place(parameter, "min_us"),
             Fact::Row(row),
             Fact::Place(row, "label"),
+            Fact::If(least >= SHORTEST),
+            Fact::Number(least),
+            Fact::Line(0, "tick_us"),
+            Fact::Number(SHORTEST),
+            Fact::Number(tick),
+            Fact::Number(SHORTEST),
         ],
-    );
-    if least >= SHORTEST {
-        refused.say(
-            "\nhelp: write `tick_us = {}` or less (line {}; {} at least)",
-            &[
-                Fact::Number(least),
-                Fact::Line(0, "tick_us"),
-                Fact::Number(SHORTEST),
-            ],
-        );
-    }
-    refused.say(
-        "\nhelp: write a `min_us` of {} or more in this parameter, where its words do come no sooner (no tick is shorter than {} microseconds)",
-        &[Fact::Number(tick), Fact::Number(SHORTEST)],
     );
 }
 
@@ -90,39 +82,40 @@ fn longest_tick(least: u64, greatest: u64) -> u64 {
 /// Writes which changes leave an interval.
 fn tell_ways(refused: &mut Refused<'_>, least: u64, greatest: u64, tick: u64) {
     let longest = longest_tick(least, greatest);
-    let sentence = if longest != 0 {
-        "\nhelp: shorten the tick (line {}): `tick_us = {}` is the longest that serves this label"
-    } else if least == greatest {
-        "\nnote: no tick serves this label, since its `min_us` and `max_us` are the same"
-    } else {
-        "\nnote: no tick serves this label, since its `min_us` and `max_us` are too near"
-    };
-    refused.say(sentence, &[Fact::Line(0, "tick_us"), Fact::Number(longest)]);
     let maximum = fewest(least, tick).saturating_add(1).saturating_mul(tick);
     let minimum = most(greatest, tick).saturating_sub(1).saturating_mul(tick);
-    if minimum >= 1 {
-        refused.say(
-            "\nhelp: with ticks of {} write a `min_us` of {} or less: words may then come and be sent sooner after one another",
-            &[Fact::Number(tick), Fact::Number(minimum)],
-        );
-    }
-    if maximum <= LONGEST_US {
-        refused.say(
-            "\nhelp: with ticks of {} write a `max_us` of {} or more; this weakens what is promised: words may be further apart",
-            &[Fact::Number(tick), Fact::Number(maximum)],
-        );
-    }
+    let why = if least == greatest {
+        "the same"
+    } else {
+        "too near"
+    };
+    refused.say(
+        "\n{}help: shorten the tick (line {}): `tick_us = {}` is the longest that serves this label\n{}note: no tick serves this label, since its `min_us` and `max_us` are {}\n{}help: with ticks of {} write a `min_us` of {} or less: words may then come and be sent sooner after one another\n{}help: with ticks of {} write a `max_us` of {} or more; this weakens what is promised: words may be further apart",
+        &[
+            Fact::If(longest != 0),
+            Fact::Line(0, "tick_us"),
+            Fact::Number(longest),
+            Fact::If(longest == 0),
+            Fact::Word(why),
+            Fact::If(minimum >= 1),
+            Fact::Number(tick),
+            Fact::Number(minimum),
+            Fact::If(maximum <= LONGEST_US),
+            Fact::Number(tick),
+            Fact::Number(maximum),
+        ],
+    );
 }
 
 /// Tells of a label that no whole number of ticks serves.
-pub(crate) fn tell_narrow(refused: &mut Refused<'_>, parameter: usize) {
+fn tell_narrow(refused: &mut Refused<'_>, parameter: usize) {
     let row = refused.row;
     let least = refused.count(parameter, "min_us");
     let greatest = refused.count(parameter, "max_us");
     let tick = refused.count(0, "tick_us");
     let (low, high) = (fewest(least, tick), most(greatest, tick));
     refused.say(
-        "{} cannot be sent every {} to {} microseconds, as {} wants, in ticks of {}: it would have at least {} and at most {} ticks between two words{}",
+        "{} cannot be sent every {} to {} microseconds, as {} wants, in ticks of {}: it would have at least {} and at most {} ticks between two words{}\nnote: the fewest are `min_us / tick_us` rounded up, and one more: {} / {} gives {}\nnote: the most are `max_us / tick_us` rounded down, less one: {} / {} gives {}\nnote: {} is here{}",
         &[
             Fact::Row(row),
             Fact::Number(least),
@@ -132,11 +125,6 @@ pub(crate) fn tell_narrow(refused: &mut Refused<'_>, parameter: usize) {
             Fact::Number(low),
             Fact::Number(high),
             Fact::Place(parameter, "min_us"),
-        ],
-    );
-    refused.say(
-        "\nnote: the fewest are `min_us / tick_us` rounded up, and one more: {} / {} gives {}\nnote: the most are `max_us / tick_us` rounded down, less one: {} / {} gives {}\nnote: {} is here{}",
-        &[
             Fact::Number(least),
             Fact::Number(tick),
             Fact::Number(low),

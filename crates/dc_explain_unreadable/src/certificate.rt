@@ -5,8 +5,7 @@ use dc_document::TEXT_LIMIT;
 use dc_explain_text::{
     Fact, Misfit, Refused, tell_absent, tell_misfit, tell_no_table, tell_unknown, tell_version,
 };
-use dc_layout::{Kind, layout_of};
-use dc_tell::{Explanation, File};
+use dc_tell::{Explanation, File, Kind, layout_of};
 use std::alloc::Global;
 
 /// The kind of the object at a place, and its number among those of its kind.
@@ -74,7 +73,10 @@ fn tell_plainly(refused: &mut Refused<'_>, code: &'static str) {
 /// Explains why a text gives no certificate, by its fault; nothing where memory was refused.
 pub fn explain_certificate(alloc: Global, file: File<'_>, fault: Fault) -> Option<String> {
     let is_long = file.text.len() > TEXT_LIMIT;
-    let layout = layout_of(alloc, if is_long { b"" } else { file.text }, true)?;
+    let text = if is_long { b"" } else { file.text };
+    let Some(layout) = layout_of(alloc, text, true) else {
+        return None;
+    };
     let (kind, index) = object_at(fault.place);
     let row = layout.row(kind, index);
     let mut refused = Refused {

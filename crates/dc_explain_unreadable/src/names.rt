@@ -1,8 +1,7 @@
 //! Names and parameters that no table has.
 use crate::related::{agree, member, parameter_of, visitor};
 use dc_explain_text::{Fact, Refused};
-use dc_layout::{Kind, Span, called, unquoted};
-use dc_tell::Value;
+use dc_tell::{Kind, Names, Span, Value, called, unquoted};
 
 /// How many other tables with the same fault are named.
 const NAMED: usize = 4;
@@ -10,7 +9,10 @@ const NAMED: usize = 4;
 /// The first parameter of the label of the table with the fault.
 fn parameter_of_label(refused: &Refused<'_>) -> Option<usize> {
     for (row, it) in refused.layout.rows.iter().enumerate() {
-        if it.kind == Kind::Parameter && agree(refused, refused.row, row, "label") {
+        if it.kind != Kind::Parameter {
+            continue;
+        }
+        if agree(refused, refused.row, row, "label") {
             return Some(row);
         }
     }
@@ -22,8 +24,10 @@ fn tell_others(refused: &mut Refused<'_>) {
     let mut count = 0usize;
     for row in 0..refused.layout.rows.len() {
         let kind = refused.kind(row);
-        let has_one = kind != Kind::Stream && kind != Kind::Label;
-        if has_one || row == refused.row || parameter_of(refused, row).is_some() {
+        if kind != Kind::Stream && kind != Kind::Label {
+            continue;
+        }
+        if row == refused.row || parameter_of(refused, row).is_some() {
             continue;
         }
         count = count.saturating_add(1);
@@ -51,50 +55,44 @@ fn tell_others(refused: &mut Refused<'_>) {
 pub(crate) fn tell_no_parameter(refused: &mut Refused<'_>) {
     let row = refused.row;
     let alike = parameter_of_label(refused);
+    let other = alike.unwrap_or(row);
     let key = if alike.is_some() {
         "equipment"
     } else {
         "label"
     };
     refused.say(
-        "{} has label {} and equipment code {}, and there is no such parameter{}",
+        "{} has label {} and equipment code {}, and there is no such parameter{}\n{}help: this label has a parameter of equipment code \"{}\", in line {}: write that code here, if it is meant\n{}help: no parameter has this label: write another here, if another is meant, or this one in the parameter that is meant for it\nhelp: or add a `[[parameter]]` with `label = \"{}\"`, `equipment = \"{}\"`, a `format` of \"bnr\", \"bcd\" or \"disc\", and `min_us` and `max_us`: the least and the greatest time between two of its words, in microseconds (1 to 60000000)",
         &[
             Fact::Row(row),
             Fact::At(row, "label"),
             Fact::At(row, "equipment"),
             Fact::Place(row, key),
+            Fact::If(alike.is_some()),
+            Fact::At(other, "equipment"),
+            Fact::Line(other, "equipment"),
+            Fact::If(alike.is_none()),
+            Fact::At(row, "label"),
+            Fact::At(row, "equipment"),
         ],
-    );
-    match alike {
-        Some(other) => refused.say(
-            "\nhelp: this label has a parameter of equipment code \"{}\", in line {}: write that code here, if it is meant",
-            &[Fact::At(other, "equipment"), Fact::Line(other, "equipment")],
-        ),
-        None => refused.say(
-            "\nhelp: no parameter has this label: write another here, if another is meant, or this one in the parameter that is meant for it",
-            &[],
-        ),
-    }
-    refused.say(
-        "\nhelp: or add a `[[parameter]]` with `label = \"{}\"`, `equipment = \"{}\"`, a `format` of \"bnr\", \"bcd\" or \"disc\", and `min_us` and `max_us`: the least and the greatest time between two of its words, in microseconds (1 to 60000000)",
-        &[Fact::At(row, "label"), Fact::At(row, "equipment")],
     );
     tell_others(refused);
 }
 
-/// The names that may stand in the list at a key in the place of one that no table has: none that stands there already,
-/// and of buses those that no router visits; nothing where memory was refused.
-fn candidates<'a>(refused: &Refused<'a>, key: &str, kind: Kind) -> Option<Vec<&'a str>> {
-    let mut names = Vec::new(refused.alloc);
-    for name in refused.layout.names(refused.alloc, kind)?.as_slice() {
+/// Those of some names that may stand in the list at a key in the place of one that no table has: none that stands there
+/// already, and of buses those that no router visits.
+fn candidates<'a>(refused: &Refused<'a>, key: &str, kind: Kind, all: &[&'a str]) -> Names<'a> {
+    let mut names = Names::new(refused.alloc);
+    for name in all {
         let bytes = name.as_bytes();
-        let is_listed = member(refused, refused.row, key, bytes).is_some();
-        let is_taken = kind == Kind::Bus && visitor(refused, 0, bytes).is_some();
-        if !is_listed && !is_taken && names.push(*name).is_err() {
-            return None;
+        if member(refused, refused.row, key, bytes).is_some() {
+            continue;
+        }
+        if kind != Kind::Bus || visitor(refused, 0, bytes).is_none() {
+            names.add(*name);
         }
     }
-    Some(names)
+    names
 }
 
 /// The kinds of tables that have names.
@@ -106,55 +104,62 @@ static NAMED_KINDS: [Kind; 5] = [
     Kind::Label,
 ];
 
-/// Writes of which other kind the table is that has this name, where one has.
-fn tell_other_kind(refused: &mut Refused<'_>, name: Span) {
+/// What a table of another kind is, with its article, that has this name, where one has.
+fn other_kind(refused: &Refused<'_>, name: Span) -> Option<&'static str> {
     for kind in &NAMED_KINDS {
         if refused.named(*kind, refused.layout.piece(name)).is_some() {
             let (_, article) = called(*kind);
-            refused.say(
-                "\nnote: `{}` is the name of {}",
-                &[Fact::Piece(name), Fact::Word(article)],
-            );
-            return;
+            return Some(article);
         }
     }
+    None
+}
+
+/// The name that may be meant by one that no table has: the only one that may stand in its place, or one that is like it.
+fn meant<'a>(refused: &mut Refused<'a>, names: &[&'a str], name: Span) -> Option<&'a str> {
+    if let [only] = names {
+        return Some(*only);
+    }
+    let text = str::from_utf8(refused.layout.piece(name)).unwrap_or("");
+    refused.out.nearest(text, names)
 }
 
 /// Writes which name may stand in the place of one that no table has.
 fn tell_names(refused: &mut Refused<'_>, key: &'static str, kind: Kind, name: Span) {
-    let Some(names) = candidates(refused, key, kind) else {
+    let all = refused.names(kind);
+    let names = candidates(refused, key, kind, all.as_slice());
+    if names.is_lost() {
         return refused.out.lose();
-    };
+    }
     let (what, _) = called(kind);
-    let text = str::from_utf8(refused.layout.piece(name)).unwrap_or("");
     let which = if kind == Kind::Bus {
         "that no router visits"
     } else {
         "that is not in this list"
     };
-    let like = match names.as_slice() {
-        [only] => Some(*only),
-        all => refused.out.nearest(text, all),
-    };
-    match like {
-        Some(like) => {
-            let row = refused.named(kind, like.as_bytes()).unwrap_or(0);
-            refused.say(
-                "\nhelp: there is {} {}, in line {}: write its name here, if it is meant, or rename it there",
-                &[Fact::Row(row), Fact::Word(which), Fact::Line(row, "name")],
-            );
-        }
-        None if names.is_empty() => refused.say(
-            "\nhelp: there is no {} {}: take the name out",
-            &[Fact::Word(what), Fact::Word(which)],
-        ),
-        None => {
-            refused.say(
-                "\nhelp: write one of these, each a {} {}: ",
-                &[Fact::Word(what), Fact::Word(which)],
-            );
-            refused.out.put(Value::Names(names.as_slice()));
-        }
+    let like = meant(refused, names.as_slice(), name);
+    let row = refused
+        .named(kind, like.unwrap_or("").as_bytes())
+        .unwrap_or(0);
+    let is_none = names.as_slice().is_empty();
+    let is_list = like.is_none() && !is_none;
+    refused.say(
+        "\n{}help: there is {} {}, in line {}: write its name here, if it is meant, or rename it there\n{}help: there is no {} {}: take the name out\n{}help: write one of these, each a {} {}: ",
+        &[
+            Fact::If(like.is_some()),
+            Fact::Row(row),
+            Fact::Word(which),
+            Fact::Line(row, "name"),
+            Fact::If(is_none),
+            Fact::Word(what),
+            Fact::Word(which),
+            Fact::If(is_list),
+            Fact::Word(what),
+            Fact::Word(which),
+        ],
+    );
+    if is_list {
+        refused.out.put(Value::Names(names.as_slice()));
     }
 }
 
@@ -181,17 +186,20 @@ pub(crate) fn tell_no_name(refused: &mut Refused<'_>) -> bool {
     };
     let name = unquoted(member, refused.layout.text);
     let (what, _) = called(kind);
+    let other = other_kind(refused, name);
     refused.say(
-        "`{}` of {} has `{}`, and there is no {} of this name{}",
+        "`{}` of {} has `{}`, and there is no {} of this name{}\n{}note: `{}` is the name of {}",
         &[
             Fact::Word(key),
             Fact::Row(refused.row),
             Fact::Piece(name),
             Fact::Word(what),
             Fact::Here(member),
+            Fact::If(other.is_some()),
+            Fact::Piece(name),
+            Fact::Word(other.unwrap_or("")),
         ],
     );
-    tell_other_kind(refused, name);
     tell_names(refused, key, kind, name);
     refused.say(
         "\nhelp: or add the {} that is meant, with `name = \"{}\"`",

@@ -42,7 +42,13 @@ struct Walker<'a> {
 impl<'a> Walker<'a> {
     /// The number of the last table of a kind among all.
     fn last_of(&self, kind: Kind) -> Option<usize> {
-        self.layout.rows.iter().rposition(|row| row.kind == kind)
+        let mut last = None;
+        for (number, row) in self.layout.rows.iter().enumerate() {
+            if row.kind == kind {
+                last = Some(number);
+            }
+        }
+        last
     }
 
     /// How many tables of a kind there are so far.
@@ -162,20 +168,20 @@ impl<'a> Walker<'a> {
 
     /// Lets the value of a key go on up to the end of a token; it begins with it where it has not begun.
     fn grow(&mut self, key: usize, token: Span) {
-        if let Some(key) = self.layout.keys.get_mut(key) {
-            let has_begun = key.value.from != key.value.to;
-            let from = if has_begun {
-                key.value.from
-            } else {
-                token.from
-            };
-            key.value = Span { from, to: token.to };
+        let from = match self.layout.keys.get(key) {
+            Some(it) if it.value.from != it.value.to => it.value.from,
+            _ => token.from,
+        };
+        if let Some(it) = self.layout.keys.get_mut(key) {
+            it.value = Span { from, to: token.to };
         }
     }
 
     /// Takes a member of the innermost list, and gives the number of the table that it is.
     fn take_member(&mut self, span: Span, is_table: bool) -> Option<usize> {
-        let nest = self.nests.last().copied()?;
+        let Some(nest) = self.nests.last().copied() else {
+            return None;
+        };
         if nest.is_table {
             return None;
         }
@@ -288,14 +294,26 @@ impl<'a> Walker<'a> {
     }
 }
 
+/// The token of this number, where there is one.
+fn token_at(tokens: &[(Token, Span)], number: usize) -> Option<(Token, Span)> {
+    match tokens.get(number) {
+        None => None,
+        Some(token) => Some(*token),
+    }
+}
+
 /// The path of the heading that begins with this token, where one does: `[[path]]` or `[path]`.
 fn heading(tokens: &[(Token, Span)], number: usize) -> Option<(Span, Form)> {
-    let (second, path) = tokens.get(number.saturating_add(1))?;
-    if *second != Token::Open {
-        return Some((*path, Form::Head));
+    let Some((second, path)) = token_at(tokens, number.saturating_add(1)) else {
+        return None;
+    };
+    if second != Token::Open {
+        return Some((path, Form::Head));
     }
-    let (_, path) = tokens.get(number.saturating_add(2))?;
-    Some((*path, Form::Heads))
+    match token_at(tokens, number.saturating_add(2)) {
+        None => None,
+        Some((_, path)) => Some((path, Form::Heads)),
+    }
 }
 
 /// A walker at the beginning of a text.
@@ -319,14 +337,16 @@ fn begin<'a>(alloc: Global, text: &'a [u8], is_json: bool) -> Walker<'a> {
 
 /// Where the tables and the keys of a text stand; nothing where memory was refused.
 pub fn layout_of<'a>(alloc: Global, text: &'a [u8], is_json: bool) -> Option<Layout<'a>> {
-    let tokens = tokens_of(alloc, text, is_json)?;
+    let Some(tokens) = tokens_of(alloc, text, is_json) else {
+        return None;
+    };
     let mut walker = begin(alloc, text, is_json);
     let top = if is_json {
         Kind::Certificate
     } else {
         Kind::Top
     };
-    walker.add_row(top, None, Span { from: 0, to: 0 }, true)?;
+    let _ = walker.add_row(top, None, Span { from: 0, to: 0 }, true);
     for (number, (token, span)) in tokens.iter().enumerate() {
         walker.note_escapes(*token, *span);
         let begins = *token == Token::Open

@@ -1,6 +1,6 @@
 //! Offsets past the frame, or that two entries have.
 use dc_explain_text::{Fact, Refused, number};
-use dc_layout::{Kind, Span};
+use dc_tell::{Kind, Span};
 
 /// The first offset of the label with the fault that is not below a frame, and where it stands.
 fn past(refused: &Refused<'_>, frame: u64) -> Option<(Span, u64)> {
@@ -81,7 +81,7 @@ fn doubled(taken: &[(u64, usize, Span)], label: usize) -> Option<(u64, Span, usi
         if *row != label {
             continue;
         }
-        for (other, holder, _) in taken.iter().take(number) {
+        for (other, holder, _) in taken.get(..number).unwrap_or(&[]) {
             if other == offset {
                 return Some((*offset, *member, *holder));
             }
@@ -100,8 +100,10 @@ pub(crate) fn tell_offset_twice(refused: &mut Refused<'_>) -> bool {
     let Some((offset, member, holder)) = doubled(taken.as_slice(), refused.row) else {
         return false;
     };
+    let frame = refused.count(output, "frame");
+    let at = free(taken.as_slice(), frame);
     refused.say(
-        "`offsets` of {} has {}, where in {} there is an entry already, of {} in line {}{}",
+        "`offsets` of {} has {}, where in {} there is an entry already, of {} in line {}{}\n{}help: move one of the two; the first free offset of this output is {}\n{}help: each of the {} ticks of this frame has an entry: take one out, or write a longer `frame` (line {}); both weaken what is promised: labels are then sent less often",
         &[
             Fact::Row(refused.row),
             Fact::Number(offset),
@@ -109,18 +111,12 @@ pub(crate) fn tell_offset_twice(refused: &mut Refused<'_>) -> bool {
             Fact::Row(holder),
             Fact::Line(holder, "offsets"),
             Fact::Here(member),
+            Fact::If(at.is_some()),
+            Fact::Number(at.unwrap_or(0)),
+            Fact::If(at.is_none()),
+            Fact::Number(frame),
+            Fact::Line(output, "frame"),
         ],
     );
-    let frame = refused.count(output, "frame");
-    match free(taken.as_slice(), frame) {
-        Some(at) => refused.say(
-            "\nhelp: move one of the two; the first free offset of this output is {}",
-            &[Fact::Number(at)],
-        ),
-        None => refused.say(
-            "\nhelp: each of the {} ticks of this frame has an entry: take one out, or write a longer `frame` (line {}); both weaken what is promised: labels are then sent less often",
-            &[Fact::Number(frame), Fact::Line(output, "frame")],
-        ),
-    }
     true
 }

@@ -1,7 +1,6 @@
 //! Texts that no JSON reader reads, and what is wrong at the place where it stopped.
 use dc_explain_text::{Fact, Refused};
-use dc_layout::{Span, Token, tokens_of};
-use dc_tell::Value;
+use dc_tell::{Span, Token, Value, tokens_of};
 use serde_json::Value as Json;
 use std::alloc::Global;
 
@@ -121,8 +120,22 @@ fn tell_end(refused: &mut Refused<'_>) {
     );
 }
 
+/// What may be wrong at a place of a text where the reader said this.
+fn cause_at(alloc: Global, text: &[u8], at: usize, message: &str) -> &'static str {
+    if message.contains("out of range") {
+        return "a number before this is too great: write whole numbers in digits alone (4294967295 at most)";
+    }
+    if is_whole(alloc, text.get(..at).unwrap_or(b"")) {
+        return "the certificate ends before this: take out what follows";
+    }
+    cause(
+        class_before(text, at),
+        class_of(text.get(at).copied().unwrap_or(b' ')),
+    )
+}
+
 /// Tells what JSON's reader says of a text.
-pub(crate) fn tell_syntax(refused: &mut Refused<'_>) {
+pub(crate) fn tell_no_json(refused: &mut Refused<'_>) {
     let text = refused.file.text;
     let error = match Json::from_slice(refused.alloc, text) {
         Ok(_) => return refused.say("this is no certificate", &[]),
@@ -135,18 +148,10 @@ pub(crate) fn tell_syntax(refused: &mut Refused<'_>) {
     let Ok(message) = format!(in refused.alloc; "{error}") else {
         return refused.out.lose();
     };
-    refused.out.say("this is no JSON: ", &[]);
-    refused.out.put(Value::Text(message.as_str()));
-    let what = if message.as_str().contains("out of range") {
-        "a number before this is too great: write whole numbers in digits alone (4294967295 at most)"
-    } else if is_whole(refused.alloc, text.get(..at).unwrap_or(b"")) {
-        "the certificate ends before this: take out what follows"
-    } else {
-        cause(
-            class_before(text, at),
-            class_of(text.get(at).copied().unwrap_or(b' ')),
-        )
-    };
+    let what = cause_at(refused.alloc, text, at, message.as_str());
+    refused
+        .out
+        .say("this is no JSON: {}", &[Value::Text(message.as_str())]);
     refused.say(
         "{}\nhelp: {}\nhelp: or let `dc429 find TABLES > FILE` write a certificate",
         &[Fact::Here(Span { from: at, to: at }), Fact::Word(what)],

@@ -1,38 +1,33 @@
 //! Which routers visit a bus, and which formats sources have.
 use crate::related::{agree, parameter_of, visitor};
 use dc_explain_text::{Fact, Refused};
-use dc_layout::{Kind, Span};
-use dc_tell::Value;
-
-/// Writes which router visits a bus, and in which line.
-fn tell_visitor(refused: &mut Refused<'_>, router: usize) {
-    refused.say(
-        "\nnote: {} visits it in line {}",
-        &[Fact::Row(router), Fact::Line(router, "visits")],
-    );
-}
+use dc_tell::{Kind, Span, Value};
 
 /// Tells of a bus that two routers visit.
 fn tell_both(refused: &mut Refused<'_>, one: usize, other: usize) {
     let row = refused.row;
     refused.say(
-        "{} is visited by two routers{}",
-        &[Fact::Row(row), Fact::Place(row, "name")],
-    );
-    tell_visitor(refused, one);
-    tell_visitor(refused, other);
-    refused.say(
-        "\nhelp: a bus has one router: leave \"{}\" in the `visits` of one of them (there as often as you like), and take it out of the others",
-        &[Fact::At(row, "name")],
+        "{} is visited by two routers{}\nnote: {} visits it in line {}\nnote: {} visits it in line {}\nhelp: a bus has one router: leave \"{}\" in the `visits` of one of them (there as often as you like), and take it out of the others",
+        &[
+            Fact::Row(row),
+            Fact::Place(row, "name"),
+            Fact::Row(one),
+            Fact::Line(one, "visits"),
+            Fact::Row(other),
+            Fact::Line(other, "visits"),
+            Fact::At(row, "name"),
+        ],
     );
 }
 
 /// Writes which other buses no router visits.
 fn tell_unvisited_too(refused: &mut Refused<'_>) {
     for row in 0..refused.layout.rows.len() {
+        if row == refused.row || refused.kind(row) != Kind::Bus {
+            continue;
+        }
         let name = refused.layout.value(row, "name");
-        let is_other = row != refused.row && refused.kind(row) == Kind::Bus;
-        if is_other && visitor(refused, 0, name).is_none() {
+        if visitor(refused, 0, name).is_none() {
             refused.say(
                 "\nnote: {} in line {} is visited by no router either",
                 &[Fact::Row(row), Fact::Line(row, "name")],
@@ -44,33 +39,26 @@ fn tell_unvisited_too(refused: &mut Refused<'_>) {
 /// Tells of a bus that no router visits.
 fn tell_unvisited(refused: &mut Refused<'_>) {
     let row = refused.row;
-    refused.say(
-        "{} is visited by no router: no router takes the words from its queue{}",
-        &[Fact::Row(row), Fact::Place(row, "name")],
-    );
-    let first = refused.layout.row(Kind::Router, 0);
+    let router = refused.layout.row(Kind::Router, 0).unwrap_or(0);
     let count = refused.tables_of(Kind::Router);
-    match first {
-        None => refused.say(
-            "\nhelp: there is no router: add a `[[router]]` with \"{}\" in its `visits`",
-            &[Fact::At(row, "name")],
-        ),
-        Some(router) if count == 1 => refused.say(
-            "\nhelp: add \"{}\" to the `visits` of {}, in line {}",
-            &[
-                Fact::At(row, "name"),
-                Fact::Row(router),
-                Fact::Line(router, "visits"),
-            ],
-        ),
-        _ => {
-            refused.say(
-                "\nhelp: add \"{}\" to the `visits` of one of these routers: ",
-                &[Fact::At(row, "name")],
-            );
-            let names = refused.names(Kind::Router);
-            refused.out.put(Value::Names(names.as_slice()));
-        }
+    refused.say(
+        "{} is visited by no router: no router takes the words from its queue{}\n{}help: there is no router: add a `[[router]]` with \"{}\" in its `visits`\n{}help: add \"{}\" to the `visits` of {}, in line {}\n{}help: add \"{}\" to the `visits` of one of these routers: ",
+        &[
+            Fact::Row(row),
+            Fact::Place(row, "name"),
+            Fact::If(count == 0),
+            Fact::At(row, "name"),
+            Fact::If(count == 1),
+            Fact::At(row, "name"),
+            Fact::Row(router),
+            Fact::Line(router, "visits"),
+            Fact::If(count > 1),
+            Fact::At(row, "name"),
+        ],
+    );
+    if count > 1 {
+        let names = refused.names(Kind::Router);
+        refused.out.put(Value::Names(names.as_slice()));
     }
     refused.say(
         "\nhelp: or take the bus out; this weakens what is promised: its words are not received then",
@@ -118,7 +106,7 @@ pub(crate) fn tell_formats(refused: &mut Refused<'_>) -> bool {
         return false;
     };
     refused.say(
-        "{} has format {} by {}, and its source {} has format {} by {}{}",
+        "{} has format {} by {}, and its source {} has format {} by {}{}\nhelp: the data of a word are copied as they are, so a label and its sources have one format: mend the `format` in line {} or in line {}, whichever is wrong\nhelp: or take this source out; this weakens what is promised: the label is not sent from it then",
         &[
             Fact::Row(row),
             Fact::At(own, "format"),
@@ -127,11 +115,9 @@ pub(crate) fn tell_formats(refused: &mut Refused<'_>) -> bool {
             Fact::At(parameter, "format"),
             Fact::Row(parameter),
             Fact::Here(source),
+            Fact::Line(own, "format"),
+            Fact::Line(parameter, "format"),
         ],
-    );
-    refused.say(
-        "\nhelp: the data of a word are copied as they are, so a label and its sources have one format: mend the `format` in line {} or in line {}, whichever is wrong\nhelp: or take this source out; this weakens what is promised: the label is not sent from it then",
-        &[Fact::Line(own, "format"), Fact::Line(parameter, "format")],
     );
     true
 }

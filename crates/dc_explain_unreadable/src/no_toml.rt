@@ -1,8 +1,6 @@
-//! Texts that are no TOML document.
-use dc_document::TEXT_LIMIT;
-use dc_explain_text::{Fact, Refused, tell_bytes, tell_length, tell_other};
-use dc_layout::Span;
-use dc_tell::{File, Value};
+//! Texts in the place of tables that no TOML reader reads, and what is wrong where it stopped.
+use dc_explain_text::{Fact, Refused};
+use dc_tell::{File, Span, Value};
 
 /// A text without the byte order mark before it.
 pub(crate) fn without_mark(file: File<'_>) -> File<'_> {
@@ -61,41 +59,28 @@ fn cure(message: &str) -> &'static str {
     "{}"
 }
 
-/// Tells what TOML's reader says of a text.
-fn tell_syntax(refused: &mut Refused<'_>, text: &str) {
-    match toml::table_from_str(refused.alloc, text) {
-        Ok(_) => refused.say("this is no TOML document", &[]),
-        Err(error) => {
-            let at = match error.span() {
-                None => 0,
-                Some(span) => span.start,
-            };
-            refused.out.say("this is no TOML document: ", &[]);
-            refused.out.put(Value::Text(error.message()));
-            refused.say(
-                cure(error.message()),
-                &[Fact::Here(Span { from: at, to: at })],
-            );
-        }
-    }
-}
-
-/// Tells of a text that is no TOML document.
-pub(crate) fn tell_no_document(refused: &mut Refused<'_>) {
-    let bytes = refused.file.text;
-    if bytes.len() > TEXT_LIMIT {
-        return tell_length(
-            refused,
-            TEXT_LIMIT,
-            "\nhelp: take out comments, or split the tables: two concentrators, each with tables of its own",
+/// Tells of a text that is no TOML document: that it is JSON, or what TOML's reader says of it.
+pub(crate) fn tell_no_toml(refused: &mut Refused<'_>, text: &str) {
+    if text.trim_start().starts_with('{') {
+        return refused.say(
+            "this is JSON, as a certificate is, and the tables are wanted here, which are TOML{}\nhelp: name the tables first, and then the certificate, as in: dc429 check tables.toml certificate.json",
+            &[Fact::Here(Span { from: 0, to: 0 })],
         );
     }
-    match str::from_utf8(bytes) {
-        Err(_) => tell_bytes(refused),
-        Ok(text) if text.trim_start().starts_with('{') => tell_other(
-            refused,
-            "this is JSON, as a certificate is, and the tables are wanted here, which are TOML{}\nhelp: name the tables first, and then the certificate, as in: dc429 check tables.toml certificate.json",
-        ),
-        Ok(text) => tell_syntax(refused, text),
-    }
+    let error = match toml::table_from_str(refused.alloc, text) {
+        Ok(_) => return refused.say("this is no TOML document", &[]),
+        Err(error) => error,
+    };
+    let at = match error.span() {
+        None => 0,
+        Some(span) => span.start,
+    };
+    refused.out.say(
+        "this is no TOML document: {}",
+        &[Value::Text(error.message())],
+    );
+    refused.say(
+        cure(error.message()),
+        &[Fact::Here(Span { from: at, to: at })],
+    );
 }

@@ -1,6 +1,6 @@
 //! How tables of a text have to do with one another.
 use dc_explain_text::{Refused, number};
-use dc_layout::{Kind, Span};
+use dc_tell::{Kind, Span};
 
 /// Whether two tables have the same at a key, in upper or lower case.
 pub(crate) fn agree(refused: &Refused<'_>, one: usize, other: usize, key: &str) -> bool {
@@ -17,8 +17,10 @@ pub(crate) fn agree(refused: &Refused<'_>, one: usize, other: usize, key: &str) 
 /// The parameter that a stream or a label names.
 pub(crate) fn parameter_of(refused: &Refused<'_>, row: usize) -> Option<usize> {
     for (parameter, it) in refused.layout.rows.iter().enumerate() {
-        let is_it = it.kind == Kind::Parameter && agree(refused, row, parameter, "label");
-        if is_it && agree(refused, row, parameter, "equipment") {
+        if it.kind != Kind::Parameter || !agree(refused, row, parameter, "label") {
+            continue;
+        }
+        if agree(refused, row, parameter, "equipment") {
             return Some(parameter);
         }
     }
@@ -37,8 +39,11 @@ pub(crate) fn member(refused: &Refused<'_>, row: usize, key: &str, name: &[u8]) 
 
 /// The first router from a table on that visits a bus of this name.
 pub(crate) fn visitor(refused: &Refused<'_>, from: usize, bus: &[u8]) -> Option<usize> {
-    for (row, it) in refused.layout.rows.iter().enumerate().skip(from) {
-        if it.kind == Kind::Router && member(refused, row, "visits", bus).is_some() {
+    for (row, it) in refused.layout.rows.iter().enumerate() {
+        if row < from || it.kind != Kind::Router {
+            continue;
+        }
+        if member(refused, row, "visits", bus).is_some() {
             return Some(row);
         }
     }

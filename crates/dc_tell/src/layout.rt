@@ -1,5 +1,6 @@
 //! Where the tables of a text in TOML, or the objects of one in JSON, and their keys stand.
 use crate::kinds::Kind;
+use crate::likeness::Names;
 use crate::tokens::Span;
 use std::alloc::Global;
 
@@ -108,9 +109,12 @@ impl<'a> Layout<'a> {
 
     /// The key of this name of a table.
     pub fn key(&self, row: usize, name: &[u8]) -> Option<Key> {
-        let it = self.rows.get(row)?;
+        let (first, last) = match self.rows.get(row) {
+            None => (0, 0),
+            Some(it) => (it.first, it.last),
+        };
         let mut found = None;
-        for key in self.keys.get(it.first..it.last).unwrap_or(&[]) {
+        for key in self.keys.get(first..last).unwrap_or(&[]) {
             if key.row == Some(row) && self.bare(key.name) == name {
                 found = Some(*key);
                 if !self.is_json {
@@ -137,15 +141,14 @@ impl<'a> Layout<'a> {
         }
     }
 
-    /// The names of the tables of a kind; nothing where memory was refused.
-    pub fn names(&self, alloc: Global, kind: Kind) -> Option<Vec<&'a str>> {
-        let mut names = Vec::new(alloc);
+    /// The names of the tables of a kind.
+    pub fn names(&self, alloc: Global, kind: Kind) -> Names<'a> {
+        let mut names = Names::new(alloc);
         for (row, it) in self.rows.iter().enumerate() {
-            let name = str::from_utf8(self.value(row, "name")).unwrap_or("");
-            if it.kind == kind && names.push(name).is_err() {
-                return None;
+            if it.kind == kind {
+                names.add(str::from_utf8(self.value(row, "name")).unwrap_or(""));
             }
         }
-        Some(names)
+        names
     }
 }

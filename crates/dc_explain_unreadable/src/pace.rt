@@ -4,10 +4,6 @@ use dc_explain_text::{Fact, Refused};
 /// The most steps, and the longest time in ticks.
 const MOST: u64 = 1_000;
 
-/// That a way out satisfies one rule and perhaps no other.
-const ALONE: &str =
-    "\nnote: these numbers satisfy this rule alone: `dc429 find TABLES` then tells whether they are enough";
-
 /// A number divided by another, rounded up; that number where the other is 0.
 fn parts(number: u64, by: u64) -> u64 {
     if by == 0 { number } else { number.div_ceil(by) }
@@ -25,8 +21,9 @@ pub(crate) fn tell_router(refused: &mut Refused<'_>) {
     let within = refused.count(row, "within");
     let most = refused.count(row, "most");
     let room = most.saturating_mul(within);
+    let (more, longer) = (parts(steps, within), parts(steps, most));
     refused.say(
-        "{} must make at least {} within {}, and with its `most` of {} a tick it can make {} in that time{}",
+        "{} must make at least {} within {}, and with its `most` of {} a tick it can make {} in that time{}\n{}help: write a `most` of {} or more (line {})\nhelp: write `steps` of {} or less; this weakens what is promised: the router makes fewer steps\n{}help: write a `within` of {} or more; this weakens what is promised: the router makes them in a longer time\nnote: these numbers satisfy this rule alone: `dc429 find TABLES` then tells whether they are enough",
         &[
             Fact::Row(row),
             Fact::Several(steps, "step", "steps"),
@@ -34,26 +31,14 @@ pub(crate) fn tell_router(refused: &mut Refused<'_>) {
             Fact::Number(most),
             Fact::Number(room),
             Fact::Place(row, "steps"),
+            Fact::If(more <= MOST),
+            Fact::Number(more),
+            Fact::Line(row, "most"),
+            Fact::Number(room),
+            Fact::If(longer <= MOST),
+            Fact::Number(longer),
         ],
     );
-    let (more, longer) = (parts(steps, within), parts(steps, most));
-    if more <= MOST {
-        refused.say(
-            "\nhelp: write a `most` of {} or more (line {})",
-            &[Fact::Number(more), Fact::Line(row, "most")],
-        );
-    }
-    refused.say(
-        "\nhelp: write `steps` of {} or less; this weakens what is promised: the router makes fewer steps",
-        &[Fact::Number(room)],
-    );
-    if longer <= MOST {
-        refused.say(
-            "\nhelp: write a `within` of {} or more; this weakens what is promised: the router makes them in a longer time",
-            &[Fact::Number(longer)],
-        );
-    }
-    refused.say(ALONE, &[]);
 }
 
 /// The least time from one word of an output to the next, in microseconds.
@@ -61,56 +46,42 @@ fn spacing(is_low: bool) -> u64 {
     if is_low { 3_050 } else { 365 }
 }
 
-/// Writes which changes let an output keep its pace.
+/// Writes which changes let an output keep its pace, where its words are so many ticks apart or more.
 fn tell_paces(refused: &mut Refused<'_>, gap: u64, is_low: bool) {
     let row = refused.row;
     let steps = refused.count(row, "steps");
     let within = refused.count(row, "within");
     let quick = steps.saturating_mul(parts(spacing(false), refused.count(0, "tick_us")));
     let (longer, fewer) = (steps.saturating_mul(gap), times(within, gap));
-    if is_low && quick <= within {
-        refused.say(
-            "\nhelp: write `speed = \"high\"` (line {}), where the bus is of that speed",
-            &[Fact::Line(row, "speed")],
-        );
-    }
-    if fewer >= 1 {
-        refused.say(
-            "\nhelp: write `steps` of {} or less; this weakens what is promised: the output sends fewer words",
-            &[Fact::Number(fewer)],
-        );
-    }
-    if longer <= MOST {
-        refused.say(
-            "\nhelp: write a `within` of {} or more; this weakens what is promised: the output sends them in a longer time",
-            &[Fact::Number(longer)],
-        );
-    }
-    refused.say(ALONE, &[]);
+    refused.say(
+        "\n{}help: write `speed = \"high\"` (line {}), where the bus is of that speed\n{}help: write `steps` of {} or less; this weakens what is promised: the output sends fewer words\n{}help: write a `within` of {} or more; this weakens what is promised: the output sends them in a longer time\nnote: these numbers satisfy this rule alone: `dc429 find TABLES` then tells whether they are enough",
+        &[
+            Fact::If(is_low && quick <= within),
+            Fact::Line(row, "speed"),
+            Fact::If(fewer >= 1),
+            Fact::Number(fewer),
+            Fact::If(longer <= MOST),
+            Fact::Number(longer),
+        ],
+    );
 }
 
 /// Tells of an output that its wire lets send less than it is to.
 pub(crate) fn tell_output(refused: &mut Refused<'_>) {
     let row = refused.row;
     let steps = refused.count(row, "steps");
-    let within = refused.count(row, "within");
     let tick = refused.count(0, "tick_us");
     let is_low = refused.layout.value(row, "speed") == b"low".as_slice();
     let gap = parts(spacing(is_low), tick);
     let taken = steps.saturating_mul(gap);
     refused.say(
-        "{} must send at least {} within {}, and its wire takes {} for them{}",
+        "{} must send at least {} within {}, and its wire takes {} for them{}\nnote: at {} speed words are sent {} microseconds apart or more, with ticks of {} at least {}: {} x {} makes {}",
         &[
             Fact::Row(row),
             Fact::Several(steps, "word", "words"),
-            Fact::Several(within, "tick", "ticks"),
+            Fact::Several(refused.count(row, "within"), "tick", "ticks"),
             Fact::Several(taken, "tick", "ticks"),
             Fact::Place(row, "steps"),
-        ],
-    );
-    refused.say(
-        "\nnote: at {} speed words are sent {} microseconds apart or more, with ticks of {} at least {}: {} x {} makes {}",
-        &[
             Fact::Word(if is_low { "low" } else { "high" }),
             Fact::Number(spacing(is_low)),
             Fact::Number(tick),

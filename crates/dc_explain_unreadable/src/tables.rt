@@ -1,7 +1,8 @@
 //! Tables that were refused.
 use crate::counts::tell_count;
-use crate::document::{tell_no_document, without_mark};
+use crate::document::tell_no_document;
 use crate::names::{tell_no_name, tell_no_parameter};
+use crate::no_toml::without_mark;
 use crate::numbers::{tell_interval, tell_reversed};
 use crate::offsets::{tell_offset, tell_offset_twice};
 use crate::pace::{tell_output, tell_router};
@@ -11,8 +12,7 @@ use dc_document::{Section, TEXT_LIMIT, TableFault, TableRule};
 use dc_explain_text::{
     Fact, Misfit, Refused, tell_absent, tell_misfit, tell_no_table, tell_unknown, tell_version,
 };
-use dc_layout::{Kind, layout_of};
-use dc_tell::{Explanation, File};
+use dc_tell::{Explanation, File, Kind, layout_of};
 use std::alloc::Global;
 
 /// The kind of a table.
@@ -94,7 +94,9 @@ pub fn explain_tables(alloc: Global, file: File<'_>, fault: TableFault) -> Optio
     let is_short = file.text.len() <= TEXT_LIMIT;
     let file = if is_short { without_mark(file) } else { file };
     let text = if is_document { file.text } else { b"" };
-    let layout = layout_of(alloc, text, false)?;
+    let Some(layout) = layout_of(alloc, text, false) else {
+        return None;
+    };
     let row = layout.row(kind_of(fault.section), fault.index).unwrap_or(0);
     let mut refused = Refused {
         alloc,

@@ -1,8 +1,7 @@
 //! Texts in the place of a certificate that are something else.
-use crate::syntax::tell_syntax;
-use dc_document::TEXT_LIMIT;
-use dc_explain_text::{Fact, Refused, tell_bytes, tell_length, tell_other};
-use dc_layout::Span;
+use crate::no_json::tell_no_json;
+use dc_explain_text::{Fact, Refused};
+use dc_tell::Span;
 
 /// How a text begins that the program printed, or that has a mark before it, and what is told of it: its place, and the
 /// second word of it.
@@ -33,6 +32,10 @@ static PRINTED: [(&'static str, &'static str); 6] = [
     ),
 ];
 
+/// What is told of a text that looks like tables.
+const TABLES: &str =
+    "this looks like tables, which are TOML, and a certificate is wanted here, which is JSON{}\nhelp: name the tables first, and then the certificate, as in: dc429 check tables.toml certificate.json";
+
 /// The second word of the first line of a text.
 fn second_word(text: &[u8]) -> Span {
     let mut from = 0usize;
@@ -51,20 +54,14 @@ fn second_word(text: &[u8]) -> Span {
     }
 }
 
-/// Tells of a text that the program printed, or that has a mark before it.
-fn tell_printed(refused: &mut Refused<'_>, text: &str) -> bool {
+/// What is told of a text that the program printed, or that has a mark before it; nothing of another.
+fn printed(text: &str) -> Option<&'static str> {
     for (beginning, sentence) in &PRINTED {
         if text.starts_with(*beginning) {
-            let word = second_word(text.as_bytes());
-            let start = Span { from: 0, to: 0 };
-            refused.say(
-                sentence,
-                &[Fact::Here(start), Fact::Piece(word), Fact::Piece(word)],
-            );
-            return true;
+            return Some(sentence);
         }
     }
-    false
+    None
 }
 
 /// Whether a line begins a table of TOML, or gives a key a value.
@@ -96,39 +93,31 @@ fn is_tables(text: &str) -> bool {
     false
 }
 
-/// Tells of a text that is UTF-8.
-fn tell_text(refused: &mut Refused<'_>, text: &str) {
-    if text.trim().is_empty() {
-        refused
-            .out
-            .say("the text is empty, and a certificate is wanted", &[]);
-        refused.out.name_file(refused.file.name);
-        refused.say(
-            "\nhelp: let `dc429 find TABLES > FILE` write one, and see that it ends with status 0",
-            &[],
-        );
-    } else if tell_printed(refused, text) {} else if is_tables(text) {
-        tell_other(
-            refused,
-            "this looks like tables, which are TOML, and a certificate is wanted here, which is JSON{}\nhelp: name the tables first, and then the certificate, as in: dc429 check tables.toml certificate.json",
-        );
-    } else {
-        tell_syntax(refused);
-    }
+/// Tells that a text is empty.
+fn tell_empty(refused: &mut Refused<'_>) {
+    refused
+        .out
+        .say("the text is empty, and a certificate is wanted", &[]);
+    refused.out.name_file(refused.file.name);
+    refused.say(
+        "\nhelp: let `dc429 find TABLES > FILE` write one, and see that it ends with status 0",
+        &[],
+    );
 }
 
-/// Tells of a text that is no JSON.
-pub(crate) fn tell_no_document(refused: &mut Refused<'_>) {
-    let bytes = refused.file.text;
-    if bytes.len() > TEXT_LIMIT {
-        return tell_length(
-            refused,
-            TEXT_LIMIT,
-            "\nhelp: a certificate of the largest tables is shorter: let `dc429 find TABLES > FILE` write one",
-        );
+/// Tells of a text that no JSON reader reads: what it is instead, or what is wrong with it.
+pub(crate) fn tell_instead(refused: &mut Refused<'_>, text: &str) {
+    if text.trim().is_empty() {
+        return tell_empty(refused);
     }
-    match str::from_utf8(bytes) {
-        Err(_) => tell_bytes(refused),
-        Ok(text) => tell_text(refused, text),
-    }
+    let looked = if is_tables(text) { Some(TABLES) } else { None };
+    let Some(sentence) = printed(text).or(looked) else {
+        return tell_no_json(refused);
+    };
+    let start = Span { from: 0, to: 0 };
+    let word = second_word(text.as_bytes());
+    refused.say(
+        sentence,
+        &[Fact::Here(start), Fact::Piece(word), Fact::Piece(word)],
+    );
 }

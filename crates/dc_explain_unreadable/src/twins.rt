@@ -3,7 +3,7 @@ use crate::names::nameless;
 use crate::related::{agree, member};
 use dc_document::TableRule;
 use dc_explain_text::{Fact, Refused};
-use dc_layout::{Kind, Span};
+use dc_tell::{Kind, Span};
 
 /// Whether two streams of one bus have an SDI in common.
 fn share_sdi(refused: &Refused<'_>, one: usize, other: usize) -> bool {
@@ -29,37 +29,55 @@ fn is_twin(refused: &Refused<'_>, rule: TableRule, other: usize) -> bool {
 
 /// The first table of the same kind that is such a twin.
 fn twin_of(refused: &Refused<'_>, rule: TableRule) -> Option<usize> {
-    for (number, it) in refused.layout.rows.iter().enumerate().take(refused.row) {
-        if it.kind == refused.kind(refused.row) && is_twin(refused, rule, number) {
+    let kind = refused.kind(refused.row);
+    for (number, it) in refused.layout.rows.iter().enumerate() {
+        if number >= refused.row || it.kind != kind {
+            continue;
+        }
+        if is_twin(refused, rule, number) {
             return Some(number);
         }
     }
     None
 }
 
-/// What is told of twins, by their rule: what they have in common, and what is to be done.
-static TWINS: [(TableRule, &'static str, &'static str); 4] = [
+/// What is told of twins, by their rule: what they have in common, at which key that is shown, and what is to be done.
+static TWINS: [(TableRule, &'static str, &'static str, &'static str); 4] = [
     (
         TableRule::ParameterDoubled,
         "{} has the label and the equipment code of {}",
-        "\nhelp: write one `[[parameter]]` for each label with its equipment code: mend the `label` or the `equipment` of one, here or in line {}, or take one of the two out",
+        "label",
+        "{}\nnote: {} is here{}\nhelp: write one `[[parameter]]` for each label with its equipment code: mend the `label` or the `equipment` of one, here or in line {}, or take one of the two out",
     ),
     (
         TableRule::NameDoubled,
         "{} has the name of {}",
-        "\nhelp: give one of the two another name, here or in line {}, and write it wherever that one is meant; a name is unique in the whole file among the tables of its kind",
+        "name",
+        "{}\nnote: {} is here{}\nhelp: give one of the two another name, here or in line {}, and write it wherever that one is meant; a name is unique in the whole file among the tables of its kind",
     ),
     (
         TableRule::StreamsOverlap,
         "{} and {} of {} both have label {}, with SDI {} and {}: a word could belong to both",
-        "\nhelp: give each an SDI of its own from 0 to 3 (\"any\" is all four), here and in line {}, or mend the `label` of one",
+        "sdi",
+        "{}\nnote: {} is here{}\nhelp: give each an SDI of its own from 0 to 3 (\"any\" is all four), here and in line {}, or mend the `label` of one",
     ),
     (
         TableRule::LabelDoubled,
         "{} and {} of {} both have label {}, with SDI {} and {}: receivers could not tell them apart",
-        "\nhelp: give one of the two another SDI (0 to 3), here or in line {}, put it into another output, or make one label of both, with the sources in their priority",
+        "sdi",
+        "{}\nnote: {} is here{}\nhelp: give one of the two another SDI (0 to 3), here or in line {}, put it into another output, or make one label of both, with the sources in their priority",
     ),
 ];
+
+/// What is told of twins by a rule, as it stands in [`TWINS`].
+fn texts_of(rule: TableRule) -> (&'static str, &'static str, &'static str) {
+    for (own, sentence, key, todo) in &TWINS {
+        if *own == rule {
+            return (sentence, key, todo);
+        }
+    }
+    ("", "", "")
+}
 
 /// Writes which tables have a name in their list, and which have one that no table has: one of the twins may be meant.
 fn tell_users(refused: &mut Refused<'_>, kind: Kind, key: &'static str) {
@@ -69,23 +87,22 @@ fn tell_users(refused: &mut Refused<'_>, kind: Kind, key: &'static str) {
         if refused.kind(row) != kind {
             continue;
         }
-        if member(refused, row, key, name).is_some() {
-            refused.say(
-                "\nnote: `{}` of {} has this name, in line {}: see which of the two it means",
-                &[Fact::Word(key), Fact::Row(row), Fact::Line(row, key)],
-            );
-        }
-        if let Some(other) = nameless(refused, row, key, own) {
-            refused.say(
-                "\nnote: `{}` of {} has {}, in line {}, which no table has for its name: one of the two may be meant",
-                &[
-                    Fact::Word(key),
-                    Fact::Row(row),
-                    Fact::Piece(other),
-                    Fact::Line(row, key),
-                ],
-            );
-        }
+        let is_user = member(refused, row, key, name).is_some();
+        let other = nameless(refused, row, key, own);
+        refused.say(
+            "\n{}note: `{}` of {} has this name, in line {}: see which of the two it means\n{}note: `{}` of {} has {}, in line {}, which no table has for its name: one of the two may be meant",
+            &[
+                Fact::If(is_user),
+                Fact::Word(key),
+                Fact::Row(row),
+                Fact::Line(row, key),
+                Fact::If(other.is_some()),
+                Fact::Word(key),
+                Fact::Row(row),
+                Fact::Piece(other.unwrap_or(Span { from: 0, to: 0 })),
+                Fact::Line(row, key),
+            ],
+        );
     }
 }
 
@@ -95,44 +112,32 @@ pub(crate) fn tell_twin(refused: &mut Refused<'_>, rule: TableRule) -> bool {
     let Some(twin) = twin_of(refused, rule) else {
         return false;
     };
-    let key = match rule {
-        TableRule::NameDoubled => "name",
-        TableRule::ParameterDoubled => "label",
-        _ => "sdi",
-    };
-    for (own, sentence, todo) in &TWINS {
-        if *own != rule {
-            continue;
-        }
-        refused.say(
-            sentence,
-            &[
-                Fact::Row(row),
-                Fact::Row(twin),
-                Fact::Row(refused.parent(row)),
-                Fact::At(row, "label"),
-                Fact::At(row, "sdi"),
-                Fact::At(twin, "sdi"),
-            ],
-        );
-        refused.say(
-            "{}\nnote: {} is here{}",
-            &[
-                Fact::Place(row, key),
-                Fact::Row(twin),
-                Fact::Place(twin, key),
-            ],
-        );
-        refused.say(todo, &[Fact::Line(twin, key)]);
-    }
-    match refused.kind(row) {
-        Kind::Bus => tell_users(refused, Kind::Router, "visits"),
-        Kind::Stream if rule == TableRule::NameDoubled => tell_users(
-            refused,
-            Kind::Label,
-            "sources",
-        ),
-        _ => {}
+    let (sentence, key, todo) = texts_of(rule);
+    refused.say(
+        sentence,
+        &[
+            Fact::Row(row),
+            Fact::Row(twin),
+            Fact::Row(refused.parent(row)),
+            Fact::At(row, "label"),
+            Fact::At(row, "sdi"),
+            Fact::At(twin, "sdi"),
+        ],
+    );
+    refused.say(
+        todo,
+        &[
+            Fact::Place(row, key),
+            Fact::Row(twin),
+            Fact::Place(twin, key),
+            Fact::Line(twin, key),
+        ],
+    );
+    let kind = refused.kind(row);
+    if kind == Kind::Bus {
+        tell_users(refused, Kind::Router, "visits");
+    } else if kind == Kind::Stream && rule == TableRule::NameDoubled {
+        tell_users(refused, Kind::Label, "sources");
     }
     true
 }
@@ -141,7 +146,7 @@ pub(crate) fn tell_twin(refused: &mut Refused<'_>, rule: TableRule) -> bool {
 fn doubled(refused: &Refused<'_>) -> Option<Span> {
     let members = refused.layout.members(refused.row, "sources");
     for (number, one) in members.iter().enumerate() {
-        for earlier in members.iter().take(number) {
+        for earlier in members.get(..number).unwrap_or(&[]) {
             if refused.layout.bare(*earlier) == refused.layout.bare(*one) {
                 return Some(*one);
             }
