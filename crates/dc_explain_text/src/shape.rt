@@ -233,8 +233,11 @@ fn tell_misplaced(refused: &mut Refused<'_>, name: &'static str) {
     );
 }
 
-/// Whether tables have the same at a key that wants such a value, more often than not.
-fn has_usual(sort: Sort) -> bool {
+/// Whether it tells something what others have at a key: `steps` and `within` say something together alone.
+fn has_usual(name: &str, sort: Sort) -> bool {
+    if name == "steps" || name == "within" {
+        return false;
+    }
     sort == Sort::Number || sort == Sort::Word || sort == Sort::Truth
 }
 
@@ -259,7 +262,7 @@ pub fn tell_absent(refused: &mut Refused<'_>) -> bool {
         ],
     );
     tell_wanted(refused, wanted);
-    if has_usual(wanted.sort) {
+    if has_usual(name, wanted.sort) {
         tell_usual(refused, name);
     }
     if kind == Kind::Top {

@@ -19,6 +19,32 @@ fn parameter_of_label(refused: &Refused<'_>) -> Option<usize> {
     None
 }
 
+/// Whether a stream or a label names a parameter.
+fn is_named(refused: &Refused<'_>, parameter: usize) -> bool {
+    for (row, it) in refused.layout.rows.iter().enumerate() {
+        if it.kind != Kind::Stream && it.kind != Kind::Label {
+            continue;
+        }
+        if !agree(refused, row, parameter, "label") {
+            continue;
+        }
+        if agree(refused, row, parameter, "equipment") {
+            return true;
+        }
+    }
+    false
+}
+
+/// The first parameter that no stream and no label names.
+fn unnamed_parameter(refused: &Refused<'_>) -> Option<usize> {
+    for (row, it) in refused.layout.rows.iter().enumerate() {
+        if it.kind == Kind::Parameter && !is_named(refused, row) {
+            return Some(row);
+        }
+    }
+    None
+}
+
 /// Writes which other streams and labels have no parameter either.
 fn tell_others(refused: &mut Refused<'_>) {
     let mut count = 0usize;
@@ -56,13 +82,14 @@ pub(crate) fn tell_no_parameter(refused: &mut Refused<'_>) {
     let row = refused.row;
     let alike = parameter_of_label(refused);
     let other = alike.unwrap_or(row);
+    let unnamed = unnamed_parameter(refused).unwrap_or(other);
     let key = if alike.is_some() {
         "equipment"
     } else {
         "label"
     };
     refused.say(
-        "{} has label {} and equipment code {}, and there is no such parameter{}\n{}help: this label has a parameter of equipment code \"{}\", in line {}: write that code here, if it is meant\n{}help: no parameter has this label: write another here, if another is meant, or this one in the parameter that is meant for it\nhelp: or add a `[[parameter]]` with `label = \"{}\"`, `equipment = \"{}\"`, a `format` of \"bnr\", \"bcd\" or \"disc\", and `min_us` and `max_us`: the least and the greatest time between two of its words, in microseconds (1 to 60000000)",
+        "{} has label {} and equipment code {}, and there is no such parameter{}\n{}help: this label has a parameter of equipment code \"{}\", in line {}: write that code here, if it is meant\n{}help: no parameter has this label: write another here, if another is meant, or this one in the parameter that is meant for it\n{}note: {} in line {} is named by no stream and no label: it may be the one that is meant\nhelp: or add a `[[parameter]]` with `label = \"{}\"`, `equipment = \"{}\"`, a `format` of \"bnr\", \"bcd\" or \"disc\", and `min_us` and `max_us`: the least and the greatest time between two of its words, in microseconds (1 to 60000000)",
         &[
             Fact::Row(row),
             Fact::At(row, "label"),
@@ -72,6 +99,9 @@ pub(crate) fn tell_no_parameter(refused: &mut Refused<'_>) {
             Fact::At(other, "equipment"),
             Fact::Line(other, "equipment"),
             Fact::If(alike.is_none()),
+            Fact::If(unnamed != other),
+            Fact::Row(unnamed),
+            Fact::Line(unnamed, "label"),
             Fact::At(row, "label"),
             Fact::At(row, "equipment"),
         ],

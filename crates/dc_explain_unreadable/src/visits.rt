@@ -42,7 +42,7 @@ fn tell_unvisited(refused: &mut Refused<'_>) {
     let router = refused.layout.row(Kind::Router, 0).unwrap_or(0);
     let count = refused.tables_of(Kind::Router);
     refused.say(
-        "{} is visited by no router: no router takes the words from its queue{}\n{}help: there is no router: add a `[[router]]` with \"{}\" in its `visits`\n{}help: add \"{}\" to the `visits` of {}, in line {}\n{}help: add \"{}\" to the `visits` of one of these routers: ",
+        "{} is visited by no router: no router takes the words from its queue{}\n{}help: there is no router: add a `[[router]]` with \"{}\" in its `visits`\n{}help: add \"{}\" to the `visits` of {}, in line {}\n{}help: add \"{}\" to the `visits` of one of these routers, best of one whose other buses bring words as often: ",
         &[
             Fact::Row(row),
             Fact::Place(row, "name"),

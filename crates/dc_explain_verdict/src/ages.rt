@@ -49,7 +49,7 @@ fn tell_limit_ways(told: &mut Teller<'_>, own: &Aging) {
 /// Where to mend an age: in the certificate where one is accepted, or where the bus of the source may be quick enough.
 fn age_place(told: &Teller<'_>, own: &Aging) -> Fact {
     if least_age(own) <= own.limit {
-        return Place(true, Section::Label, own.number);
+        return Place(true, Section::Label, own.number, "age");
     }
     let most = own.limit.checked_sub(own.stale);
     mended_at(told, Queue::Input(own.slowest.bus), most, own.number)
@@ -104,7 +104,7 @@ pub(crate) fn tell_oldest(told: &mut Teller<'_>, own: &Aging) {
         &[
             Number(own.limit),
             Ticks(least_age(own).saturating_sub(own.limit)),
-            Place(false, Section::Label, own.number),
+            Place(false, Section::Label, own.number, ""),
         ],
     );
     tell_limit_ways(told, own);

@@ -23,8 +23,8 @@ pub(crate) enum Fact {
     Name(Section, usize),
     /// The name of this number in a list of the certificate.
     Written(CertificateList, usize),
-    /// Where it is mended: whether in the certificate, and at which table.
-    Place(bool, Section, usize),
+    /// Where it is mended: whether in the certificate, at which table, and in the certificate at which key.
+    Place(bool, Section, usize, &'static str),
     /// Whether the line is told that begins with its hole.
     If(bool),
 }

@@ -44,12 +44,12 @@ fn number_of(told: &Teller<'_>, section: Section, name: &str) -> Option<usize> {
 
 /// C01: the names of a list are not the tables', once each and in their order.
 pub(crate) fn tell_names(told: &mut Teller<'_>, list: CertificateList) {
-    let (kind, one, many, section) = words_of(list);
+    let (kind, key, many, section) = words_of(list);
     let place = first_place(told, list, section);
     let is_missing = written_at(told.certificate, list, place).is_empty();
     let is_more = name_of(told.tables, section, place).is_empty();
     let number = number_of(told, section, written_at(told.certificate, list, place));
-    let (one, wanted, written) = (Word(one), Name(section, place), Written(list, place));
+    let (one, wanted, written) = (Word(key), Name(section, place), Written(list, place));
     let (how, facts) = if is_more {
         (
             ", `{}`, is more than the tables have",
@@ -72,7 +72,7 @@ pub(crate) fn tell_names(told: &mut Teller<'_>, list: CertificateList) {
     told.say(
         "{}\n{}note: {} `{}` is number {} of the tables\n{}note: the tables have no {} `{}`\nhelp: list the {} once each, in the order of the tables, or let `dc429 find` write the certificate",
         &[
-            Place(true, section, place),
+            Place(true, section, place, key),
             If(!is_missing && number.is_some()),
             one,
             written,

@@ -3,7 +3,7 @@ use dc_cert::Certificate;
 use dc_check::CertificateList;
 use dc_document::Section;
 use dc_tables::Tables;
-use dc_tell::{Kind, layout_of};
+use dc_tell::{Kind, is_of_certificate, layout_of};
 use std::alloc::Global;
 
 /// The name of a table, empty where there is none of this number.
@@ -41,25 +41,31 @@ pub(crate) fn kinds_of(section: Section) -> (Kind, Kind) {
     match section {
         Section::Bus => (Kind::Bus, Kind::InputClaim),
         Section::Output => (Kind::Output, Kind::OutputClaim),
+        Section::Router => (Kind::Router, Kind::None),
         _ => (Kind::Label, Kind::LabelClaim),
     }
 }
 
-/// Behind how many bytes of a text the table or object of this kind and number stands, where that is found.
+/// Behind how many bytes of a text the value stands at a key of the table or object of this kind and number, or that
+/// itself where it has no such key; nothing where it is not found.
 pub(crate) fn offset_of(
     alloc: Global,
     text: &[u8],
-    is_json: bool,
     kind: Kind,
     number: usize,
+    key: &str,
 ) -> Option<usize> {
-    let Some(layout) = layout_of(alloc, text, is_json) else {
+    let Some(layout) = layout_of(alloc, text, is_of_certificate(kind)) else {
         return None;
     };
-    for row in layout.rows.as_slice() {
-        if row.kind == kind && row.index == number {
-            return Some(row.at.from);
-        }
+    let Some(row) = layout.row(kind, number) else {
+        return None;
+    };
+    if let Some(key) = layout.key(row, key.as_bytes()) {
+        return Some(key.value.from);
     }
-    None
+    match layout.rows.get(row) {
+        None => None,
+        Some(found) => Some(found.at.from),
+    }
 }

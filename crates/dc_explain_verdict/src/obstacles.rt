@@ -112,7 +112,7 @@ fn tell_never(told: &mut Teller<'_>, server: &Server) {
     let before = longest.saturating_sub(1);
     let counts = counts_of(told.tables, server.queue, longest, before);
     begin_counts(told, "F1", server, (longest, longest), &counts);
-    told.say(": no window closes{}", &[place(false, server.queue)]);
+    told.say(": no window closes{}", &[place(false, server.queue, "")]);
     tell_terms(told, server);
     told.tell_closing();
     tell_never_ways(told, server);
@@ -132,7 +132,7 @@ fn tell_short(told: &mut Teller<'_>, server: &Server) {
         &[
             Number(peak.height),
             Number(u64::from(server.room)),
-            place(false, server.queue),
+            place(false, server.queue, ""),
         ],
     );
     tell_terms(told, server);
@@ -169,10 +169,8 @@ fn tell_rest(told: &mut Teller<'_>, rest: usize) {
     let rest = Several(rest as u64, one, many);
     told.say("{} in the way of a certificate", &[rest]);
     told.out.name_file(told.file.name);
-    told.out.help(
-        "`dc429 margins` shows all of them: each line with a negative margin",
-        &[],
-    );
+    let all = "\nhelp: `dc429 margins` shows all of them: each line with a negative margin";
+    told.say(all, &[]);
 }
 
 /// Tells the first of what stands in the way, and how many more do.

@@ -59,7 +59,8 @@ pub(crate) struct Server {
     pub(crate) is_bus: bool,
     /// Its name.
     pub(crate) name: Fact,
-    /// The name of what serves it.
+    /// The number and the name of what serves it.
+    pub(crate) by: usize,
     pub(crate) server: Fact,
     /// So many steps are made at least ..
     pub(crate) steps: u32,
@@ -67,8 +68,9 @@ pub(crate) struct Server {
     pub(crate) within: u32,
     /// The most steps of a router in one tick; of an output the most that there are.
     pub(crate) most: u32,
-    /// The greatest `steps` that the tables may have.
+    /// The greatest `steps` that the tables may have with this `within`, and the least `within` with these `steps`.
     pub(crate) limit: u32,
+    pub(crate) shortest: u32,
     /// How many words a receive queue holds; of an output 0.
     pub(crate) room: u32,
     /// The window, the backlog and the delay that the certificate claims of it; of an output its backlog is 0.
@@ -84,11 +86,11 @@ impl Server {
     }
 }
 
-/// The place of a queue in the tables, with whether it is mended in the certificate.
-pub(crate) fn place(is_claimed: bool, queue: Queue) -> Fact {
+/// The place of a queue in the tables, or where it is mended in the certificate, at a key of this.
+pub(crate) fn place(is_claimed: bool, queue: Queue, key: &'static str) -> Fact {
     match queue {
-        Queue::Input(bus) => Fact::Place(is_claimed, Section::Bus, bus),
-        Queue::Output(output) => Fact::Place(is_claimed, Section::Output, output),
+        Queue::Input(bus) => Fact::Place(is_claimed, Section::Bus, bus, key),
+        Queue::Output(output) => Fact::Place(is_claimed, Section::Output, output, key),
     }
 }
 
@@ -108,11 +110,13 @@ fn bus_server(tables: &Tables, certificate: &Certificate, bus: usize) -> Option<
         words: BUS,
         is_bus: true,
         name: Name(Section::Bus, bus),
+        by: own.router,
         server: Name(Section::Router, own.router),
         steps: router.steps,
         within: router.within,
         most: router.most,
         limit: MOST_STEPS,
+        shortest: router.steps.div_ceil(router.most.max(1)).max(1),
         room: own.queue,
         window: claim.window,
         backlog: claim.backlog,
@@ -134,11 +138,13 @@ fn output_server(tables: &Tables, certificate: &Certificate, output: usize) -> O
         words: OUTPUT,
         is_bus: false,
         name: Name(Section::Output, output),
+        by: output,
         server: Name(Section::Output, output),
         steps: own.steps,
         within: own.within,
         most: MOST_STEPS,
         limit: own.within.checked_div(own.gap).unwrap_or(0).min(MOST_STEPS),
+        shortest: own.steps.saturating_mul(own.gap).max(1),
         room: 0,
         window: claim.window,
         backlog: 0,
@@ -158,32 +164,28 @@ pub(crate) fn server_of(
     }
 }
 
-/// How often a bus stands among places.
-fn visits_in(places: &[usize], bus: usize) -> u64 {
-    let mut count = 0u64;
-    for place in places {
-        if *place == bus {
-            count = count.saturating_add(1);
-        }
-    }
-    count
-}
-
 /// Of a bus how many places the visits of its router have, and how many of them are the bus; of an output how many
 /// entries its frame has, and how many ticks.
-pub(crate) fn shares_of(tables: &Tables, queue: Queue) -> (u64, u64) {
+pub(crate) fn shares_of(tables: &Tables, queue: Queue) -> (u32, u32) {
+    let mut all = 0u32;
+    let mut own = 0u32;
     match queue {
         Queue::Input(bus) if bus < tables.bus_count() => {
             tables.valid();
-            let places = tables.router(tables.bus(bus).router).visits.as_slice();
-            (places.len() as u64, visits_in(places, bus))
+            for place in tables.router(tables.bus(bus).router).visits.as_slice() {
+                all = all.saturating_add(1);
+                own = own.saturating_add(u32::from(*place == bus));
+            }
         }
         Queue::Output(output) if output < tables.output_count() => {
-            let own = tables.output(output);
-            (own.entries.len() as u64, u64::from(own.frame))
+            own = tables.output(output).frame;
+            for _ in tables.output(output).entries.as_slice() {
+                all = all.saturating_add(1);
+            }
         }
-        _ => (0, 0),
+        _ => {}
     }
+    (all, own)
 }
 
 /// Whether some stream of the bus of a queue has a jitter; an output has none.

@@ -43,12 +43,22 @@ fn is_granted<A: ArrivalBound, S: ServiceBound>(
     }
 }
 
-/// Whether the queue has what is wished where so many steps are made.
-fn is_granted_at(tables: &Tables, server: &Server, steps: u32, wish: &Wish, quick: bool) -> bool {
-    if server.within == 0 {
+/// Whether the queue has what is wished where its `steps`, or what its `within` is shorter by, is so much.
+fn is_granted_at(
+    tables: &Tables,
+    server: &Server,
+    is_steps: bool,
+    number: u32,
+    wish: &Wish,
+    quick: bool,
+) -> bool {
+    let steps = if is_steps { number } else { server.steps };
+    let less = if is_steps { 0 } else { number };
+    let within = server.within.saturating_sub(less);
+    if within == 0 {
         return false;
     }
-    let pace = Paced::new(steps, server.within);
+    let pace = Paced::new(steps, within);
     match server.queue {
         Queue::Input(bus) if bus < tables.bus_count() => {
             tables.valid();
@@ -66,24 +76,24 @@ fn is_granted_at(tables: &Tables, server: &Server, steps: u32, wish: &Wish, quic
     }
 }
 
-/// The least steps above `from` and up to `to` with which the queue has what is wished, found by halves: with more of
-/// them nothing waits longer. `to` where none of those below has it.
+/// The least number above the first of two and up to the second with which the queue has what is wished, found by halves:
+/// with more of it nothing waits longer. The second where none of those below has it.
 fn least_between(
     tables: &Tables,
     server: &Server,
-    from: u32,
-    to: u32,
+    is_steps: bool,
+    between: (u32, u32),
     wish: &Wish,
     quick: bool,
 ) -> u32 {
-    let mut low = from.saturating_add(1);
-    let mut high = to;
+    let mut low = between.0.saturating_add(1);
+    let mut high = between.1;
     for _ in 0..32 {
         if low >= high {
             break;
         }
         let middle = low.saturating_add(high.saturating_sub(low) / 2);
-        if is_granted_at(tables, server, middle, wish, quick) {
+        if is_granted_at(tables, server, is_steps, middle, wish, quick) {
             high = middle;
         } else {
             low = middle.saturating_add(1);
@@ -92,15 +102,37 @@ fn least_between(
     high
 }
 
-/// The least steps with which the queue has what is wished: more than it is served with, up to what tables may have.
-pub(crate) fn least_steps(tables: &Tables, server: &Server, wish: &Wish) -> Option<u32> {
-    if server.limit <= server.steps || !is_granted_at(tables, server, server.limit, wish, false) {
+/// The least number above the first of two and up to the second with which the queue has what is wished.
+fn least(
+    tables: &Tables,
+    server: &Server,
+    is_steps: bool,
+    between: (u32, u32),
+    wish: &Wish,
+) -> Option<u32> {
+    let (from, to) = between;
+    if to <= from || !is_granted_at(tables, server, is_steps, to, wish, false) {
         return None;
     }
-    let enough = least_between(tables, server, server.steps, server.limit, wish, true);
+    let enough = least_between(tables, server, is_steps, between, wish, true);
     let fewer = enough.saturating_sub(1);
-    if fewer <= server.steps || !is_granted_at(tables, server, fewer, wish, false) {
+    if fewer <= from || !is_granted_at(tables, server, is_steps, fewer, wish, false) {
         return Some(enough);
     }
-    Some(least_between(tables, server, server.steps, fewer, wish, false))
+    Some(least_between(tables, server, is_steps, (from, fewer), wish, false))
+}
+
+/// The least steps with which the queue has what is wished: more than it is served with, up to what tables may have.
+pub(crate) fn least_steps(tables: &Tables, server: &Server, wish: &Wish) -> Option<u32> {
+    least(tables, server, true, (server.steps, server.limit), wish)
+}
+
+/// The longest `within` with which the queue has what is wished: shorter than it is served with, down to what tables may
+/// have.
+pub(crate) fn most_within(tables: &Tables, server: &Server, wish: &Wish) -> Option<u32> {
+    let most = server.within.saturating_sub(server.shortest);
+    match least(tables, server, false, (0, most), wish) {
+        None => None,
+        Some(less) => Some(server.within.saturating_sub(less)),
+    }
 }

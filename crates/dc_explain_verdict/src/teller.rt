@@ -58,14 +58,14 @@ impl<'a> Teller<'a> {
         }
     }
 
-    /// Tells where it is mended, in the certificate or in the tables, and at which table of these.
-    fn tell_place(&mut self, is_claimed: bool, section: Section, number: usize) {
+    /// Tells where it is mended, in the tables or at a key of the certificate, and at which table.
+    fn tell_place(&mut self, is_claimed: bool, section: Section, number: usize, key: &str) {
         let (kind, claim) = kinds_of(section);
-        let table = offset_of(self.alloc, self.file.text, false, kind, number);
+        let table = offset_of(self.alloc, self.file.text, kind, number, "");
         if !is_claimed {
             return self.tell_offset(self.file, table);
         }
-        let claimed = offset_of(self.alloc, self.claims.text, true, claim, number);
+        let claimed = offset_of(self.alloc, self.claims.text, claim, number, key);
         self.tell_offset(self.claims, claimed);
         if let Some(offset) = table {
             self.out.beside(self.file, offset);
@@ -86,8 +86,8 @@ impl<'a> Teller<'a> {
             Fact::Word(word) => Value::Text(word),
             Fact::Name(section, number) => Value::Text(name_of(self.tables, section, number)),
             Fact::Written(list, number) => Value::Text(written_at(self.certificate, list, number)),
-            Fact::Place(is_claimed, section, number) => {
-                return self.tell_place(is_claimed, section, number);
+            Fact::Place(is_claimed, section, number, key) => {
+                return self.tell_place(is_claimed, section, number, key);
             }
             Fact::If(_) => return,
         };

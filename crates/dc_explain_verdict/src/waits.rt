@@ -33,38 +33,39 @@ fn tell_least_window(told: &mut Teller<'_>, server: &Server) {
     }
 }
 
-/// Where to mend a window: in the certificate where some window closes.
-fn window_place(told: &Teller<'_>, server: &Server) -> Fact {
+/// Where to mend a window or a delay: in the certificate, at its key, where some window closes.
+fn window_place(told: &Teller<'_>, server: &Server, key: &'static str) -> Fact {
     let is_closing = closing_of(told.tables, server.queue, None).is_some();
-    place(is_closing, server.queue)
+    place(is_closing, server.queue, key)
 }
 
-/// Begins what is told of a window or a delay that is out of its range, by its code.
-fn begin_range(told: &mut Teller<'_>, code: &str, server: &Server, claimed: u32) {
-    let place = window_place(told, server);
-    let sentence = if code == "C02" {
-        "{} `{}`: the certificate has a window of {}; one of 1 tick to {} is wanted{}"
+/// Begins what is told of a window or a delay that is out of its range.
+fn begin_range(told: &mut Teller<'_>, server: &Server, key: &'static str, claimed: u32) {
+    let place = window_place(told, server, key);
+    let (code, sentence) = if key == "window" {
+        ("C02", "one of 1 tick to {} is wanted{}")
     } else {
-        "{} `{}`: the certificate has a delay of {}; {} is the longest that is accepted{}"
+        ("C07", "{} is the longest that is accepted{}")
     };
     let (queue, claimed) = (Word(server.words.queue), Ticks(u64::from(claimed)));
     told.out.begin(code);
     told.say(
-        sentence,
-        &[queue, server.name, claimed, Ticks(LONGEST), place],
+        "{} `{}`: the certificate has a {} of {}; ",
+        &[queue, server.name, Word(key), claimed],
     );
+    told.say(sentence, &[Ticks(LONGEST), place]);
 }
 
 /// C02: the window is out of its range.
 pub(crate) fn tell_window(told: &mut Teller<'_>, server: &Server) {
-    begin_range(told, "C02", server, server.window);
+    begin_range(told, server, "window", server.window);
     told.tell_closing();
     tell_least_window(told, server);
 }
 
 /// C07: the delay is out of its range.
 pub(crate) fn tell_long_delay(told: &mut Teller<'_>, server: &Server) {
-    begin_range(told, "C07", server, server.delay);
+    begin_range(told, server, "delay", server.delay);
     let own = closing_of(told.tables, server.queue, Some(server.window));
     match own.or(closing_of(told.tables, server.queue, None)) {
         Some(closing) => tell_delay_way(told, closing.peaks.delay.height),
@@ -94,7 +95,7 @@ pub(crate) fn tell_open_window(told: &mut Teller<'_>, server: &Server) {
     let before = window.saturating_sub(1);
     let counts = counts_of(told.tables, server.queue, window, before);
     let left = counts.come.saturating_sub(counts.served);
-    let place = window_place(told, server);
+    let place = window_place(told, server, "window");
     begin_counts(told, "C03", server, (window, window), &counts);
     told.say(
         ": a window of {} does not close, {} may be left{}",
@@ -103,7 +104,7 @@ pub(crate) fn tell_open_window(told: &mut Teller<'_>, server: &Server) {
     tell_terms(told, server);
     told.tell_closing();
     tell_least_window(told, server);
-    if matches!(place, Fact::Place(true, _, _)) {
+    if matches!(place, Fact::Place(true, _, _, _)) {
         let wish = Wish {
             window: Some(window),
             ..ANY_WINDOW
@@ -140,7 +141,7 @@ pub(crate) fn tell_backlog(told: &mut Teller<'_>, server: &Server, first: u32) {
         &[
             least,
             Number(u64::from(server.backlog)),
-            place(is_claimed, server.queue),
+            place(is_claimed, server.queue, "backlog"),
         ],
     );
     tell_terms(told, server);
@@ -192,7 +193,7 @@ pub(crate) fn tell_room(told: &mut Teller<'_>, server: &Server) {
             Several(u64::from(server.backlog), "word", "words"),
             server.name,
             Number(room),
-            place(least <= room, server.queue),
+            place(least <= room, server.queue, "backlog"),
         ],
     );
     if least > room {
@@ -232,7 +233,10 @@ pub(crate) fn tell_delay(told: &mut Teller<'_>, server: &Server, first: u32) {
     begin_counts(told, "C06", server, (peak.ticks, by), &counts);
     told.say(
         "; the certificate has a delay of {}{}",
-        &[Ticks(u64::from(server.delay)), place(true, server.queue)],
+        &[
+            Ticks(u64::from(server.delay)),
+            place(true, server.queue, "delay"),
+        ],
     );
     tell_terms(told, server);
     tell_earlier(told, first, peak.ticks);

@@ -1,9 +1,9 @@
 //! What helps. What keeps the design is told first, then what is asked of sources, then what weakens a promise.
-use crate::bounds::least_delay_of;
+use crate::bounds::{counts_of, least_delay_of};
 use crate::fact::Fact;
 use crate::fact::Fact::{If, Number, Range, Several, Ticks, Word};
 use crate::servers::{Server, place, server_of, shares_of};
-use crate::steps::{ANY_WINDOW, Wish, least_steps};
+use crate::steps::{ANY_WINDOW, Wish, least_steps, most_within};
 use crate::teller::Teller;
 use dc_document::Section;
 use dc_find::Queue;
@@ -71,8 +71,8 @@ pub(crate) fn tell_no_steps(told: &mut Teller<'_>, server: &Server, wish: &Wish)
 pub(crate) fn mended_at(told: &Teller<'_>, queue: Queue, most: Option<u64>, label: usize) -> Fact {
     let least = least_delay_of(told.tables, queue);
     match most {
-        Some(most) if least <= most => place(true, queue),
-        _ => Fact::Place(false, Section::Label, label),
+        Some(most) if least <= most => place(true, queue, "delay"),
+        _ => Fact::Place(false, Section::Label, label, ""),
     }
 }
 
@@ -113,13 +113,15 @@ pub(crate) fn tell_no_shorter_delay(told: &mut Teller<'_>, queue: Queue, most: O
     }
 }
 
-/// Tells at what pace a queue is served, of which no window closes.
+/// Tells at what pace a queue is served, of which no window closes, and what comes meanwhile.
 fn tell_pace(told: &mut Teller<'_>, server: &Server) {
-    let steps = u64::from(server.steps);
-    let within = Ticks(u64::from(server.within));
+    let (steps, within) = (u64::from(server.steps), Ticks(u64::from(server.within)));
     let (all, own) = shares_of(told.tables, server.queue);
+    let round = server.within.saturating_mul(all);
+    let counts = counts_of(told.tables, server.queue, round, 0);
+    let (all, own, round) = (u64::from(all), u64::from(own), u64::from(round));
     told.say(
-        "\n{}note: router `{}` makes at least {} in each {}; of its `visits`, {} in all, bus `{}` has {}\n{}note: output `{}` sends at least {} in each {}; its `frame` of {} has {}",
+        "\n{}note: router `{}` makes at least {} in each {}; of its `visits`, {} in all, bus `{}` has {}: so at least {} surely taken in each {}, in which {} may come{}\n{}note: output `{}` sends at least {} in each {}; its `frame` of {} has {}",
         &[
             If(server.is_bus),
             server.server,
@@ -128,6 +130,10 @@ fn tell_pace(told: &mut Teller<'_>, server: &Server) {
             Number(all),
             server.name,
             Number(own),
+            Several(steps.saturating_mul(own), "word is", "words are"),
+            Ticks(round),
+            Number(counts.come),
+            Fact::Place(false, Section::Router, server.by, ""),
             If(!server.is_bus),
             server.name,
             Several(steps, "word", "words"),
@@ -143,15 +149,20 @@ pub(crate) fn tell_never_ways(told: &mut Teller<'_>, server: &Server) {
     tell_pace(told, server);
     tell_steps(told, server, &ANY_WINDOW);
     tell_no_steps(told, server, &ANY_WINDOW);
+    let longest = most_within(told.tables, server, &ANY_WINDOW);
+    let within = Range(u64::from(server.shortest), u64::from(longest.unwrap_or(0)));
     told.say(
-        "\n{}help: make the `within` of router `{}` smaller, which shortens every delay too, or let it visit bus `{}` more often\n{}weaker: bring fewer streams on bus `{}`\n{}help: make the `within` of output `{}` smaller, which shortens every delay too\n{}weaker: send its labels less often, by a longer `frame` or fewer `offsets`",
+        "\n{}help: give {} `{}` a `within` of {} ticks in place of {} for a window to close, which shortens every delay too\n{}help: let router `{}` visit bus `{}` more often\n{}weaker: bring fewer streams on bus `{}`\n{}weaker: send its labels less often, by a longer `frame` or fewer `offsets`",
         &[
+            If(longest.is_some()),
+            Word(server.words.server),
+            server.server,
+            within,
+            Number(u64::from(server.within)),
             If(server.is_bus),
             server.server,
             server.name,
             If(server.is_bus),
-            server.name,
-            If(!server.is_bus),
             server.name,
             If(!server.is_bus),
         ],
