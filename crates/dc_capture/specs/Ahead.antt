@@ -24,7 +24,8 @@ StartsWithWord text word = (9 ≤ length text) × (word_of (take 8 text) ≡ Som
 -- bytes begin with a line within its limit that says this word, where the last time was this, and with its line feed it takes so many of them
 abbrev pub StartsWithLine : TableRows → (latest : ℕ) → List ℕ → CapturedWord → ℕ → Type 0
 StartsWithLine t latest bytes x count =
-    (line : List ℕ) × (rest : List ℕ) × (bytes ≡ line ++ 10 ∷ rest) × NoFeed line × (length line ≤ LINE_LIMIT) × (length line + 1 ≡ count) × (line_word t latest line ≡ Ok x)
+    (line : List ℕ) × (rest : List ℕ) × (bytes ≡ line ++ 10 ∷ rest) × NoFeed line × (length line ≤ LINE_LIMIT)
+    × (length line + 1 ≡ count) × (line_word t latest line ≡ Ok x)
 
 -- the held bytes begin with such a line, within the limit of the text
 abbrev pub HoldsWord : TableRows → (latest : ℕ) → Held → CapturedWord → ℕ → Type 0

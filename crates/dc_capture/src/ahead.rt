@@ -3,11 +3,11 @@ ghost use Rattle.std.specs.Prelude.{◌≡◌, ◌≤◌, IfSome};
 ghost use Rattle.dc_capture.specs.Ahead.{HasSpace, StartsWithLine, StartsWithTime, StartsWithWord};
 ghost use Rattle.dc_capture.specs.Reading.{IsNext};
 
-use crate::line::{CapturedWord, bus_named};
+use crate::buses::KnownBuses;
+use crate::line::CapturedWord;
 use crate::time::LAST_TIME;
 use dc_document::NAME_LIMIT;
 use dc_event::read_word;
-use dc_tables::Tables;
 use dc_word::{Word, digit_in};
 
 /// As many digits as [`LAST_TIME`] has.
@@ -66,9 +66,9 @@ fn digits_ahead(text: &[u8]) -> Option<Word>
 /// The word of the line that the bytes begin with, where it is well formed and the last time was this, and how many
 /// bytes it takes with its line feed.
 #[inline(always)]
-pub fn word_ahead(tables: &Tables, latest: u64, held: &[u8]) -> Option<(CapturedWord, usize)>
-    ensures starts { IfSome result (λ ahead. StartsWithLine tables.now latest held.now ahead.0 ahead.1) }
-    ensures next { IfSome result (λ ahead. IsNext tables.now latest ahead.0) }
+pub fn word_ahead(buses: &KnownBuses, latest: u64, held: &[u8]) -> Option<(CapturedWord, usize)>
+    ensures starts { IfSome result (λ ahead. StartsWithLine buses.now latest held.now ahead.0 ahead.1) }
+    ensures next { IfSome result (λ ahead. IsNext buses.now latest ahead.0) }
 {
     let (time, digits) = time_ahead(held)?;
     if time < latest {
@@ -76,7 +76,7 @@ pub fn word_ahead(tables: &Tables, latest: u64, held: &[u8]) -> Option<(Captured
     }
     let text = &held[digits + 1..];
     let letters = space_ahead(text)?;
-    let bus = bus_named(tables, &text[..letters])?;
+    let bus = buses.named(&text[..letters])?;
     let word = digits_ahead(&text[letters + 1..])?;
     Some((CapturedWord { time, bus, word }, digits + letters + 11))
 }

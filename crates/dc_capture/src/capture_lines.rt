@@ -8,6 +8,7 @@ ghost use Rattle.dc_capture.specs.Reading.{AsksFor, IsNext, IsOfLine, NeedsMore,
 ghost use Rattle.dc_capture.specs.Reading.{ahead, at_start, failures_at, stop_behind, stop_of};
 
 use crate::ahead::word_ahead;
+use crate::buses::KnownBuses;
 use crate::fault::{CaptureFault, CaptureRule, CaptureStop};
 use crate::line::{CapturedWord, read_line};
 use dc_device::{Line, LineEnd, LineReader, LineWriter, Sink, Source};
@@ -37,11 +38,11 @@ fn end_inside(line: &[u8], number: u64) -> CaptureStop
 /// The word of the line that the held bytes begin with, where the last time was this, and how many of them it takes,
 /// where that is told at once.
 #[inline(always)]
-fn word_held(tables: &Tables, latest: u64, reader: &LineReader) -> Option<(CapturedWord, usize)>
-    ensures holds { IfSome result (λ held. HoldsWord tables.now latest reader.now held.0 held.1) }
-    ensures next { IfSome result (λ held. IsNext tables.now latest held.0) }
+fn word_held(buses: &KnownBuses, latest: u64, reader: &LineReader) -> Option<(CapturedWord, usize)>
+    ensures holds { IfSome result (λ held. HoldsWord buses.now latest reader.now held.0 held.1) }
+    ensures next { IfSome result (λ held. IsNext buses.now latest held.0) }
 {
-    let (word, count) = word_ahead(tables, latest, reader.held())?;
+    let (word, count) = word_ahead(buses, latest, reader.held())?;
     if count as u64 > reader.room() {
         return None;
     }
@@ -52,18 +53,18 @@ fn word_held(tables: &Tables, latest: u64, reader: &LineReader) -> Option<(Captu
 /// where it stands if all of it is held; else its bytes are gathered. It serves the lines that are not told at once.
 #[inline(never)]
 fn read_any(
-    tables: &Tables,
+    buses: &KnownBuses,
     latest: u64,
     reader: &mut LineReader,
     line: &mut Line,
 ) -> Option<Result<CapturedWord, CaptureRule>>
-    ensures reads { ReadsNext tables.now latest reader.old reader.new line.old.items line.new.items result }
-    ensures next { IfSome result (λ read. IfOk read (λ x. IsNext tables.now latest x)) }
+    ensures reads { ReadsNext buses.now latest reader.old reader.new line.old.items line.new.items result }
+    ensures next { IfSome result (λ read. IfOk read (λ x. IsNext buses.now latest x)) }
 {
     if line.is_empty() {
         if let Some(held) = reader.held_line() {
             let length = held.len();
-            let read = read_line(tables, latest, held);
+            let read = read_line(buses, latest, held);
             reader.pass(length + 1);
             return Some(read);
         }
@@ -71,7 +72,7 @@ fn read_any(
     match reader.read_on(line)? {
         LineEnd::Long => Some(Err(CaptureRule::LineTooLong)),
         LineEnd::Whole => {
-            let read = read_line(tables, latest, line.as_slice());
+            let read = read_line(buses, latest, line.as_slice());
             line.clear();
             Some(read)
         }
@@ -82,28 +83,28 @@ fn read_any(
 /// held bytes tell at once is read where it stands.
 #[inline(always)]
 fn read_next(
-    tables: &Tables,
+    buses: &KnownBuses,
     latest: u64,
     reader: &mut LineReader,
     line: &mut Line,
 ) -> Option<Result<CapturedWord, CaptureRule>>
-    ensures reads { ReadsNext tables.now latest reader.old reader.new line.old.items line.new.items result }
-    ensures next { IfSome result (λ read. IfOk read (λ x. IsNext tables.now latest x)) }
+    ensures reads { ReadsNext buses.now latest reader.old reader.new line.old.items line.new.items result }
+    ensures next { IfSome result (λ read. IfOk read (λ x. IsNext buses.now latest x)) }
 {
     if line.is_empty() {
-        if let Some((word, count)) = word_held(tables, latest, reader) {
+        if let Some((word, count)) = word_held(buses, latest, reader) {
             reader.pass(count);
             return Some(Ok(word));
         }
     }
-    read_any(tables, latest, reader, line)
+    read_any(buses, latest, reader, line)
 }
 
 /// Reads the lines of a capture in the bytes that it holds, and pulls where its owner says so: who knows when the
 /// source is asked, and can first show what was answered so far.
 #[derive(Drop)]
 pub struct CaptureLines<'t> {
-    tables: &'t Tables,
+    buses: KnownBuses<'t>,
     reader: LineReader,
     line: Line,
     number: u64,
@@ -117,7 +118,7 @@ impl<'t> Model for CaptureLines<'t> {
     ghost Value = { Reading };
 
     ghost view = { λ r. record {
-      tables = r.tables.now;
+      tables = r.buses;
       line = r.line.items;
       held = r.reader.bytes;
       room = r.reader.room;
@@ -136,10 +137,11 @@ impl<'t> CaptureLines<'t> {
         ensures start { result ≡ at_start tables.now limit }
         ensures whole { (text : List ℕ) → ahead result (Some text) ≡ Some (capture_of tables.now limit text) }
     {
+        let buses = KnownBuses::of(tables);
         let reader = LineReader::new(limit);
         let line = Line::new();
         CaptureLines {
-            tables,
+            buses,
             reader,
             line,
             number: 1,
@@ -166,7 +168,7 @@ impl<'t> CaptureLines<'t> {
         if let Some(stop) = self.stopped {
             return Some(Err(stop));
         }
-        match read_next(self.tables, self.latest, &mut self.reader, &mut self.line)? {
+        match read_next(&self.buses, self.latest, &mut self.reader, &mut self.line)? {
             Ok(word) => {
                 self.number += 1;
                 self.latest = word.time;

@@ -2,6 +2,7 @@
 #![tactic(auto)]
 
 mod ahead;
+mod buses;
 mod capture_lines;
 mod fault;
 mod fields;

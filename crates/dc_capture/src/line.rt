@@ -1,15 +1,13 @@
 //! The word of a line.
-ghost use Rattle.std.specs.Prelude.{◌≡◌, ◌∷◌, [], ◌<◌, IfOk, IfSome, length};
-ghost use Rattle.dc_event.specs.TraceText.{number_named};
+ghost use Rattle.std.specs.Prelude.{◌≡◌, ◌∷◌, [], IfOk};
 ghost use Rattle.dc_capture.specs.CaptureText.{fields_word, line_word};
 ghost use Rattle.dc_capture.specs.Reading.{IsNext};
 
+use crate::buses::KnownBuses;
 use crate::fault::CaptureRule;
 use crate::fields::split_field;
 use crate::time::read_time;
-use dc_document::Name;
 use dc_event::read_word;
-use dc_tables::Tables;
 use dc_word::Word;
 
 /// A word of a capture.
@@ -23,32 +21,21 @@ pub struct CapturedWord {
     pub word: Word,
 }
 
-/// The number of the bus that a text names.
-#[inline(always)]
-pub(crate) fn bus_named(tables: &Tables, text: &[u8]) -> Option<usize>
-    ensures number { result ≡ number_named tables.now.names.buses text.now }
-    ensures there { IfSome result (λ bus. bus < length tables.now.buses) }
-{
-    tables.named();
-    let name = Name::new(text)?;
-    tables.bus_named(&name)
-}
-
 /// The word that three fields tell, where the last time was this.
 fn read_fields(
-    tables: &Tables,
+    buses: &KnownBuses,
     latest: u64,
     time: &[u8],
     bus: &[u8],
     word: &[u8],
 ) -> Result<CapturedWord, CaptureRule>
-    ensures word { result ≡ fields_word tables.now latest (time.now ∷ bus.now ∷ word.now ∷ []) }
-    ensures next { IfOk result (λ x. IsNext tables.now latest x) }
+    ensures word { result ≡ fields_word buses.now latest (time.now ∷ bus.now ∷ word.now ∷ []) }
+    ensures next { IfOk result (λ x. IsNext buses.now latest x) }
 {
     let Some(time) = read_time(time) else {
         return Err(CaptureRule::NotATime);
     };
-    let Some(bus) = bus_named(tables, bus) else {
+    let Some(bus) = buses.named(bus) else {
         return Err(CaptureRule::NameUnknown);
     };
     let Some(word) = read_word(word) else {
@@ -63,9 +50,9 @@ fn read_fields(
 /// The word of a line of at most [`LINE_LIMIT`](dc_device::LINE_LIMIT) bytes, or its fault, where the last time was
 /// this.
 #[tactic(auto, unfolding(crate::specs::CaptureText::line_word))]
-pub fn read_line(tables: &Tables, latest: u64, line: &[u8]) -> Result<CapturedWord, CaptureRule>
-    ensures word { result ≡ line_word tables.now latest line.now }
-    ensures next { IfOk result (λ x. IsNext tables.now latest x) }
+pub fn read_line(buses: &KnownBuses, latest: u64, line: &[u8]) -> Result<CapturedWord, CaptureRule>
+    ensures word { result ≡ line_word buses.now latest line.now }
+    ensures next { IfOk result (λ x. IsNext buses.now latest x) }
 {
     let Some((time, rest)) = split_field(line) else {
         return Err(CaptureRule::FieldCountWrong);
@@ -76,5 +63,5 @@ pub fn read_line(tables: &Tables, latest: u64, line: &[u8]) -> Result<CapturedWo
     let None = split_field(word) else {
         return Err(CaptureRule::FieldCountWrong);
     };
-    read_fields(tables, latest, time, bus, word)
+    read_fields(buses, latest, time, bus, word)
 }

@@ -16,8 +16,8 @@ use Rattle.dc_trace.specs.Traces.{traced}
 
 -- a run whose capture keeps what is declared keeps what is asked of the sources in microseconds
 abbrev pub KeptCapturesKeepTime : TableRows → Type 0
-KeptCapturesKeepTime t = (us : Intervals) (timings : ℕ → StreamTiming) → AreTimings t us timings → (run : List (ℕ × Event)) → KeepsDeclared t timings (recorded run)
-    → KeepsSourcesInTime t us run
+KeptCapturesKeepTime t = (us : Intervals) (timings : ℕ → StreamTiming) → AreTimings t us timings → (run : List (ℕ × Event))
+    → KeepsDeclared t timings (recorded run) → KeepsSourcesInTime t us run
 
 -- and in ticks, by each clock that the intervals fit
 abbrev pub KeptCapturesKeepTicks : TableRows → Type 0

@@ -8,10 +8,10 @@ invariant_of-self c =
 
 pub returns-in-Ok-clause-reported : goal.returns-in-Ok-clause-reported
 returns-in-Ok-clause-reported c = λ coming.
-    next_word_reported _ c.self.inside.stopped c.self.inside.tables.now c.self.inside.line.items c.read_next.new.line.items c.self.inside.reader c.read_next.new.reader
+    next_word_reported _ c.self.inside.stopped c.self.inside.buses c.self.inside.line.items c.read_next.new.line.items c.self.inside.reader c.read_next.new.reader
     c.self.inside.number c.self.inside.latest c.in-Ok.word _ coming c.self.view_is c.in_default.is c.self.invariant c.in_ok-word.ensures.reads c.in-Ok.is
 
 pub returns-in-Err-clause-reported : goal.returns-in-Err-clause-reported
 returns-in-Err-clause-reported c = λ coming.
-    next_refused_reported _ c.self.inside.stopped c.self.inside.tables.now c.self.inside.line.items c.read_next.new.line.items c.self.inside.reader c.read_next.new.reader c.self.inside.number
+    next_refused_reported _ c.self.inside.stopped c.self.inside.buses c.self.inside.line.items c.read_next.new.line.items c.self.inside.reader c.read_next.new.reader c.self.inside.number
     c.self.inside.latest c.in-Err.rule _ coming _ c.fault-refused.result c.self.view_is c.fault-refused.ensures c.in_default.is c.self.invariant c.in_ok-word.ensures.reads c.in-Err.is
