@@ -2,5 +2,6 @@
 pub mod Times
 pub mod Gauges
 pub mod Steps
+pub mod Laws
 -- lemmas that crates above cite
 pub mod lemmas
