@@ -1,12 +1,12 @@
-# `make run` shows the main job and `make quick` any other, with no proof; `make build` proves and builds the program, `make test` is
-# the whole gate, `make trials` tries the built program, `make rows` some of its rows.
+# `make run` shows the main job and `make quick` any other, with no proof; `make build` proves and builds the program, `make lib` the
+# library for C, `make test` is the whole gate, `make trials` tries what is built, `make rows` some of the program's rows.
 
 RT := rt
 
 # How many crates are proved side by side by `make build`: one a processor, at most four. Each takes 1 to 4 GB.
 JOBS := $(shell n=$$(nproc 2>/dev/null || echo 1); [ "$$n" -lt 4 ] || n=4; echo $$n)
 
-.PHONY: run quick build install test trials rows edits edits-apply
+.PHONY: run quick build lib install test trials rows edits edits-apply
 
 # Decodes one word, with no proof: about a minute from a fresh clone.
 run:
@@ -25,12 +25,28 @@ build:
 	@cp crates/dc429/out/dc429 build/dc429
 	@echo "built build/dc429"
 
-# Puts the built program and its texts below a folder: make install PREFIX=.. It must print the version of the sources.
+# The proved library for C, at build/libdc429.a, build/libdc429.so and build/dc429.pc (docs/embedding.md); with TARGET=aarch64 the
+# archive for that machine alone, at build/aarch64/libdc429.a.
+lib:
+	@RT=$(RT) scripts/library $(TARGET)
+
+# Puts what is built, and the texts, below a folder: make install PREFIX=.., and with DESTDIR=.. below that one. The program must
+# print the version of the sources. What is not built is said.
+to = $(DESTDIR)$(PREFIX)
+
 install:
 	@[ -n "$(PREFIX)" ] || { echo "say where to, as make install PREFIX=.."; exit 1; }
-	@scripts/version build/dc429
-	@install -D -t "$(PREFIX)/bin" build/dc429
-	@install -D -m 644 -t "$(PREFIX)/share/doc/dc429" README.md CHANGELOG.md LICENSE-MIT LICENSE-APACHE docs/formats.md
+	@[ -e build/dc429 ] || [ -e build/libdc429.a ] || { echo "nothing is built: make build, make lib"; exit 1; }
+	@if [ -e build/dc429 ]; then scripts/version build/dc429 && install -D -t "$(to)/bin" build/dc429; \
+	    else echo "not installed: the program, which make build makes"; fi
+	@if [ -e build/libdc429.a ]; then install -D -m 644 -t "$(to)/include" include/dc429.h && \
+	    install -D -m 644 -t "$(to)/lib" build/libdc429.a && install -D -m 644 -t "$(to)/lib/pkgconfig" build/dc429.pc && \
+	    sed -i -e 's,^libdir=.*,libdir=$${pcfiledir}/..,' -e 's,^includedir=.*,includedir=$${pcfiledir}/../../include,' \
+	        "$(to)/lib/pkgconfig/dc429.pc"; \
+	    else echo "not installed: the library, which make lib makes"; fi
+	@for it in build/libdc429.so.*; do if [ -e "$$it" ]; then install -D -m 755 "$$it" "$(to)/lib/$${it##*/}" && \
+	    ln -sf "$${it##*/}" "$(to)/lib/libdc429.so"; else echo "not installed: libdc429.so, which make lib makes where there is cc"; fi; done
+	@install -D -m 644 -t "$(to)/share/doc/dc429" README.md CHANGELOG.md LICENSE-MIT LICENSE-APACHE docs/formats.md docs/embedding.md
 
 test:
 	@$(RT) ci

@@ -1,0 +1,420 @@
+/* What scripts/embed and bench/embed run of the library beside the examples.
+ *
+ * usage: embed WHAT TABLES CERTIFICATE [TICKS]
+ *   allocations   how often the library allocates, and each allocation of dc429_open refused in turn
+ *   threads       eight threads with an engine each, and one engine that goes from thread to thread
+ *   edges         closed engines, numbers and lists that are none, rooms that are too short, texts of no bytes
+ *   stack         how much of its stack a thread uses in each call
+ *   calls         how long a call takes in the mean of so many ticks, 1,000,000 where it is not said
+ *   longest       how long each call takes by itself in 10 million: the clock's own time is in it
+ * Linked with --wrap=malloc, --wrap=realloc and --wrap=free. Each line that is printed is a name and numbers.
+ */
+#define _GNU_SOURCE
+#include "../examples/c/load.h"
+#include "dc429.h"
+
+#include <inttypes.h>
+#include <pthread.h>
+#include <string.h>
+#include <sys/mman.h>
+#include <time.h>
+
+enum { THREADS = 8, ROUNDS = 20, STEPS = 20000, STACK = 4 << 20, TIMED = 10000000 };
+
+static uint8_t *tables, *certificate;
+static size_t tables_length, certificate_length, buses, routers, outputs;
+static uint64_t ticks_asked = 1000000;
+static _Thread_local uint64_t made_calls;
+
+/* ---- allocations ---- */
+
+static long taken, freed, refused = -1;
+
+void *__real_malloc(size_t size);
+void *__real_realloc(void *block, size_t size);
+void __real_free(void *block);
+
+void *__wrap_malloc(size_t size) { return taken++ == refused ? NULL : __real_malloc(size); }
+
+void *__wrap_realloc(void *block, size_t size) { return taken++ == refused ? NULL : __real_realloc(block, size); }
+
+void __wrap_free(void *block) {
+    freed += block != NULL;
+    __real_free(block);
+}
+
+static bool open_engine(dc429 *engine, dc429_fault *fault) {
+    return dc429_open(engine, tables, tables_length, certificate, certificate_length, fault);
+}
+
+/* How many of a list the tables have. */
+static size_t count_of(dc429 *engine, uint32_t list) {
+    uint8_t name[DC429_LONGEST_NAME];
+    size_t count = 0;
+    while (dc429_name(engine, list, count, name, sizeof name) > 0)
+        count++;
+    return count;
+}
+
+/* A word of label 203 or 204. */
+static uint32_t word_of(uint64_t number) { return number % 2 ? 0xE0000021 : 0x600000C1; }
+
+/* One tick of calls: words on a fifth of the buses, each router till it is spent, each output once, the tick. The sum is of all that
+   is answered. */
+static uint64_t one_tick(dc429 *engine, uint64_t tick) {
+    uint64_t sum = 0, made = outputs + 1;
+    dc429_reply reply;
+    for (size_t bus = 0; bus < buses; bus++)
+        if ((tick + bus) % 10 < 2) {
+            dc429_arrive(engine, bus, word_of(tick), &reply);
+            sum = sum * 31 + reply.kind + reply.backlog;
+            made++;
+        }
+    for (size_t router = 0; router < routers; router++)
+        for (reply.kind = 0; reply.kind != DC429_SPENT; sum = sum * 31 + reply.kind + reply.word, made++)
+            dc429_route(engine, router, &reply);
+    for (size_t output = 0; output < outputs; output++) {
+        dc429_send(engine, output, &reply);
+        sum = sum * 31 + reply.kind + reply.word;
+    }
+    dc429_tick(engine, &reply);
+    made_calls += made;
+    return sum * 31 + reply.kind + reply.tick;
+}
+
+static int allocations(void) {
+    dc429 engine = DC429_CLOSED;
+    dc429_fault fault;
+    dc429_fields fields;
+    uint8_t name[DC429_LONGEST_NAME];
+    size_t number;
+    taken = freed = 0;
+    bool is_open = open_engine(&engine, &fault);
+    long needed = taken;
+    printf("open %d takes %ld frees %ld\n", is_open, taken, freed);
+    taken = freed = 0;
+    for (uint64_t tick = 0; tick < STEPS; tick++) {
+        one_tick(&engine, tick);
+        dc429_number(&engine, DC429_BUS, (const uint8_t *)"A", 1, &number);
+        dc429_name(&engine, DC429_STREAM, tick % 3, name, sizeof name);
+        dc429_decode((uint32_t)tick * 2654435761u, 1 + tick % 4, &fields);
+    }
+    printf("events takes %ld frees %ld\n", taken, freed);
+    taken = freed = 0;
+    dc429_close(&engine);
+    printf("close takes %ld frees %ld\n", taken, freed);
+    taken = freed = 0;
+    bool is_accepted = dc429_check(tables, tables_length, certificate, certificate_length, &fault);
+    printf("check %d takes %ld frees %ld\n", is_accepted, taken, freed);
+    long memory = 0, leaked = 0;
+    for (long at = 0; at < needed; at++) {
+        taken = freed = 0;
+        refused = at;
+        is_open = open_engine(&engine, &fault);
+        refused = -1;
+        memory += !is_open && fault.kind == DC429_MEMORY && !engine.is_open;
+        is_open = open_engine(&engine, &fault);
+        leaked += !is_open || one_tick(&engine, 0) == 0;
+        dc429_close(&engine);
+    }
+    printf("refused %ld memory %ld stuck %ld\n", needed, memory, leaked);
+    return 0;
+}
+
+/* ---- threads ---- */
+
+static void *run_own(void *told) {
+    uint64_t sum = 0;
+    for (int round = 0; round < ROUNDS; round++) {
+        dc429 engine = DC429_CLOSED;
+        dc429_fault fault;
+        if (!open_engine(&engine, &fault))
+            return NULL;
+        for (uint64_t tick = 0; tick < STEPS / ROUNDS; tick++)
+            sum = sum * 31 + one_tick(&engine, tick);
+        dc429_close(&engine);
+    }
+    *(uint64_t *)told = sum;
+    return NULL;
+}
+
+/* A thousand ticks of an engine that another thread has opened and stepped. */
+static void *run_given(void *given) {
+    dc429 *engine = given;
+    dc429_reply reply;
+    for (uint64_t tick = 0; tick < 1000; tick++)
+        one_tick(engine, tick);
+    dc429_send(engine, 0, &reply);
+    return (void *)(uintptr_t)(reply.kind == DC429_SENT || reply.kind == DC429_IDLE);
+}
+
+static int threads(void) {
+    pthread_t its[THREADS];
+    uint64_t sums[THREADS] = { 0 };
+    int agree = 0, went_on = 0;
+    for (int at = 0; at < THREADS; at++)
+        pthread_create(&its[at], NULL, run_own, &sums[at]);
+    for (int at = 0; at < THREADS; at++) {
+        pthread_join(its[at], NULL);
+        agree += sums[at] != 0 && sums[at] == sums[0];
+    }
+    dc429 engine = DC429_CLOSED;
+    dc429_fault fault;
+    dc429_reply reply;
+    bool is_open = open_engine(&engine, &fault);
+    for (int at = 0; is_open && at < 3; at++) {
+        void *told = NULL;
+        pthread_create(&its[at], NULL, run_given, &engine);
+        pthread_join(its[at], &told);
+        went_on += told != NULL;
+    }
+    for (size_t router = 0; router < routers; router++)
+        dc429_route(&engine, router, &reply);
+    dc429_tick(&engine, &reply);
+    dc429_close(&engine);
+    printf("agree %d\nhanded %d tick %" PRIu64 "\n", agree, went_on, reply.tick);
+    return 0;
+}
+
+/* ---- edges ---- */
+
+/* Whether all bytes of a reply are those of this kind alone. */
+static bool is_bare(const dc429_reply *reply, uint32_t kind) {
+    return reply->kind == kind && !reply->label && !reply->word && !reply->backlog && !reply->number && !reply->tick;
+}
+
+static bool closed_edges(void) {
+    dc429 engine = DC429_CLOSED;
+    dc429_reply reply;
+    size_t number = 77;
+    uint8_t name[DC429_LONGEST_NAME] = "unchanged";
+    bool is_well = true;
+    for (int call = 0; call < 4; call++) {
+        memset(&reply, 0xA5, sizeof reply);
+        uint32_t status = call == 0   ? dc429_arrive(&engine, 0, 0x600000C1, &reply)
+                          : call == 1 ? dc429_route(&engine, 0, &reply)
+                          : call == 2 ? dc429_send(&engine, 0, &reply)
+                                      : dc429_tick(&engine, &reply);
+        is_well = is_well && status == DC429_IS_CLOSED && is_bare(&reply, DC429_NOTHING);
+    }
+    is_well = is_well && !dc429_number(&engine, DC429_BUS, (const uint8_t *)"A", 1, &number) && number == 77;
+    is_well = is_well && dc429_name(&engine, DC429_BUS, 0, name, sizeof name) == 0 && memcmp(name, "unchanged", 10) == 0;
+    dc429_close(&engine);
+    dc429_close(&engine);
+    return is_well && !engine.is_open;
+}
+
+static bool number_edges(dc429 *engine) {
+    dc429_reply reply;
+    uint64_t before = one_tick(engine, 0);
+    bool is_well = before != 0;
+    for (int call = 0; call < 3; call++)
+        for (int far = 0; far < 2; far++) {
+            size_t number = far ? SIZE_MAX : (call == 0 ? buses : call == 1 ? routers : outputs);
+            uint32_t status = call == 0   ? dc429_arrive(engine, number, 0x600000C1, &reply)
+                              : call == 1 ? dc429_route(engine, number, &reply)
+                                          : dc429_send(engine, number, &reply);
+            is_well = is_well && status == DC429_REFUSED && is_bare(&reply, DC429_UNKNOWN);
+        }
+    return is_well;
+}
+
+static bool name_edges(dc429 *engine) {
+    uint8_t name[DC429_LONGEST_NAME + 1];
+    size_t number = 77, length;
+    bool is_well = true;
+    for (uint32_t list = 0; list < 8; list++) {
+        memset(name, '-', sizeof name);
+        length = dc429_name(engine, list, 0, name, DC429_LONGEST_NAME);
+        bool is_list = list >= DC429_BUS && list <= DC429_LABEL;
+        is_well = is_well && (length > 0) == is_list && name[length] == '-' && name[DC429_LONGEST_NAME] == '-';
+        is_well = is_well && dc429_number(engine, list, name, length, &number) == is_list && number == (is_list ? 0 : 77);
+        if (is_list)
+            is_well = is_well && dc429_name(engine, list, 0, name, length - 1) == 0 && dc429_name(engine, list, 0, name, length) == length;
+        number = 77;
+    }
+    is_well = is_well && dc429_name(engine, DC429_BUS, SIZE_MAX, name, sizeof name) == 0;
+    return is_well && !dc429_number(engine, DC429_BUS, (const uint8_t *)"no-such-name-that-is-longer", 27, &number) && number == 77;
+}
+
+static bool text_edges(dc429 *engine) {
+    static uint8_t large[2000000];
+    uint8_t none = 0;
+    dc429_fault fault;
+    dc429_fields fields;
+    memset(&fields, 0xA5, sizeof fields);
+    bool is_well = !dc429_check(&none, 0, &none, 0, &fault) && fault.kind == DC429_UNREADABLE_TABLES;
+    is_well = is_well && !dc429_check(large, sizeof large, certificate, certificate_length, &fault) && fault.kind == DC429_UNREADABLE_TABLES;
+    is_well = is_well && !dc429_check(tables, tables_length, &none, 0, &fault) && fault.kind == DC429_UNREADABLE_CERTIFICATE;
+    is_well = is_well && !dc429_open(engine, tables, tables_length, &none, 0, &fault) && !engine->is_open;
+    is_well = is_well && fault.kind == DC429_UNREADABLE_CERTIFICATE && fault.code == 1 && fault.place == DC429_CERTIFICATE_TOP;
+    is_well = is_well && !dc429_decode(0, 0, &fields) && !dc429_decode(0, 4, &fields) && fields.label == 0xA5A5A5A5;
+    memset(&fault, 0xA5, sizeof fault);
+    is_well = is_well && open_engine(engine, &fault) && !fault.kind && !fault.code && !fault.place && !fault.window && !fault.index;
+    return is_well && open_engine(engine, &fault) && engine->is_open;
+}
+
+static int edges(void) {
+    dc429 engine = DC429_CLOSED;
+    dc429_fault fault;
+    bool is_open = open_engine(&engine, &fault);
+    printf("closed %d\n", closed_edges());
+    printf("numbers %d\n", is_open && number_edges(&engine));
+    printf("names %d\n", is_open && name_edges(&engine));
+    printf("texts %d\n", is_open && text_edges(&engine));
+    dc429_close(&engine);
+    return 0;
+}
+
+/* ---- the stack ---- */
+
+static dc429 stacked = DC429_CLOSED;
+static const char *const STACKED[] = { "nothing", "open", "events", "names", "close", "check" };
+
+static void *run_stacked(void *what) {
+    dc429_fault fault;
+    dc429_fields fields;
+    uint8_t name[DC429_LONGEST_NAME];
+    size_t number;
+    switch ((uintptr_t)what) {
+    case 1: open_engine(&stacked, &fault); break;
+    case 2:
+        for (uint64_t tick = 0; tick < 1000; tick++)
+            one_tick(&stacked, tick);
+        break;
+    case 3:
+        dc429_number(&stacked, DC429_BUS, (const uint8_t *)"A", 1, &number);
+        dc429_name(&stacked, DC429_STREAM, 1, name, sizeof name);
+        dc429_decode(0xFFFFFCC1, DC429_BCD, &fields);
+        break;
+    case 4: dc429_close(&stacked); break;
+    case 5: dc429_check(tables, tables_length, certificate, certificate_length, &fault); break;
+    default: break;
+    }
+    return NULL;
+}
+
+/* Runs a call on a painted stack, and counts the bytes from its far end that are no longer as they were. */
+static size_t stack_of(uintptr_t what) {
+    uint8_t *room = mmap(NULL, STACK, PROT_READ | PROT_WRITE, MAP_PRIVATE | MAP_ANONYMOUS, -1, 0);
+    pthread_attr_t attributes;
+    pthread_t thread;
+    size_t left = 0;
+    memset(room, 0xA5, STACK);
+    pthread_attr_init(&attributes);
+    pthread_attr_setstack(&attributes, room, STACK);
+    pthread_create(&thread, &attributes, run_stacked, (void *)what);
+    pthread_join(thread, NULL);
+    while (left < STACK && room[left] == 0xA5)
+        left++;
+    munmap(room, STACK);
+    return STACK - left;
+}
+
+static int stack(void) {
+    size_t own = stack_of(0);
+    for (uintptr_t what = 1; what < 6; what++)
+        printf("%s %zu\n", STACKED[what], stack_of(what) - own);
+    return 0;
+}
+
+/* ---- times ---- */
+
+static uint64_t now(void) {
+    struct timespec at;
+    clock_gettime(CLOCK_MONOTONIC, &at);
+    return (uint64_t)at.tv_sec * 1000000000u + (uint64_t)at.tv_nsec;
+}
+
+/* How often each call was made, how long all took together and the longest. */
+static struct timed {
+    const char *name;
+    uint64_t count, sum, longest, over;
+} timed[] = { { .name = "arrive" }, { .name = "route" }, { .name = "send" }, { .name = "tick" } };
+
+static void add_time(struct timed *of, uint64_t before) {
+    uint64_t took = now() - before;
+    of->count++;
+    of->sum += took;
+    of->longest = took > of->longest ? took : of->longest;
+    of->over += took > 10000;
+}
+
+/* One tick, each call timed by itself. */
+static void timed_tick(dc429 *engine, uint64_t tick) {
+    dc429_reply reply;
+    uint64_t before;
+    for (size_t bus = 0; bus < buses; bus++) {
+        before = now();
+        dc429_arrive(engine, bus, word_of(tick), &reply);
+        add_time(&timed[0], before);
+    }
+    for (size_t router = 0; router < routers; router++)
+        for (reply.kind = 0; reply.kind != DC429_SPENT;) {
+            before = now();
+            dc429_route(engine, router, &reply);
+            add_time(&timed[1], before);
+        }
+    for (size_t output = 0; output < outputs; output++) {
+        before = now();
+        dc429_send(engine, output, &reply);
+        add_time(&timed[2], before);
+    }
+    before = now();
+    dc429_tick(engine, &reply);
+    add_time(&timed[3], before);
+}
+
+static int longest(void) {
+    dc429 engine = DC429_CLOSED;
+    dc429_fault fault;
+    uint64_t before = now(), calls = 0;
+    bool is_open = open_engine(&engine, &fault);
+    printf("open %.3f ms\n", (double)(now() - before) / 1e6);
+    for (uint64_t tick = 0; is_open && calls < TIMED; tick++) {
+        timed_tick(&engine, tick);
+        calls = timed[0].count + timed[1].count + timed[2].count + timed[3].count;
+    }
+    for (size_t at = 0; at < sizeof timed / sizeof *timed; at++)
+        printf("%s calls %" PRIu64 " mean %.1f ns longest %.1f us, over 10 us %" PRIu64 "\n", timed[at].name, timed[at].count,
+               (double)timed[at].sum / (double)timed[at].count, (double)timed[at].longest / 1000, timed[at].over);
+    dc429_close(&engine);
+    return 0;
+}
+
+static int calls(void) {
+    dc429 engine = DC429_CLOSED;
+    dc429_fault fault;
+    bool is_open = open_engine(&engine, &fault);
+    uint64_t sum = 0, before = now();
+    for (uint64_t tick = 0; is_open && tick < ticks_asked; tick++)
+        sum += one_tick(&engine, tick);
+    printf("calls %" PRIu64 " mean %.2f ns sum %" PRIu64 "\n", made_calls, (double)(now() - before) / (double)made_calls, sum);
+    dc429_close(&engine);
+    return 0;
+}
+
+int main(int argc, char **argv) {
+    static const struct {
+        const char *name;
+        int (*run)(void);
+    } known[] = { { "allocations", allocations }, { "threads", threads }, { "edges", edges }, { "stack", stack }, { "calls", calls }, { "longest", longest } };
+    ticks_asked = argc == 5 ? strtoull(argv[4], NULL, 10) : ticks_asked;
+    if (argc < 4 || argc > 5 || !(tables = load(argv[2], &tables_length)) || !(certificate = load(argv[3], &certificate_length)))
+        return 2;
+    dc429 engine = DC429_CLOSED;
+    dc429_fault fault;
+    if (!open_engine(&engine, &fault))
+        return 1;
+    buses = count_of(&engine, DC429_BUS);
+    routers = count_of(&engine, DC429_ROUTER);
+    outputs = count_of(&engine, DC429_OUTPUT);
+    dc429_close(&engine);
+    int status = 2;
+    for (size_t at = 0; at < sizeof known / sizeof *known; at++)
+        if (strcmp(known[at].name, argv[1]) == 0)
+            status = known[at].run();
+    free(tables);
+    free(certificate);
+    return status;
+}
