@@ -1,0 +1,3 @@
+mod Told
+mod Runs
+mod Judged
