@@ -1,0 +1,4 @@
+pub mod Held
+pub mod Slots
+pub mod Runs
+pub mod Decoding

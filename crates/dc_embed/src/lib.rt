@@ -1,0 +1,20 @@
+//! The certified engine as a library for C: what include/dc429.h declares.
+#![tactic(auto)]
+
+mod decoding;
+mod exports;
+mod fields;
+mod handle;
+mod laws;
+mod lookups;
+mod slot;
+
+pub use decoding::dc429_decode;
+pub use exports::{
+    dc429_arrive, dc429_check, dc429_close, dc429_open, dc429_route, dc429_send, dc429_tick,
+};
+pub use fields::Fields;
+pub use handle::Handle;
+pub use laws::opened_engines_answer_their_runs;
+pub use lookups::{dc429_name, dc429_number};
+pub use slot::{Slot, may_cross};
