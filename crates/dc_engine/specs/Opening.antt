@@ -1,5 +1,5 @@
 -- What is opened from the texts of tables and of a certificate, and why not.
-use Rattle.std.specs.Prelude.{◌≡◌, ◌⊎◌, ℕ, List, [], Option, Some, Result, Ok, Err}
+use Rattle.std.specs.Prelude.{◌≡◌, ◌⊎◌, ℕ, List, [], Some, None, Result, Ok, Err}
 use Rattle.dc_build.specs.Reported.{AreTablesOf, BreakRule}
 use Rattle.dc_cert.specs.NamedRows.{NamedRows, named_rows}
 use Rattle.dc_cert.specs.Reading.{certificate_of}
@@ -34,16 +34,17 @@ ReadsTables text (Err (Refused fault)) = ⊥
 abbrev pub IsRefused : TableRows → List ℕ → CheckFault → Type 0
 IsRefused rows text fault = (claims : NamedRows) × (certificate_of text ≡ Ok claims) × (verdict_of rows claims ≡ Some fault)
 
--- certified tables are these, and their certificate is that of the text and keeps its claims and its numbers
+-- certified tables are these, and their certificate is that of the text, is accepted, and keeps its claims and its numbers
 abbrev pub IsCertifiedBy : TableRows → List ℕ → Certified → Type 0
 IsCertifiedBy rows text c =
-    (lent_tables c ≡ rows) × (certificate_of text ≡ Ok (named_rows (lent_certificate c)))
+    (lent_tables c ≡ rows) × (certificate_of text ≡ Ok (named_rows (lent_certificate c))) × (verdict_of rows (named_rows (lent_certificate c)) ≡ None)
     × KeepsItsClaims rows (named_rows (lent_certificate c)) × KeepsItsNumbers rows (named_rows (lent_certificate c))
 
 -- the verdict on a certificate for tables: what is accepted is held with them, and keeps its claims and its numbers
 abbrev pub IsVerdict : TableRows → Cert → Result Certified OpenFault → Type 0
 IsVerdict rows certificate (Ok c) =
-    (lent_tables c ≡ rows) × (lent_certificate c ≡ certificate) × KeepsItsClaims rows (named_rows certificate) × KeepsItsNumbers rows (named_rows certificate)
+    (lent_tables c ≡ rows) × (lent_certificate c ≡ certificate) × (verdict_of rows (named_rows certificate) ≡ None)
+    × KeepsItsClaims rows (named_rows certificate) × KeepsItsNumbers rows (named_rows certificate)
 IsVerdict rows certificate (Err Memory) = ⊥
 IsVerdict rows certificate (Err (Tables fault)) = ⊥
 IsVerdict rows certificate (Err (Certificate fault)) = ⊥
