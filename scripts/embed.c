@@ -1,12 +1,13 @@
 /* What scripts/embed and bench/embed run of the library beside the examples.
  *
  * usage: embed WHAT TABLES CERTIFICATE [TICKS]
- *   allocations   how often the library allocates, and each allocation of dc429_open refused in turn
+ *   allocations   how often the library allocates; each allocation of dc429_open refused in turn, and each with all behind it
  *   threads       eight threads with an engine each, and one engine that goes from thread to thread
  *   edges         closed engines, numbers and lists that are none, rooms that are too short, texts of no bytes
- *   stack         how much of its stack a thread uses in each call
- *   calls         how long a call takes in the mean of so many ticks, 1,000,000 where it is not said
- *   longest       how long each call takes by itself in 10 million: the clock's own time is in it
+ *   stack         how much of its stack a thread uses in each call; also of texts that are refused
+ *   calls         how much of the heap an engine keeps, and how long a call takes in the mean of so many ticks, 1,000,000 where it is not
+ *                 said: the best of ten rounds
+ *   longest       how long each call takes by itself in 10 million: of ten rounds of the same calls the least, the clock's own time in it
  * Linked with --wrap=malloc, --wrap=realloc and --wrap=free. Each line that is printed is a name and numbers.
  */
 #define _GNU_SOURCE
@@ -14,12 +15,13 @@
 #include "dc429.h"
 
 #include <inttypes.h>
+#include <malloc.h>
 #include <pthread.h>
 #include <string.h>
 #include <sys/mman.h>
 #include <time.h>
 
-enum { THREADS = 8, ROUNDS = 20, STEPS = 20000, STACK = 4 << 20, TIMED = 10000000 };
+enum { THREADS = 8, ROUNDS = 20, STEPS = 20000, STACK = 4 << 20, TIMED = 10000000, TIMED_ROUNDS = 10 };
 
 static uint8_t *tables, *certificate;
 static size_t tables_length, certificate_length, buses, routers, outputs;
@@ -28,18 +30,39 @@ static _Thread_local uint64_t made_calls;
 
 /* ---- allocations ---- */
 
-static long taken, freed, refused = -1;
+/* How many blocks were asked for and how many freed, the bytes that are not, which block is refused, and whether all behind it. */
+static long taken, freed, held, refused = -1;
+static bool all_behind;
 
 void *__real_malloc(size_t size);
 void *__real_realloc(void *block, size_t size);
 void __real_free(void *block);
 
-void *__wrap_malloc(size_t size) { return taken++ == refused ? NULL : __real_malloc(size); }
+static bool is_refused(void) {
+    long number = taken++;
+    return number == refused || (all_behind && refused >= 0 && number > refused);
+}
 
-void *__wrap_realloc(void *block, size_t size) { return taken++ == refused ? NULL : __real_realloc(block, size); }
+/* A block that was taken. */
+static void *counted(void *block) {
+    held += block ? (long)malloc_usable_size(block) : 0;
+    return block;
+}
+
+void *__wrap_malloc(size_t size) { return is_refused() ? NULL : counted(__real_malloc(size)); }
+
+/* It takes the new block, and frees the one before it. */
+void *__wrap_realloc(void *block, size_t size) {
+    long had = block ? (long)malloc_usable_size(block) : 0;
+    void *made = is_refused() ? NULL : counted(__real_realloc(block, size));
+    freed += made && block;
+    held -= made ? had : 0;
+    return made;
+}
 
 void __wrap_free(void *block) {
     freed += block != NULL;
+    held -= block ? (long)malloc_usable_size(block) : 0;
     __real_free(block);
 }
 
@@ -82,6 +105,26 @@ static uint64_t one_tick(dc429 *engine, uint64_t tick) {
     return sum * 31 + reply.kind + reply.tick;
 }
 
+/* Refuses each of so many allocations of dc429_open in turn, or each and all behind it. Where one is made up for, the engine is
+   open; after each the next one opens, and answers. */
+static void refusals(long needed, bool behind) {
+    long memory = 0, opened = 0, well = 0;
+    all_behind = behind;
+    for (long at = 0; at < needed; at++) {
+        dc429 engine = DC429_CLOSED;
+        dc429_fault fault;
+        taken = freed = 0;
+        refused = at;
+        bool is_open = open_engine(&engine, &fault);
+        refused = -1;
+        opened += is_open && engine.is_open;
+        memory += !is_open && !engine.is_open && fault.kind == DC429_MEMORY;
+        well += open_engine(&engine, &fault) && one_tick(&engine, 0) != 0;
+        dc429_close(&engine);
+    }
+    printf("%s %ld memory %ld opened %ld well %ld\n", behind ? "behind" : "each", needed, memory, opened, well);
+}
+
 static int allocations(void) {
     dc429 engine = DC429_CLOSED;
     dc429_fault fault;
@@ -106,18 +149,8 @@ static int allocations(void) {
     taken = freed = 0;
     bool is_accepted = dc429_check(tables, tables_length, certificate, certificate_length, &fault);
     printf("check %d takes %ld frees %ld\n", is_accepted, taken, freed);
-    long memory = 0, leaked = 0;
-    for (long at = 0; at < needed; at++) {
-        taken = freed = 0;
-        refused = at;
-        is_open = open_engine(&engine, &fault);
-        refused = -1;
-        memory += !is_open && fault.kind == DC429_MEMORY && !engine.is_open;
-        is_open = open_engine(&engine, &fault);
-        leaked += !is_open || one_tick(&engine, 0) == 0;
-        dc429_close(&engine);
-    }
-    printf("refused %ld memory %ld stuck %ld\n", needed, memory, leaked);
+    for (int behind = 0; behind < 2; behind++)
+        refusals(needed, behind);
     return 0;
 }
 
@@ -326,71 +359,99 @@ static uint64_t now(void) {
     return (uint64_t)at.tv_sec * 1000000000u + (uint64_t)at.tv_nsec;
 }
 
-/* How often each call was made, how long all took together and the longest. */
-static struct timed {
-    const char *name;
-    uint64_t count, sum, longest, over;
-} timed[] = { { .name = "arrive" }, { .name = "route" }, { .name = "send" }, { .name = "tick" } };
+/* Of each call of a run its kind, and the least time that it took in the rounds so far: what the machine does beside a call it does
+   in some other round beside another one. */
+enum { ARRIVE, ROUTE, SEND, TICK, KINDS };
+static const char *const TIMES_OF[KINDS] = { "arrive", "route", "send", "tick" };
+static uint32_t least[TIMED];
+static uint8_t kinds[TIMED];
+static size_t at_call;
 
-static void add_time(struct timed *of, uint64_t before) {
+/* Makes a call, and keeps its time. */
+static void time_call(dc429 *engine, uint8_t kind, size_t number, uint32_t word, dc429_reply *reply) {
+    if (at_call == TIMED)
+        return;
+    uint64_t before = now();
+    switch (kind) {
+    case ARRIVE: dc429_arrive(engine, number, word, reply); break;
+    case ROUTE: dc429_route(engine, number, reply); break;
+    case SEND: dc429_send(engine, number, reply); break;
+    default: dc429_tick(engine, reply); break;
+    }
     uint64_t took = now() - before;
-    of->count++;
-    of->sum += took;
-    of->longest = took > of->longest ? took : of->longest;
-    of->over += took > 10000;
+    kinds[at_call] = kind;
+    least[at_call] = took < least[at_call] ? (uint32_t)took : least[at_call];
+    at_call++;
 }
 
-/* One tick, each call timed by itself. */
+/* One tick, each call timed by itself: a word on each bus, each router till it is spent, each output once, the tick. */
 static void timed_tick(dc429 *engine, uint64_t tick) {
     dc429_reply reply;
-    uint64_t before;
-    for (size_t bus = 0; bus < buses; bus++) {
-        before = now();
-        dc429_arrive(engine, bus, word_of(tick), &reply);
-        add_time(&timed[0], before);
-    }
+    for (size_t bus = 0; bus < buses; bus++)
+        time_call(engine, ARRIVE, bus, word_of(tick), &reply);
     for (size_t router = 0; router < routers; router++)
-        for (reply.kind = 0; reply.kind != DC429_SPENT;) {
-            before = now();
-            dc429_route(engine, router, &reply);
-            add_time(&timed[1], before);
-        }
-    for (size_t output = 0; output < outputs; output++) {
-        before = now();
-        dc429_send(engine, output, &reply);
-        add_time(&timed[2], before);
-    }
-    before = now();
-    dc429_tick(engine, &reply);
-    add_time(&timed[3], before);
+        for (reply.kind = 0; reply.kind != DC429_SPENT && at_call < TIMED;)
+            time_call(engine, ROUTE, router, 0, &reply);
+    for (size_t output = 0; output < outputs; output++)
+        time_call(engine, SEND, output, 0, &reply);
+    time_call(engine, TICK, 0, 0, &reply);
 }
 
 static int longest(void) {
-    dc429 engine = DC429_CLOSED;
-    dc429_fault fault;
-    uint64_t before = now(), calls = 0;
-    bool is_open = open_engine(&engine, &fault);
-    printf("open %.3f ms\n", (double)(now() - before) / 1e6);
-    for (uint64_t tick = 0; is_open && calls < TIMED; tick++) {
-        timed_tick(&engine, tick);
-        calls = timed[0].count + timed[1].count + timed[2].count + timed[3].count;
+    memset(least, 0xFF, sizeof least);
+    for (int round = 0; round < TIMED_ROUNDS; round++) {
+        dc429 engine = DC429_CLOSED;
+        dc429_fault fault;
+        uint64_t before = now();
+        bool is_open = open_engine(&engine, &fault);
+        if (round == 0)
+            printf("open %.3f ms\n", (double)(now() - before) / 1e6);
+        at_call = 0;
+        for (uint64_t tick = 0; is_open && at_call < TIMED; tick++)
+            timed_tick(&engine, tick);
+        dc429_close(&engine);
     }
-    for (size_t at = 0; at < sizeof timed / sizeof *timed; at++)
-        printf("%s calls %" PRIu64 " mean %.1f ns longest %.1f us, over 10 us %" PRIu64 "\n", timed[at].name, timed[at].count,
-               (double)timed[at].sum / (double)timed[at].count, (double)timed[at].longest / 1000, timed[at].over);
-    dc429_close(&engine);
+    for (uint8_t kind = 0; kind < KINDS; kind++) {
+        uint64_t count = 0, sum = 0, most = 0;
+        for (size_t at = 0; at < TIMED; at++)
+            if (kinds[at] == kind) {
+                count++;
+                sum += least[at];
+                most = least[at] > most ? least[at] : most;
+            }
+        printf("%s calls %" PRIu64 " mean %" PRIu64 " ns longest %" PRIu64 " ns\n", TIMES_OF[kind], count, sum / (count ? count : 1), most);
+    }
     return 0;
 }
 
+/* The processor's time, in nanoseconds. */
+static uint64_t spent(void) {
+    struct timespec at;
+    clock_gettime(CLOCK_PROCESS_CPUTIME_ID, &at);
+    return (uint64_t)at.tv_sec * 1000000000u + (uint64_t)at.tv_nsec;
+}
+
+/* The least mean of ten rounds of the processor's time. */
 static int calls(void) {
-    dc429 engine = DC429_CLOSED;
-    dc429_fault fault;
-    bool is_open = open_engine(&engine, &fault);
-    uint64_t sum = 0, before = now();
-    for (uint64_t tick = 0; is_open && tick < ticks_asked; tick++)
-        sum += one_tick(&engine, tick);
-    printf("calls %" PRIu64 " mean %.2f ns sum %" PRIu64 "\n", made_calls, (double)(now() - before) / (double)made_calls, sum);
-    dc429_close(&engine);
+    double least = 0;
+    uint64_t sum = 0, made = 0;
+    for (int round = 0; round < TIMED_ROUNDS; round++) {
+        dc429 engine = DC429_CLOSED;
+        dc429_fault fault;
+        held = 0;
+        bool is_open = open_engine(&engine, &fault);
+        if (round == 0)
+            printf("heap %ld bytes\n", held);
+        uint64_t before = spent();
+        made_calls = 0;
+        for (uint64_t tick = 0; is_open && tick < ticks_asked / TIMED_ROUNDS; tick++)
+            sum += one_tick(&engine, tick);
+        double mean = (double)(spent() - before) / (double)made_calls;
+        least = round == 0 || mean < least ? mean : least;
+        made += made_calls;
+        dc429_close(&engine);
+    }
+    printf("calls %" PRIu64 " mean %.2f ns sum %" PRIu64 "\n", made, least, sum);
     return 0;
 }
 
@@ -404,7 +465,7 @@ int main(int argc, char **argv) {
         return 2;
     dc429 engine = DC429_CLOSED;
     dc429_fault fault;
-    if (!open_engine(&engine, &fault))
+    if (!open_engine(&engine, &fault) && strcmp(argv[1], "stack") != 0)
         return 1;
     buses = count_of(&engine, DC429_BUS);
     routers = count_of(&engine, DC429_ROUTER);

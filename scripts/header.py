@@ -35,7 +35,7 @@ CHANGES = [
     ("uint32_t dc429_tick(dc429 *engine, dc429_reply *reply);", "bool dc429_tick(dc429 *engine, dc429_reply *reply);"),
     ("DC429_BAD_PARITY = 2", "DC429_BAD_PARITY = 12"),
     ("DC429_TABLES_BUS = 2, DC429_TABLES_STREAM = 3", "DC429_TABLES_BUS = 3, DC429_TABLES_STREAM = 2"),
-    ("    bool is_usable; ", "    bool is_usable, is_new; "),
+    ("    bool is_odd; ", "    uint32_t is_odd; "),
     ("    DC429_UNREADABLE_TABLES = 'T'", "    DC429_UNREADABLE_TABLES = 't'"),
 ]
 

@@ -1,7 +1,8 @@
 #!/bin/sh
 # Prints of the built library: how long examples/c/replay.c takes for two million lines of the small tables without printing, beside
 # `dc429 replay`, the best of five rounds each, and the instructions a line of both, counted by callgrind; how long a call takes
-# in the mean and by itself, on the small tables and on 64 buses of 16 streams, with the instructions a call; and how much stack.
+# in the mean and by itself, on the small tables and on those of tables.sh, with the instructions a call; how much of the heap an
+# engine keeps, and how much of its stack a thread uses.
 # usage: bench/embed/run.sh [LIBRARY [PROGRAM]]      build/ and build/dc429 where none is said
 set -eu
 here=$(cd "$(dirname "$0")" && pwd)
@@ -15,7 +16,7 @@ flags="-std=gnu11 -O2 -Wall -Wextra -Werror -I$root/include"
 cc $flags -o replay "$root/examples/c/replay.c" "$library/libdc429.a"
 cc $flags -o embed "$root/scripts/embed.c" "$library/libdc429.a" -Wl,--wrap=malloc,--wrap=realloc,--wrap=free -pthread
 cp "$root/examples/small.toml" small.toml
-"$root/bench/find/tables.sh" > large.toml
+"$here/tables.sh" > large.toml
 for size in small large; do
     "$program" find $size.toml > $size.json
 done
@@ -56,7 +57,7 @@ awk -v ours="$ours" -v its="$its" 'BEGIN {
 }'
 for size in small large; do
     ticks=$([ $size = small ] && echo 2000000 || echo 30000)
-    echo "$size tables, $(./embed calls $size.toml $size.json $ticks)"
+    ./embed calls $size.toml $size.json $ticks | sed "s/ sum.*//; s/^/$size tables, /"
     less=$(counted none ./embed calls $size.toml $size.json 1000)
     few=$(sed -n 's/^calls \([0-9]*\) .*/\1/p' written)
     more=$(counted none ./embed calls $size.toml $size.json 3000)
