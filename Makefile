@@ -52,11 +52,16 @@ test:
 	@$(RT) ci
 
 # The built program on the rows of rows/, on texts by chance and of the largest sizes, at its edges, under refused memory and
-# failing devices: some minutes, no proof.
-trials: $(addprefix try-,rows explained chance timed crowds largest audits edges hostile pages refused)
+# failing devices, and the library for C beside it: some minutes, no proof where the library is built.
+trials: $(addprefix try-,rows explained chance timed crowds largest audits edges hostile pages refused embed)
 
 try-%:
 	@scripts/$*
+
+try-embed: build/libdc429.a
+
+build/libdc429.a:
+	@RT=$(RT) scripts/library --of-gate
 
 # The explanations, and that with them each row answers as without.
 try-explained:
