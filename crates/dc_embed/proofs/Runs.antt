@@ -1,5 +1,5 @@
 -- From the calls of a slot to those of its engine, and to their run.
-use Rattle.std.proofs.Common.{◌≡◌, ℕ, true, false, true≢false, List, [], ◌∷◌, refl, sym, ap, ◌∙◌, subst, Bool, Option, Some, None, Result, Ok, Err}
+use Rattle.std.proofs.Common.{◌≡◌, ℕ, true, true≢false, List, [], ◌∷◌, refl, subst, Option, Some, Result, Ok, Err}
 use Rattle.dc_build.specs.Reported.{AreTablesOf}
 use Rattle.dc_cert.specs.NamedRows.{NamedRows}
 use Rattle.dc_cert.specs.Reading.{certificate_of}

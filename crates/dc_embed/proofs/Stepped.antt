@@ -1,5 +1,5 @@
 -- From what the engine does to what a call from C does.
-use Rattle.std.proofs.Common.{◌≡◌, ◌⊎◌, inl, inr, ℕ, List, refl, sym, subst, Bool, true, false, Option, Some, None, Result, Ok, Err}
+use Rattle.std.proofs.Common.{◌≡◌, ◌⊎◌, inl, inr, ℕ, List, sym, subst, Bool, false, Option, Some, None, Result, Err}
 use Rattle.dc_core.specs.declared.fault.StepFault.{StepFault}
 use Rattle.dc_event.specs.declared.event.Event.{Event}
 use Rattle.dc_event.specs.declared.event.Reply.{Reply}

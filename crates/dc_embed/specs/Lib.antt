@@ -1,4 +1,5 @@
 pub mod Held
 pub mod Slots
 pub mod Runs
+pub mod Finding
 pub mod Decoding

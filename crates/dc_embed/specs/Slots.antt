@@ -102,10 +102,13 @@ text_in None list number = None
 text_in (Some engine) None number = None
 text_in (Some engine) (Some list) number = text_among (names_in (rows_of engine) list) number
 
+-- a text at the front of a buffer, where there is room; else the buffer as it was
+abbrev pub front_put : List ℕ → List ℕ → List ℕ
+front_put text room = if nat_le (length text) (length room) then text ++ drop (length text) room else room
+
 -- a text is put to the front, or there is no room and nothing is
 abbrev pub Puts : List ℕ → List ℕ → List ℕ → ℕ → Type 0
-Puts text old new length_put =
-    (new ≡ (if nat_le (length text) (length old) then text ++ drop (length text) old else old)) × (length_put ≡ (if nat_le (length text) (length old) then length text else 0))
+Puts text old new length_put = (new ≡ front_put text old) × (length_put ≡ (if nat_le (length text) (length old) then length text else 0))
 
 -- what is told of a text: where there is none, nothing is written
 abbrev pub TellsText : Option (List ℕ) → List ℕ → List ℕ → ℕ → Type 0

@@ -13,7 +13,7 @@ use dc_word::Word;
 use std::alloc::Global;
 
 /// The report where there is no fault.
-const NO_FAULT: Report = Report {
+pub(crate) const NO_FAULT: Report = Report {
     kind: 0,
     code: 0,
     place: 0,

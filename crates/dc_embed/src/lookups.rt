@@ -1,8 +1,9 @@
 //! Names and numbers for C.
 ghost use Rattle.std.specs.Prelude.{◌≡◌, Some};
-ghost use Rattle.dc_embed.specs.Slots.{Finds, Puts, TellsText, list_at, text_in};
+ghost use Rattle.dc_embed.specs.Slots.{Finds, TellsText, list_at, text_in};
 
 use crate::slot::{Slot, put, taken};
+use crate::text::put_text;
 use dc_engine::{Engine, NameList};
 use std::alloc::Global;
 
@@ -48,17 +49,6 @@ pub extern "C" fn dc429_number(
             true
         }
     }
-}
-
-/// Puts a text to the front of another, where there is room, and tells its length.
-fn put_text(name: &[u8], text: &mut [u8]) -> usize
-    ensures { Puts name.now text.old text.new result }
-{
-    if name.len() > text.len() {
-        return 0;
-    }
-    text[..name.len()].copy_from_slice(name);
-    name.len()
 }
 
 /// Puts the name of this list and number to the front of a text.

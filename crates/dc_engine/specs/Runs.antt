@@ -1,5 +1,5 @@
 -- What an engine answers call by call, and the run that its calls are.
-use Rattle.std.specs.Prelude.{◌≡◌, ℕ, ◌&&◌, nat_le, Bool, false, List, [], ◌∷◌, ◌++◌, filter, map, Result, Ok, Err}
+use Rattle.std.specs.Prelude.{◌≡◌, ◌&&◌, nat_le, Bool, false, List, [], ◌∷◌, ◌++◌, filter, map, Result, Ok, Err}
 use Rattle.dc_cert.specs.Bounds.{numbers_of}
 use Rattle.dc_check.specs.Certified.{KeepsItsClaims}
 use Rattle.dc_core.specs.Standing.{MayFollow, IsFault}

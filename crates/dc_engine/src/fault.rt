@@ -109,8 +109,8 @@ fn text_place(place: TextPlace) -> (u32, usize)
     }
 }
 
-/// The number of a condition.
-fn condition_code(condition: Condition) -> u32
+/// The number of a condition, 1 to 12 as C01 to C12.
+pub fn condition_code(condition: Condition) -> u32
     ensures { result ≡ condition_number condition }
 {
     match condition {

@@ -11,7 +11,7 @@ mod opening;
 
 pub use answer::{Answer, answer_to};
 pub use engine::Engine;
-pub use fault::{OpenFault, Report};
+pub use fault::{OpenFault, Report, condition_code};
 pub use laws::{answers_are_outputs, claims_hold_for_the_calls, told_apart};
 pub use name_list::NameList;
 pub use opening::{judge, open, read};

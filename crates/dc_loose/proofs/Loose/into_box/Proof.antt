@@ -31,7 +31,7 @@ use Rattle.std.proofs.cell.Inside.{Good}
 use Rattle.std.proofs.BoxSteps.Form as box
 use Rattle.std.proofs.BoxSteps.Steps.{box_out, box_in}
 use Rattle.std.proofs.raw_atomic.Walks.{proved_at, leaves}
-use Rattle.dc_loose.proofs.Values.{both, Loose, loose_good, loose_out}
+use Rattle.dc_loose.specs.lemmas.Values.{both, Loose, loose_good, loose_out}
 use Rattle.std.specs.contracts.boxed.Box.from_raw as callee
 use Rattle.std.proofs.boxed.Box.from_raw.Met.{met}
 use Rattle.dc_loose.specs.contracts.Loose.into_box.{ended, clauses}

@@ -1,5 +1,4 @@
 -- A handle may cross threads: what it owns says the same to every thread.
-use Prim.Native.Nat.{ℕ}
 use base.Fraction.{full_share}
 use base.Shift.{Keyless}
 use mir.Raw.{raw}

@@ -1,39 +1,27 @@
 -- `closed` owns nothing.
-use Rattle.std.proofs.Common.{◌≡◌, ◌≢◌, List, [], ◌∷◌, ◌++◌, refl, ap, ◌∙◌}
-use Rattle.std.specs.Prelude.{Option, Some, None}
+use Rattle.std.proofs.Common.{◌≡◌, [], ◌∷◌, refl}
+use Rattle.std.specs.Prelude.{None}
 use mir.Syntax.{Fn}
-use mir.Raw.{raw as bare}
-use mir.Val.{Val, vptr}
-use base.Logic.{SProp, emp, fst∗, never}
-use base.Fml.{ftrue, fsep, feq}
-use prog.Wp.{WpFn}
-use types.Logic.{sem}
+use mir.Val.{Val}
+use base.Logic.{SProp, emp}
+use base.Fml.{ftrue}
 use contract.Monad.{fact, fact_i}
 use contract.Running.{tables}
-use types.Kit.{‵, raw, ◌⊛◌, prop, ◌$◌, ◌∵◌, !, qed, by, move, keep, drop, use0, use1, split, regoal, rewrite, fsplit, fsplit3, fjoin, fpick, feq_l}
-use types.Part.{whole, sub, agg}
-use types.Run.{stop, fld, lit, of_opd, no_more, and_then, returns, enter}
-use types.ByLocal.{alloc_all, pass_all, free_all, look_at, get, get_in, sets}
+use types.Kit.{‵, raw, ◌⊛◌, ◌$◌, ◌∵◌, !, qed, by, move, drop, use0, split, fjoin}
+use types.Part.{agg}
+use types.Run.{lit, no_more, and_then, returns, enter}
+use types.ByLocal.{alloc_all, pass_all, free_all, look_at, sets}
 use denote.RattleType.{RattleType, owns}
-use denote.Memory.{lone}
-use denote.Param.{layout}
-use denote.RawPtr.{Ptr, block_ptr, null_ptr, in_a_block}
+use denote.RawPtr.{null_ptr}
 use denote.Signature.{types_at}
-use denote.Steps.{nothing, heard}
+use denote.Steps.{nothing}
 use denote.Triple.Entry.{alive}
-use denote.Triple.Walked.{Stays, stay_dropped, walk_of, Goes-dropped}
-use Rattle.std.proofs.alloc.Calls.{Goes-blank}
-use Rattle.std.proofs.cell.Inside.{one}
+use denote.Triple.Walked.{Stays, walk_of}
 use Rattle.std.proofs.raw_atomic.Walks.{proved_at, leaves}
 use Rattle.std.specs.contracts.alloc.Global as heap
-use Rattle.std.specs.contracts.impls.GlobalAllocator.TheImpl.{ghosts}
 use Rattle.std.proofs.alloc.Global.TheLaws as heap_laws
-use Rattle.dc_loose.proofs.Values.{both, loose_good, loose_out, loose_in}
-use Rattle.dc_embed.proofs.Values.{slot_at, list_val, list_own, list_told, list_made, list_typed, inside, opened}
-use Rattle.dc_embed.specs.Held.{held, chunk}
+use Rattle.dc_embed.proofs.Values.{list_val, list_own, list_made, list_typed}
 use Rattle.dc_engine.specs.contracts.engine.Engine as core
-use Rattle.dc_embed.specs.contracts.handle.Handle as handle
-use Rattle.std.specs.Box.Ownership.{box_owns}
 use Rattle.dc_embed.specs.contracts.handle.Handle.closed.{ended, clauses}
 use Rattle.dc_embed.specs.contracts.handle.Handle.closed.Key.{name as #self}
 use Rattle.dc_embed.proofs.handle.Handle.closed.Statement.{statement}

@@ -1,18 +1,17 @@
 -- `into_loose` hands over what an open handle owns.
 use Rattle.std.proofs.Common.{◌≡◌, ◌≢◌, List, [], ◌∷◌, ◌++◌, refl, ap, ◌∙◌}
-use Rattle.std.specs.Prelude.{Option, Some, None}
+use Rattle.std.specs.Prelude.{Some, None}
 use mir.Syntax.{Fn}
 use mir.Raw.{raw as bare}
 use mir.Val.{Val, vptr}
 use base.Logic.{SProp, emp, fst∗, never}
-use base.Fml.{ftrue, fsep, feq}
 use prog.Wp.{WpFn}
 use types.Logic.{sem}
 use contract.Monad.{fact, fact_i}
 use contract.Running.{tables}
 use types.Kit.{‵, raw, ◌⊛◌, prop, ◌$◌, ◌∵◌, !, qed, by, move, keep, drop, use0, use1, split, regoal, rewrite, fsplit, fsplit3, fjoin, fpick, feq_l}
 use types.Part.{whole, sub, agg}
-use types.Run.{stop, fld, lit, of_opd, no_more, and_then, returns, enter}
+use types.Run.{stop, fld, of_opd, no_more, and_then, returns, enter}
 use types.ByLocal.{alloc_all, pass_all, free_all, look_at, get, get_in, sets}
 use denote.RattleType.{RattleType, owns}
 use denote.Memory.{lone}
@@ -28,11 +27,10 @@ use Rattle.std.proofs.raw_atomic.Walks.{proved_at, leaves}
 use Rattle.std.specs.contracts.alloc.Global as heap
 use Rattle.std.specs.contracts.impls.GlobalAllocator.TheImpl.{ghosts}
 use Rattle.std.proofs.alloc.Global.TheLaws as heap_laws
-use Rattle.dc_loose.proofs.Values.{both, loose_good, loose_out, loose_in}
-use Rattle.dc_embed.proofs.Values.{slot_at, list_val, list_own, list_told, list_made, list_typed, inside, opened}
-use Rattle.dc_embed.specs.Held.{held, chunk}
+use Rattle.dc_loose.specs.lemmas.Values.{both, loose_good, loose_in}
+use Rattle.dc_embed.proofs.Values.{slot_at, list_val, list_told, list_typed, inside, opened}
+use Rattle.dc_embed.specs.Held.{chunk}
 use Rattle.dc_engine.specs.contracts.engine.Engine as core
-use Rattle.dc_embed.specs.contracts.handle.Handle as handle
 use Rattle.std.specs.Box.Ownership.{box_owns}
 use Rattle.dc_embed.specs.contracts.handle.Handle.into_loose.{ended, clauses}
 use Rattle.dc_embed.specs.contracts.handle.Handle.into_loose.Key.{name as #self}

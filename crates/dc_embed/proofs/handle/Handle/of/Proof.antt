@@ -1,39 +1,31 @@
 -- `of` takes over what the parts own.
-use Rattle.std.proofs.Common.{◌≡◌, ◌≢◌, List, [], ◌∷◌, ◌++◌, refl, ap, ◌∙◌}
-use Rattle.std.specs.Prelude.{Option, Some, None}
+use Rattle.std.proofs.Common.{◌≡◌, List, [], ◌∷◌, ◌++◌, refl}
+use Rattle.std.specs.Prelude.{Some}
 use mir.Syntax.{Fn}
-use mir.Raw.{raw as bare}
 use mir.Val.{Val, vptr}
-use base.Logic.{SProp, emp, fst∗, never}
-use base.Fml.{ftrue, fsep, feq}
+use base.Logic.{SProp, emp}
+use base.Fml.{ftrue}
 use prog.Wp.{WpFn}
-use types.Logic.{sem}
 use contract.Monad.{fact, fact_i}
 use contract.Running.{tables}
-use types.Kit.{‵, raw, ◌⊛◌, prop, ◌$◌, ◌∵◌, !, qed, by, move, keep, drop, use0, use1, split, regoal, rewrite, fsplit, fsplit3, fjoin, fpick, feq_l}
+use types.Kit.{‵, raw, ◌⊛◌, prop, ◌$◌, ◌∵◌, !, qed, by, move, keep, drop, use0, split, regoal, fsplit, fjoin}
 use types.Part.{whole, sub, agg}
-use types.Run.{stop, fld, lit, of_opd, no_more, and_then, returns, enter}
+use types.Run.{stop, fld, of_opd, no_more, and_then, returns, enter}
 use types.ByLocal.{alloc_all, pass_all, free_all, look_at, get, get_in, sets}
 use denote.RattleType.{RattleType, owns}
-use denote.Memory.{lone}
-use denote.Param.{layout}
-use denote.RawPtr.{Ptr, block_ptr, null_ptr, in_a_block}
+use denote.RawPtr.{block_ptr}
 use denote.Signature.{types_at}
-use denote.Steps.{nothing, heard}
+use denote.Steps.{nothing}
 use denote.Triple.Entry.{alive}
-use denote.Triple.Walked.{Stays, stay_dropped, walk_of, Goes-dropped}
+use denote.Triple.Walked.{Stays, stay_dropped, walk_of}
 use Rattle.std.proofs.alloc.Calls.{Goes-blank}
-use Rattle.std.proofs.cell.Inside.{one}
 use Rattle.std.proofs.raw_atomic.Walks.{proved_at, leaves}
 use Rattle.std.specs.contracts.alloc.Global as heap
 use Rattle.std.specs.contracts.impls.GlobalAllocator.TheImpl.{ghosts}
 use Rattle.std.proofs.alloc.Global.TheLaws as heap_laws
-use Rattle.dc_loose.proofs.Values.{both, loose_good, loose_out, loose_in}
-use Rattle.dc_embed.proofs.Values.{slot_at, list_val, list_own, list_told, list_made, list_typed, inside, opened}
-use Rattle.dc_embed.specs.Held.{held, chunk}
+use Rattle.dc_loose.specs.lemmas.Values.{both, loose_good, loose_out}
+use Rattle.dc_embed.proofs.Values.{slot_at, list_val, list_own, list_made, list_typed}
 use Rattle.dc_engine.specs.contracts.engine.Engine as core
-use Rattle.dc_embed.specs.contracts.handle.Handle as handle
-use Rattle.std.specs.Box.Ownership.{box_owns}
 use Rattle.dc_embed.specs.contracts.handle.Handle.of.{ended, clauses}
 use Rattle.dc_embed.specs.contracts.handle.Handle.of.Key.{name as #self}
 use Rattle.dc_embed.proofs.handle.Handle.of.Statement.{statement}

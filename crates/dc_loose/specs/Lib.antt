@@ -1,0 +1,2 @@
+-- What the machine holds of a box that was taken apart.
+pub mod lemmas

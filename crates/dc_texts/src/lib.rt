@@ -1,0 +1,8 @@
+//! The texts that `find` and `margins` print, made of texts that are handed in, for a program that calls.
+#![tactic(auto)]
+
+mod fault;
+mod finding;
+
+pub use fault::NotFound;
+pub use finding::find_text;
