@@ -6,7 +6,7 @@ RT := rt
 # How many crates are proved side by side by `make build`: one a processor, at most four. Each takes 1 to 4 GB.
 JOBS := $(shell n=$$(nproc 2>/dev/null || echo 1); [ "$$n" -lt 4 ] || n=4; echo $$n)
 
-.PHONY: run quick build lib install test trials rows edits edits-apply
+.PHONY: run quick build lib install uninstall deb test trials rows edits edits-apply
 
 # Decodes one word, with no proof: about a minute from a fresh clone.
 run:
@@ -31,7 +31,7 @@ lib:
 	@RT=$(RT) scripts/library $(TARGET)
 
 # Puts what is built, and the texts, below a folder: make install PREFIX=.., and with DESTDIR=.. below that one. The program must
-# print the version of the sources. What is not built is said.
+# print the version of the sources, and gives its man pages and completions. What is not built is said.
 to = $(DESTDIR)$(PREFIX)
 
 install:
@@ -47,6 +47,16 @@ install:
 	@for it in build/libdc429.so.*; do if [ -e "$$it" ]; then install -D -m 755 "$$it" "$(to)/lib/$${it##*/}" && \
 	    ln -sf "$${it##*/}" "$(to)/lib/libdc429.so"; else echo "not installed: libdc429.so, which make lib makes where there is cc"; fi; done
 	@install -D -m 644 -t "$(to)/share/doc/dc429" README.md CHANGELOG.md LICENSE-MIT LICENSE-APACHE docs/formats.md docs/embedding.md
+	@[ ! -e build/dc429 ] || scripts/manual build/dc429 "$(to)/share"
+
+# Takes away what `make install` put below that folder.
+uninstall:
+	@[ -n "$(PREFIX)" ] || { echo "say where from, as make uninstall PREFIX=.."; exit 1; }
+	@scripts/uninstall "$(to)"
+
+# The same files as a package, build/dc429_<version>_<architecture>.deb.
+deb:
+	@scripts/package
 
 test:
 	@$(RT) ci
