@@ -65,6 +65,9 @@ test:
 # failing devices, and the library for C beside it: some minutes, no proof where the library is built.
 trials: $(addprefix try-,rows explained chance timed crowds largest audits edges hostile pages refused embed)
 
+# The tutorial as its reader goes through it; what is installed and packed, in a folder of its own.
+trials: try-tutorial try-installed
+
 try-%:
 	@scripts/$*
 
