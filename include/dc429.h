@@ -6,9 +6,9 @@
  *  - a `dc429` is DC429_CLOSED, or as the last call with it left it. It is never copied, moved, changed or compared, and is
  *    in one call at a time. Another thread may go on with it once a lock, the start or the join of a thread, or an atomic
  *    with SEQ_CST has put its calls behind those of the first. Several may be open, and be called side by side;
- *  - malloc gives blocks aligned to 16 bytes. Only dc429_open, dc429_check and dc429_close call malloc, realloc or free;
+ *  - malloc gives blocks aligned to 16 bytes. Only dc429_open, dc429_check, dc429_find and dc429_close call malloc, realloc or free;
  *  - no call is made from a signal handler that may have interrupted a call with the same `dc429`, nor dc429_open,
- *    dc429_check or dc429_close from any signal handler.
+ *    dc429_check, dc429_find or dc429_close from any signal handler.
  * No call locks, waits, prints, reads the clock, sets errno of its own or keeps a pointer that it was given.
  *
  * The numbers of kinds, places, statuses, lists and formats that stand here are never given another meaning: what is new
@@ -51,7 +51,8 @@ enum dc429_fault_kind {
     DC429_MEMORY = 'M',              /* an allocation failed: nothing is known of the texts */
     DC429_UNREADABLE_TABLES = 'T',   /* the tables' text is none, or breaks a rule */
     DC429_UNREADABLE_CERTIFICATE = 'K', /* the certificate's text is none */
-    DC429_REFUSED_CERTIFICATE = 'C'  /* the certificate is not one for these tables */
+    DC429_REFUSED_CERTIFICATE = 'C', /* the certificate is not one for these tables */
+    DC429_NO_CERTIFICATE = 'F'       /* dc429_find: no certificate is accepted for these tables */
 };
 
 /* The place of a fault of the tables (T). */
@@ -60,7 +61,7 @@ enum dc429_tables_place {
     DC429_TABLES_OUTPUT = 5, DC429_TABLES_LABEL = 6
 };
 
-/* The place of a fault of the certificate (K, C): the list. C has no 0. */
+/* The place of a fault of the certificate (K, C), and of what stands in its way (F): the list. C and F have no 0. */
 enum dc429_certificate_place {
     DC429_CERTIFICATE_TOP = 0, DC429_CERTIFICATE_INPUTS = 1, DC429_CERTIFICATE_OUTPUTS = 2, DC429_CERTIFICATE_LABELS = 3
 };
@@ -68,9 +69,9 @@ enum dc429_certificate_place {
 /* The first fault, in the order of docs/formats.md. Where there is none, all members are 0. */
 typedef struct dc429_fault {
     uint32_t kind;   /* an enum dc429_fault_kind */
-    uint32_t code;   /* T: 1 to 24, K: 1 to 6, C: 1 to 12; M: 0 */
-    uint32_t place;  /* T: an enum dc429_tables_place; K, C: an enum dc429_certificate_place; M: 0 */
-    uint32_t window; /* C04, C06: the least number of ticks that fails; else 0 */
+    uint32_t code;   /* T: 1 to 24, K: 1 to 6, C: 1 to 12, F: 1 to 3; M: 0 */
+    uint32_t place;  /* T: an enum dc429_tables_place; K, C, F: an enum dc429_certificate_place; M: 0 */
+    uint32_t window; /* C04, C06: the least number of ticks that fails; F3: the condition that fails, 8, 9, 11 or 12; else 0 */
     size_t index;    /* the number in the list, from 0; where the place is 0, and at M and C01: 0 */
 } dc429_fault;
 
@@ -164,6 +165,11 @@ bool dc429_open(dc429 *engine, const uint8_t *tables, size_t tables_length, cons
 /* Whether the certificate is accepted for the tables; nothing is kept. false: `fault` says why not. */
 bool dc429_check(const uint8_t *tables, size_t tables_length, const uint8_t *certificate, size_t certificate_length,
                  dc429_fault *fault);
+
+/* The least certificate of tables, as dc429 find prints it, with its line feed. true: `length` is how many bytes it takes, and it
+ * stands at the front of `text`, where `room` is no less; else `text` is unchanged: call again with more room.
+ * false: `length` is 0, `text` is unchanged, and `fault` says why: T, F or M. */
+bool dc429_find(const uint8_t *tables, size_t tables_length, uint8_t *text, size_t room, size_t *length, dc429_fault *fault);
 
 /* Closes an engine and frees its memory; of a closed one, nothing. */
 void dc429_close(dc429 *engine);

@@ -149,6 +149,9 @@ static int allocations(void) {
     taken = freed = 0;
     bool is_accepted = dc429_check(tables, tables_length, certificate, certificate_length, &fault);
     printf("check %d takes %ld frees %ld\n", is_accepted, taken, freed);
+    taken = freed = 0;
+    bool is_found = dc429_find(tables, tables_length, name, sizeof name, &number, &fault);
+    printf("find %d takes %ld frees %ld\n", is_found, taken, freed);
     for (int behind = 0; behind < 2; behind++)
         refusals(needed, behind);
     return 0;
@@ -287,6 +290,25 @@ static bool text_edges(dc429 *engine) {
     return is_well && open_engine(engine, &fault) && engine->is_open;
 }
 
+/* The least certificate: written where there is room for all of it, else not at all. */
+static bool found_edges(void) {
+    static uint8_t text[1 << 20];
+    dc429_fault fault;
+    size_t length = 77, again = 77;
+    text[0] = '-';
+    bool is_well = dc429_find(tables, tables_length, text, 0, &length, &fault) && length > 1 && text[0] == '-';
+    is_well = is_well && dc429_find(tables, tables_length, text, length - 1, &again, &fault) && again == length && text[0] == '-';
+    if (!is_well || length >= sizeof text)
+        return false;
+    text[length] = '-';
+    is_well = dc429_find(tables, tables_length, text, length, &again, &fault) && again == length && text[0] == '{';
+    is_well = is_well && text[length - 1] == '\n' && text[length] == '-' && fault.kind == DC429_NO_FAULT;
+    is_well = is_well && dc429_check(tables, tables_length, text, length, &fault);
+    text[0] = '-';
+    is_well = is_well && !dc429_find(tables, 1, text, sizeof text, &again, &fault) && again == 0 && text[0] == '-';
+    return is_well && fault.kind == DC429_UNREADABLE_TABLES;
+}
+
 static int edges(void) {
     dc429 engine = DC429_CLOSED;
     dc429_fault fault;
@@ -295,6 +317,7 @@ static int edges(void) {
     printf("numbers %d\n", is_open && number_edges(&engine));
     printf("names %d\n", is_open && name_edges(&engine));
     printf("texts %d\n", is_open && text_edges(&engine));
+    printf("found %d\n", found_edges());
     dc429_close(&engine);
     return 0;
 }
@@ -302,7 +325,7 @@ static int edges(void) {
 /* ---- the stack ---- */
 
 static dc429 stacked = DC429_CLOSED;
-static const char *const STACKED[] = { "nothing", "open", "events", "names", "close", "check" };
+static const char *const STACKED[] = { "nothing", "open", "events", "names", "close", "check", "find" };
 
 static void *run_stacked(void *what) {
     dc429_fault fault;
@@ -322,6 +345,7 @@ static void *run_stacked(void *what) {
         break;
     case 4: dc429_close(&stacked); break;
     case 5: dc429_check(tables, tables_length, certificate, certificate_length, &fault); break;
+    case 6: dc429_find(tables, tables_length, name, sizeof name, &number, &fault); break;
     default: break;
     }
     return NULL;
@@ -346,7 +370,7 @@ static size_t stack_of(uintptr_t what) {
 
 static int stack(void) {
     size_t own = stack_of(0);
-    for (uintptr_t what = 1; what < 6; what++)
+    for (uintptr_t what = 1; what < 7; what++)
         printf("%s %zu\n", STACKED[what], stack_of(what) - own);
     return 0;
 }

@@ -1,5 +1,5 @@
 """include/dc429.h beside the crates: a C file that declares each export again and asserts the place, the type and the numbers of each
-member, as the sources of dc_embed and dc_engine have them. A C compiler refuses it where the header says otherwise.
+member, as the sources of dc_embed, dc_engine and dc_texts have them. A C compiler refuses it where the header says otherwise.
 """
 import re
 from pathlib import Path
@@ -19,12 +19,13 @@ CASES = [
     (r"(\d+) => Some\(Format::(\w+)\)", ""),
     (r"\bStatus::(\w+) => (\d+)", ""),
     (r"(?s)OpenFault::(\w+)(?:\(\w+\))? =>(?:(?!OpenFault::).)*?kind: (\d+)", "FAULT_"),
+    (r"(?s)fn (obstruct)ed\(.*?kind: (\d+)", "FAULT_"),
     (r"Section::(\w+) => (\d+)", "TABLES_"),
     (r"CertificateList::(\w+) => (\d+)", "CERTIFICATE_"),
     (r"TextPlace::(\w+)(?:\(\w+\))? => \((\d+)", "CERTIFICATE_"),
 ]
 OTHER_NAMES = {"FAULT_MEMORY": "MEMORY", "FAULT_TABLES": "UNREADABLE_TABLES", "FAULT_CERTIFICATE": "UNREADABLE_CERTIFICATE",
-               "FAULT_REFUSED": "REFUSED_CERTIFICATE"}
+               "FAULT_REFUSED": "REFUSED_CERTIFICATE", "FAULT_OBSTRUCT": "NO_CERTIFICATE"}
 # Cases that no call answers, and names of the header that are no case of the crates.
 NEVER, OWN = {"OWED_WIRE", "OWED_CLOCK"}, {"NOTHING", "NO_FAULT", "OK", "REFUSED", "IS_CLOSED"}
 # Headers that say something else than the crates: each must be refused.
@@ -42,7 +43,7 @@ CHANGES = [
 
 def sources():
     """The text of the crates' sources, without comments."""
-    files = [path for crate in ("dc_engine", "dc_embed") for path in sorted((ROOT / f"crates/{crate}/src").glob("*.rt"))]
+    files = [path for crate in ("dc_engine", "dc_texts", "dc_embed") for path in sorted((ROOT / f"crates/{crate}/src").glob("*.rt"))]
     return re.sub(r"//[^\n]*", "", "\n".join(path.read_text() for path in files))
 
 

@@ -12,7 +12,7 @@ package Dc429 is
 
    --  Why tables or a certificate are not accepted.
    type Fault is record
-      Kind   : Unsigned_32;   --  'M', 'T', 'K' or 'C' as a number; 0: no fault
+      Kind   : Unsigned_32;   --  'M', 'T', 'K', 'C' or 'F' as a number; 0: no fault
       Code   : Unsigned_32;
       Place  : Unsigned_32;
       Window : Unsigned_32;
@@ -101,6 +101,15 @@ package Dc429 is
       Certificate_Length : size_t;
       Why                : out Fault) return C_bool
    with Import, Convention => C, External_Name => "dc429_check";
+
+   function Find
+     (Tables        : System.Address;
+      Tables_Length : size_t;
+      Text          : System.Address;
+      Room          : size_t;
+      Length        : out size_t;
+      Why           : out Fault) return C_bool
+   with Import, Convention => C, External_Name => "dc429_find";
 
    procedure Close (E : in out Engine)
    with Import, Convention => C, External_Name => "dc429_close";

@@ -18,7 +18,8 @@ from enum import IntEnum
 from pathlib import Path
 from typing import NamedTuple
 
-__all__ = ["Engine", "Fault", "Fields", "Format", "Kind", "List", "NotOpened", "Refused", "Reply", "WordStatus", "check", "decode"]
+__all__ = ["Engine", "Fault", "Fields", "Format", "Kind", "List", "NotFound", "NotOpened", "Refused", "Reply", "WordStatus", "check",
+           "decode", "find"]
 
 
 # ---- what the header has
@@ -100,6 +101,7 @@ _AT, _TEXT, _SIZE, _U32 = ctypes.POINTER, ctypes.c_char_p, ctypes.c_size_t, ctyp
 _CALLS = {
     "open": ([_AT(_Engine), _TEXT, _SIZE, _TEXT, _SIZE, _AT(_Fault)], ctypes.c_bool),
     "check": ([_TEXT, _SIZE, _TEXT, _SIZE, _AT(_Fault)], ctypes.c_bool),
+    "find": ([_TEXT, _SIZE, _TEXT, _SIZE, _AT(_SIZE), _AT(_Fault)], ctypes.c_bool),
     "close": ([_AT(_Engine)], None),
     "arrive": ([_AT(_Engine), _SIZE, _U32, _AT(_Reply)], _U32),
     "route": ([_AT(_Engine), _SIZE, _AT(_Reply)], _U32),
@@ -131,7 +133,7 @@ _LIB = _library()
 
 
 class Fault(NamedTuple):
-    """Why tables or a certificate are not accepted: the letter M, T, K or C, and what dc429_fault has of it."""
+    """Why tables or a certificate are not accepted, or none is found: the letter M, T, K, C or F, and what dc429_fault has of it."""
 
     kind: str
     code: int
@@ -140,7 +142,7 @@ class Fault(NamedTuple):
     index: int
 
     def __str__(self):
-        return {"M": "memory", "T": f"T{self.code:02}", "K": f"K{self.code}", "C": f"C{self.code:02}"}[self.kind]
+        return "memory" if self.kind == "M" else f"{self.kind}{self.code:02}" if self.kind in "TC" else f"{self.kind}{self.code}"
 
 
 class Reply(NamedTuple):
@@ -177,6 +179,14 @@ class NotOpened(ValueError):
         self.fault = fault
 
 
+class NotFound(ValueError):
+    """No certificate is accepted for the tables, or they are not: `fault` says why."""
+
+    def __init__(self, fault):
+        super().__init__(str(fault))
+        self.fault = fault
+
+
 class Refused(Exception):
     """An event that may not follow those before it: `reply` says why. The engine is as it was."""
 
@@ -194,6 +204,18 @@ def check(tables, certificate):
     fault = _Fault()
     accepted = _LIB.dc429_check(tables, len(tables), certificate, len(certificate), fault)
     return None if accepted else _fault_of(fault)
+
+
+def find(tables):
+    """The least certificate of tables, both bytes."""
+    fault, length, room = _Fault(), ctypes.c_size_t(), 65536
+    while True:
+        text = ctypes.create_string_buffer(room)
+        if not _LIB.dc429_find(tables, len(tables), text, room, length, fault):
+            raise NotFound(_fault_of(fault))
+        if length.value <= room:
+            return text.raw[:length.value]
+        room = length.value
 
 
 def decode(word, format):
