@@ -81,7 +81,11 @@ capture_long t room number latest line b rest plain (inl h) = elim (eqb_tells b 
 ]
 
 -- a reader that begins has the capture of the whole text ahead
-pub ahead_at_start : (known t : TableRows) (limit : ℕ) (line : List ℕ) (held : Held) → known ≡ t → line ≡ [] → held.bytes ≡ [] → held.room ≡ limit → (text : List ℕ)
-    → (let r : Reading = record { tables = known; line = line; held = held.bytes; room = held.room; number = 1; latest = 0; stopped = None } in ahead r (Some text)) ≡ Some (capture_of t limit text)
+pub ahead_at_start : (known t : TableRows) (limit from : ℕ) (line : List ℕ) (held : Held) → known ≡ t → line ≡ [] → held.bytes ≡ [] → held.room ≡ limit → (text : List ℕ)
+    → (let r : Reading = record { tables = known; line = line; held = held.bytes; room = held.room; number = 1; latest = from; stopped = None } in ahead r (Some text)) ≡ Some (capture_from t limit 1 from text)
+ahead_at_start known t limit from line held same no_line none whole text = rw (same, no_line, none, whole, add-zero) refl
+
+-- where each time may be first
+pub from_any : (t : TableRows) (limit : ℕ) (text : List ℕ) → capture_from t limit 1 0 text ≡ capture_of t limit text
 unfolding capture_of
-ahead_at_start known t limit line held same no_line none whole text = rw (same, no_line, none, whole, add-zero) refl
+from_any t limit text = refl

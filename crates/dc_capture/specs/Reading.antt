@@ -25,9 +25,13 @@ pub record Reading : Type 0 where
   pub latest : ℕ
   pub stopped : Option CaptureStop
 
--- nothing read yet of a text of at most so many bytes
+-- nothing read yet of a text of at most so many bytes, in which a time before this one falls
+abbrev pub at_start_from : TableRows → (limit from : ℕ) → Reading
+at_start_from t limit from = record { tables = t; line = []; held = []; room = limit; number = 1; latest = from; stopped = None }
+
+-- the same where each time may be first
 abbrev pub at_start : TableRows → ℕ → Reading
-at_start t limit = record { tables = t; line = []; held = []; room = limit; number = 1; latest = 0; stopped = None }
+at_start t limit = at_start_from t limit 0
 
 -- what holds between the parts of a reader that has not stopped: the running line has no line feed yet, and its number can be counted on
 abbrev pub Fits : Option CaptureStop → List ℕ → ℕ → ℕ → Type 0

@@ -5,7 +5,7 @@ ghost use Rattle.dc_device.specs.States.{IsCountable};
 ghost use Rattle.dc_capture.specs.Ahead.{HoldsWord};
 ghost use Rattle.dc_capture.specs.CaptureText.{capture_of};
 ghost use Rattle.dc_capture.specs.Reading.{AsksFor, IsNext, IsOfLine, NeedsMore, ReadsNext, Stays, StopsBehind, Tells};
-ghost use Rattle.dc_capture.specs.Reading.{ahead, at_start, failures_at, stop_behind, stop_of};
+ghost use Rattle.dc_capture.specs.Reading.{ahead, at_start, at_start_from, capture_from, failures_at, stop_behind, stop_of};
 
 use crate::ahead::word_ahead;
 use crate::buses::KnownBuses;
@@ -137,6 +137,15 @@ impl<'t> CaptureLines<'t> {
         ensures start { result ≡ at_start tables.now limit }
         ensures whole { (text : List ℕ) → ahead result (Some text) ≡ Some (capture_of tables.now limit text) }
     {
+        CaptureLines::since(tables, limit, 0)
+    }
+
+    /// Nothing is read yet of a text of at most `limit` bytes, in which a time before `from` is one that falls.
+    pub fn since(tables: &'t Tables, limit: u64, from: u64) -> Self
+        requires { limit + 1 < 2 ^ 64 }
+        ensures start { result ≡ at_start_from tables.now limit from }
+        ensures whole { (text : List ℕ) → ahead result (Some text) ≡ Some (capture_from tables.now limit 1 from text) }
+    {
         let buses = KnownBuses::of(tables);
         let reader = LineReader::new(limit);
         let line = Line::new();
@@ -145,7 +154,7 @@ impl<'t> CaptureLines<'t> {
             reader,
             line,
             number: 1,
-            latest: 0,
+            latest: from,
             stopped: None,
         }
     }

@@ -1,6 +1,6 @@
-use Rattle.dc_capture.proofs.CaptureAnswers.{ahead_at_start}
+use Rattle.std.proofs.Common.{◌∙◌, ap, Some}
+use Rattle.dc_capture.proofs.CaptureAnswers.{from_any}
 use Rattle.dc_capture.proofs.capture_lines.CaptureLines.new.Goals as goal
 
 pub returns-clause-whole : goal.returns-clause-whole
-returns-clause-whole c = λ text.
-    ahead_at_start c.of-buses.result c.args.tables.now c.args.limit c.new-line.result.items c.new-reader.result c.of-buses.ensures c.new-line.ensures c.new-reader.ensures.bytes c.new-reader.ensures.room text
+returns-clause-whole c = λ text. c.since.ensures.whole text ∙ ap (λ x. Some x) (from_any c.args.tables.now c.args.limit text)
