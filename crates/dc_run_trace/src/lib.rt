@@ -1,0 +1,8 @@
+//! The engine of `trace`: the run that a capture makes, as the text of a trace.
+#![tactic(auto)]
+
+mod clock;
+mod engine;
+mod texts;
+
+pub use engine::run_trace;
