@@ -5,11 +5,15 @@
 mod notes;
 mod origin;
 mod passed;
+mod progress;
 mod reader;
+mod watched;
 mod writer;
 
 pub use notes::{Kept, Notes, Slot};
 pub use origin::Origin;
 pub use passed::Passed;
+pub use progress::Progress;
 pub use reader::Noted;
+pub use watched::{Cleared, Watched};
 pub use writer::Written;

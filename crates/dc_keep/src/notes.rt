@@ -1,5 +1,6 @@
 //! What is kept of texts.
 use crate::passed::Passed;
+use crate::progress::Progress;
 use std::alloc::{AllocError, Global};
 use std::cell::{Cell, RefCell};
 use std::io::Error;
@@ -140,6 +141,8 @@ pub struct Notes {
     pub input: Slot,
     /// What is written.
     pub output: Slot,
+    /// How far standard input was read, where it is read as a stream.
+    pub progress: Progress,
 }
 
 impl Notes {
@@ -150,6 +153,7 @@ impl Notes {
             second: Slot::new(alloc, MOST_OF_FILE),
             input: Slot::new(alloc, MOST_OF_STREAM),
             output: Slot::new(alloc, MOST_OF_OUTPUT),
+            progress: Progress::new(),
         }
     }
 
