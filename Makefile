@@ -61,12 +61,10 @@ deb:
 test:
 	@$(RT) ci
 
-# The built program on the rows of rows/, on texts by chance and of the largest sizes, at its edges, under refused memory and
-# failing devices, and the library for C beside it: some minutes, no proof where the library is built.
-trials: $(addprefix try-,rows explained chance timed crowds largest audits edges hostile pages refused embed)
-
-# The tutorial as its reader goes through it; what is installed and packed, in a folder of its own.
-trials: try-tutorial try-installed
+# The built program on the rows of rows/, on texts and captures by chance and of the largest sizes, on the commands of
+# docs/recordings.md and of the tutorial, at its edges, under refused memory and failing devices; the library for C beside it; what
+# is installed and packed, in a folder of its own: some minutes, no proof where the library is built.
+trials: $(addprefix try-,rows explained chance timed recordings recorded crowds largest audits edges hostile pages refused embed tutorial installed)
 
 try-%:
 	@scripts/$*
