@@ -3,7 +3,7 @@ ghost use Rattle.std.specs.Prelude.{◌≡◌, ◌∷◌, ◌++◌, ◌<◌, ◌
 ghost use Rattle.dc_bound.specs.Window.{ticks_of};
 ghost use Rattle.dc_gauge.specs.Times.{last_time};
 ghost use Rattle.dc_gauge.specs.Steps.{no_stream_words};
-ghost use Rattle.dc_survey.specs.States.{IsPaceState, IsWireState};
+ghost use Rattle.dc_survey.specs.States.{IsPaceState, IsWireState, pace_state_of, wire_state_of};
 ghost use Rattle.dc_survey.specs.Surveys.{no_bus_words, no_timing, AllMade};
 ghost use Rattle.dc_tables.specs.TableRows.{TableRows};
 
@@ -119,7 +119,8 @@ impl Survey {
     pub fn wire(&self, tables: &Tables, bus: usize) -> WireState
         requires sized { IsSized tables.now self.now }
         requires there { bus < length tables.now.buses }
-        ensures { (capture : List (ℕ × (ℕ × ℕ))) → Surveys tables.now capture self.now → IsWireState tables.now bus capture result }
+        ensures state { result ≡ wire_state_of tables.now self.now bus }
+        ensures capture { (capture : List (ℕ × (ℕ × ℕ))) → Surveys tables.now capture self.now → IsWireState tables.now bus capture result }
     {
         if tables.bus(bus).police {
             return WireState::Policed;
@@ -133,7 +134,8 @@ impl Survey {
     /// How the words of a stream kept its minimum, with its jitter.
     pub fn pace(&self, stream: usize) -> PaceState
         requires { stream < length self.now.streams.items }
-        ensures { (t : TableRows) (capture : List (ℕ × (ℕ × ℕ))) → stream < length t.streams → Surveys t capture self.now
+        ensures state { result ≡ pace_state_of self.now stream }
+        ensures capture { (t : TableRows) (capture : List (ℕ × (ℕ × ℕ))) → stream < length t.streams → Surveys t capture self.now
             → IsPaceState t stream (timing_of self.now stream) capture result }
     {
         let gauge = self.stream(stream);
