@@ -1,6 +1,6 @@
 //! What a document declares in its own microseconds, row by row.
 
-ghost use Rattle.std.specs.Prelude.{◌≡◌, ◌<◌, length, slice_get};
+ghost use Rattle.std.specs.Prelude.{◌≡◌, ◌<◌, ◌^◌, length, slice_get};
 ghost use Rattle.std.specs.Option.{option_map_or};
 ghost use Rattle.dc_dict.specs.Rows.{row_of};
 ghost use Rattle.dc_in_time.specs.Documents.{intervals_of, stream_parameter, label_parameter};
@@ -27,13 +27,14 @@ pub fn declared_source(written: &WrittenTables, stream: usize) -> SourceInterval
     ensures least { result.least ≡ (intervals_of written.now.parts written.now.tables).stream_least stream }
     ensures most { result.most ≡ (intervals_of written.now.parts written.now.tables).stream_most stream }
     ensures jitter { result.jitter ≡ (intervals_of written.now.parts written.now.tables).stream_jitter stream }
+    ensures small { (result.least < 2 ^ 32) × (result.most < 2 ^ 32) × (result.jitter < 2 ^ 32) }
 {
     let parts = written.parts();
     let SentIntervals { least, most } = interval_of(stream_parameter(parts, stream));
     SourceIntervals {
         least,
         most,
-        jitter: jitter_of(parts, stream),
+        jitter: u64::from(jitter_of(parts, stream)),
     }
 }
 
@@ -81,6 +82,7 @@ fn parameter_of(parameters: &[Parameter], label: Label, equipment: Equipment) ->
 fn interval_of(parameter: Option<Parameter>) -> SentIntervals
     ensures least { result.least ≡ option_map_or (λ p. p.min_us) parameter 0 }
     ensures most { result.most ≡ option_map_or (λ p. p.max_us) parameter 0 }
+    ensures small { (result.least < 2 ^ 32) × (result.most < 2 ^ 32) }
 {
     match parameter {
         Some(row) => SentIntervals {
@@ -92,11 +94,11 @@ fn interval_of(parameter: Option<Parameter>) -> SentIntervals
 }
 
 /// The jitter of a stream.
-fn jitter_of(parts: &Parts, stream: usize) -> u64
+fn jitter_of(parts: &Parts, stream: usize) -> u32
     ensures { result ≡ option_map_or (λ row. row.jitter_us) (slice_get parts.now.streams stream) 0 }
 {
     match parts.streams().get(stream) {
-        Some(row) => u64::from(row.jitter_us),
+        Some(row) => row.jitter_us,
         None => 0,
     }
 }
