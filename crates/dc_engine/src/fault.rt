@@ -20,17 +20,18 @@ pub enum OpenFault {
     Refused(CheckFault),
 }
 
-/// Why an engine is not opened, as numbers.
+/// Why an engine is not opened, or something else is not answered, as numbers.
 #[repr(C)]
 #[derive(Clone, Copy, Debug, PartialEq, Eq)]
 pub struct Report {
-    /// `M` for memory, `T` for the tables, `K` for the certificate's text, `C` for a condition that fails.
+    /// `M` for memory, `T` for the tables, `K` for the certificate's text, `C` for a condition that fails, `F` for what
+    /// stands in the way of every certificate.
     pub kind: u32,
     /// The number behind that letter.
     pub code: u32,
-    /// `T`: the kind of table, 0 for the top; `K` and `C`: the list, 1 to 3 for inputs, outputs and labels.
+    /// `T`: the kind of table, 0 for the top; `K`, `C` and `F`: the list, 1 to 3 for inputs, outputs and labels.
     pub place: u32,
-    /// `C`: the first number of ticks that fails, where there is one.
+    /// `C`: the first number of ticks that fails, where there is one. `F` of a label: the number of the condition.
     pub window: u32,
     /// The number in the list, from 0.
     pub index: usize,
