@@ -25,6 +25,10 @@ pub enum Kind {
     Audit,
     /// A line of `bench`.
     Bench,
+    /// A fault of a capture.
+    Capture,
+    /// A word of a line of `survey`.
+    Survey,
 }
 
 impl Kind {
@@ -42,19 +46,25 @@ impl Kind {
             Kind::Step => "a step that may not follow those before it",
             Kind::Audit => "a line of `audit`",
             Kind::Bench => "a line of `bench`",
+            Kind::Capture => "a fault of a capture",
+            Kind::Survey => "a word of a line of `survey`",
         }
     }
 
     /// What its meaning begins with.
     pub fn heading(self) -> &'static str {
         match self {
-            Kind::Decoded | Kind::Table | Kind::Certificate | Kind::Finder | Kind::Trace => {
-                "Refused where: "
-            }
+            Kind::Decoded
+            | Kind::Table
+            | Kind::Certificate
+            | Kind::Finder
+            | Kind::Trace
+            | Kind::Capture => { "Refused where: " }
             Kind::Condition => {
                 "Refused where (`a` is the most that may come, `s` the least that is surely taken, in so many ticks): "
             }
-            Kind::Failure | Kind::Reply | Kind::Step | Kind::Audit | Kind::Bench => "Means: ",
+            Kind::Failure | Kind::Reply | Kind::Step | Kind::Audit | Kind::Bench | Kind::Survey =>
+                "Means: ",
         }
     }
 
@@ -69,6 +79,7 @@ impl Kind {
             Kind::Trace | Kind::Reply | Kind::Step | Kind::Audit => {
                 "For example, a trace for examples/small.toml: "
             }
+            Kind::Capture | Kind::Survey => "For example, a capture for examples/small.toml: ",
         }
     }
 }

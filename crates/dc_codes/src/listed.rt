@@ -4,7 +4,7 @@ ghost use Rattle.dc_codes.specs.Codes.{listed, listed_once, names};
 
 use crate::kind::Kind;
 
-static LISTED: [(Kind, &str); 75] = [
+static LISTED: [(Kind, &str); 85] = [
     (Kind::Decoded, "E1"),
     (Kind::Decoded, "E6"),
     (Kind::Decoded, "E5"),
@@ -80,6 +80,16 @@ static LISTED: [(Kind, &str); 75] = [
     (Kind::Audit, "sources"),
     (Kind::Audit, "claim"),
     (Kind::Bench, "hub"),
+    (Kind::Capture, "E1"),
+    (Kind::Capture, "E6"),
+    (Kind::Capture, "E3"),
+    (Kind::Capture, "E7"),
+    (Kind::Capture, "E4"),
+    (Kind::Capture, "E5"),
+    (Kind::Capture, "E8"),
+    (Kind::Survey, "broken"),
+    (Kind::Survey, "early"),
+    (Kind::Survey, "silent"),
 ];
 
 /// The codes that the program prints, in the order of docs/formats.md.

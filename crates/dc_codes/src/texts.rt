@@ -17,6 +17,8 @@ pub(crate) fn texts_of(kind: Kind) -> &'static str {
         Kind::Step => STEP,
         Kind::Audit => AUDIT,
         Kind::Bench => BENCH,
+        Kind::Capture => CAPTURE,
+        Kind::Survey => SURVEY,
     }
 }
 
@@ -416,3 +418,57 @@ hub
 with status 1, only where a step was refused, a seat's steps were not its actor's own, or a book of the hub did not close
 none: the tests never see it
 report it as a fault of the program, with the tables and the certificate";
+
+/// Of the faults of a capture.
+const CAPTURE: &str = "\
+E1
+the line has over 64 bytes, its line feed not counted, or the capture over 2^63 - 1
+65 letters `A`: E1 at line 1
+one word a line
+
+E6
+the input ends inside a line that has at least one byte
+`1000 A 600000C1` without a line feed: E6 at line 1
+end the last line with a line feed
+
+E3
+the line has not three fields (an empty line too)
+`1000 A`: E3 at line 1
+`<microseconds> <bus> <word>`, with one space between fields and none at the end; no heading, no comments
+
+E7
+the first field is no time: not decimal digits alone, or over 2^53
+`1000.5 A 600000C1`: E7 at line 1
+write whole microseconds, 0 to 9,007,199,254,740,992, in digits alone: no sign, no point, no exponent
+
+E4
+the second field is the name of no bus of the tables
+`1000 B 600000C1`: E4 at line 1
+the name of a bus as in the tables
+
+E5
+the third field is not eight hexadecimal digits
+`1000 A 600000C`: E5 at line 1
+write the word as eight hexadecimal digits and nothing else: no `0x`, no carriage return
+
+E8
+the time is less than that of the line before
+`1000 A 600000C1`, `999 A E0000021`: E8 at line 2
+sort the lines by their times, as `sort -s -n` does";
+
+/// Of the words of a line of `survey`.
+const SURVEY: &str = "\
+broken
+the word at this line came less than the spacing of its wire after the one before it, 350 microseconds at high speed and 2,450 at low: the first one that did. The survey ends with status 1
+`0 A 600000C1`, `349 A E0000021`: `bus A words 2 parity 0 undeclared 0 spacing 349 broken at 2`
+look at the grain of the times first: an analyser that stamps whole milliseconds breaks each wire. Else mend the source, or the `speed`, or let the bus refuse such words (`police = true`), and judge a certificate for these tables
+
+early
+the word at this line came sooner than the `min_us` and the `jitter_us` of its stream let it, counted with all words of the stream before it: the first one that did. Where the bus is not policed the survey ends with status 1
+`0 A 600000C1`, `9000 A 600000C1`: `stream A-203 words 2 least 9000 greatest 9000 jitter 1000 over 0 early at 2`
+mend the source, or declare the jitter of this line, or a little more, as `jitter_us`, or a smaller `min_us`, and judge a certificate for these tables
+
+silent
+no word of the stream came
+an empty capture: `stream A-203 words 0 least - greatest - jitter 0 over 0 silent`
+nothing, where the source was off; else look at the words that are `undeclared` on its bus: the label or SDI of the stream may be another one";

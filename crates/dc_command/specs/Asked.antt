@@ -10,7 +10,7 @@ use Rattle.dc_word.specs.declared.format.Format.{Format}
 use Rattle.dc_word.specs.declared.format.Format.TheVariants.{Bnr, Bcd, Disc}
 use Rattle.dc_command.specs.Program.{program_app}
 use Rattle.dc_command.specs.declared.asked.Order.{Order}
-use Rattle.dc_command.specs.declared.asked.Order.TheVariants.{Decode, Check, Find, Report, Margins, Replay, Audit, Bench, Explain}
+use Rattle.dc_command.specs.declared.asked.Order.TheVariants.{Decode, Check, Find, Report, Margins, Survey, Replay, Audit, Bench, Explain}
 use Rattle.dc_command.specs.declared.explained.When.{When}
 use Rattle.dc_command.specs.declared.explained.When.TheVariants.{Always, Never, Auto}
 use Rattle.dc_command.specs.declared.limits.TheConstants.{MOST_DRIFT, MOST_TICKS, MOST_WORKERS, USUAL_TICKS}
@@ -84,6 +84,7 @@ AsksBy name rows (Report tables certificate drift) =
 AsksBy name rows (Margins tables certificate microseconds drift) =
     (name ≡ codes "margins") × (first_of (codes "TABLES") rows ≡ Some tables.now) × (option_map (λ s. s.now) certificate ≡ first_of (codes "CERT") rows)
     × IsSet (one_of (codes "us") rows) microseconds × DriftIs (first_of (codes "drift") rows) drift
+AsksBy name rows (Survey tables) = (name ≡ codes "survey") × (first_of (codes "TABLES") rows ≡ Some tables.now)
 AsksBy name rows (Replay tables all) =
     (name ≡ codes "replay") × (first_of (codes "TABLES") rows ≡ Some tables.now) × IsSet (one_of (codes "all") rows) all
 AsksBy name rows (Audit tables certificate) =

@@ -1,7 +1,7 @@
 -- Which orders read standard input once at most.
 use Rattle.std.specs.Prelude.{◌≡◌, ℕ, List, Some, codes}
 use Rattle.dc_command.specs.declared.asked.Order.{Order}
-use Rattle.dc_command.specs.declared.asked.Order.TheVariants.{Check, Report, Margins, Replay, Audit, Bench}
+use Rattle.dc_command.specs.declared.asked.Order.TheVariants.{Check, Report, Margins, Survey, Replay, Audit, Bench}
 
 -- the path names a file, and not standard input
 abbrev pub IsNotInput : List ℕ → Type 0
@@ -11,11 +11,12 @@ IsNotInput path = path ≡ codes "-" → ⊥
 abbrev pub AreNotBothInput : List ℕ → List ℕ → Type 0
 AreNotBothInput tables certificate = tables ≡ codes "-" → IsNotInput certificate
 
--- The order names standard input at most once, and not where it reads its trace there.
+-- The order names standard input at most once, and not where it reads its trace or its capture there.
 abbrev pub HasOneInput : Order → Type 0
 HasOneInput (Check tables certificate workers) = AreNotBothInput tables.now certificate.now
 HasOneInput (Report tables (Some certificate) drift) = AreNotBothInput tables.now certificate.now
 HasOneInput (Margins tables (Some certificate) microseconds drift) = AreNotBothInput tables.now certificate.now
+HasOneInput (Survey tables) = IsNotInput tables.now
 HasOneInput (Replay tables all) = IsNotInput tables.now
 HasOneInput (Audit tables certificate) = IsNotInput tables.now × IsNotInput certificate.now
 HasOneInput (Bench tables certificate ticks marks) = AreNotBothInput tables.now certificate.now

@@ -112,8 +112,8 @@ bare_app = on_top (λ s. record s { has_version = true; subcommand_required = tr
 -- the program, whose formats are read by this parser
 abbrev pub program_app : ValueParser → App
 program_app formats =
-    with_subcommand (with_subcommand (with_subcommand (with_subcommand (with_subcommand (with_subcommand (with_subcommand (with_subcommand (with_subcommand
-    bare_app (decode_app formats).top) check_app.top) (tables_app (codes "find")).top) replay_app.top) (certificate_app (codes "audit")).top) bench_app.top)
+    with_subcommand (with_subcommand (with_subcommand (with_subcommand (with_subcommand (with_subcommand (with_subcommand (with_subcommand (with_subcommand (with_subcommand
+    bare_app (decode_app formats).top) check_app.top) (tables_app (codes "find")).top) (tables_app (codes "survey")).top) replay_app.top) (certificate_app (codes "audit")).top) bench_app.top)
     report_app.top) margins_app.top) explain_app.top
 
 -- clap reads this of a command, none of whose arguments is global

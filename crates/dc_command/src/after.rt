@@ -55,6 +55,17 @@ Exit status:
   2  a text that can't be read, or a wrong command line
   3  a file, a device or memory was not to be had";
 
+/// Behind the options of `survey`.
+pub(crate) const AFTER_SURVEY: &str = "Example: dc429 survey tables.toml < bus.capture
+
+The capture comes from standard input, the tables from a file.
+
+Exit status:
+  0  each wire and each stream that is not policed is kept, or silent
+  1  one of them is broken or early
+  2  a text that can't be read, or a wrong command line
+  3  a file, a device or memory was not to be had";
+
 /// Behind the options of `replay`.
 pub(crate) const AFTER_REPLAY: &str = "Example: dc429 replay tables.toml < run.trace
 

@@ -54,6 +54,11 @@ pub enum Order<'a> {
         /// The drift of clocks, in millionths, 0 to [`MOST_DRIFT`](crate::MOST_DRIFT), where one is said.
         drift: Option<u16>,
     },
+    /// Survey the capture on standard input for the tables in a file.
+    Survey {
+        /// The path of the tables.
+        tables: &'a str,
+    },
     /// Replay the trace on standard input through the concentrator of the tables in a file.
     Replay {
         /// The path of the tables.
@@ -238,6 +243,14 @@ fn margins_in<'a>(matches: &ArgMatches<'a>) -> Option<Order<'a>>
     }
 }
 
+/// What the matches of `survey` ask.
+fn survey_in<'a>(matches: &ArgMatches<'a>) -> Option<Order<'a>>
+    ensures { IfSome result (AsksBy (codes "survey") (rows_of (found_of matches.now))) }
+{
+    let tables = matches.get_str("TABLES")?;
+    Some(Order::Survey { tables })
+}
+
 /// What the matches of `replay` ask.
 fn replay_in<'a>(matches: &ArgMatches<'a>) -> Option<Order<'a>>
     ensures { IfSome result (AsksBy (codes "replay") (rows_of (found_of matches.now))) }
@@ -310,6 +323,7 @@ fn order_by<'a>(name: &str, matches: &ArgMatches<'a>) -> Option<Order<'a>>
         "find" => find_in(matches),
         "report" => report_in(matches),
         "margins" => margins_in(matches),
+        "survey" => survey_in(matches),
         "replay" => replay_in(matches),
         "audit" => audit_in(matches),
         "bench" => bench_in(matches),

@@ -11,6 +11,8 @@ const BOTH: &str = "standard input can be one of the two files, not both";
 
 const REPLAYED: &str = "replay reads its trace from standard input: name its tables by a file";
 
+const SURVEYED: &str = "survey reads its capture from standard input: name its tables by a file";
+
 const AUDITED: &str =
     "audit reads its trace from standard input: name its tables and its certificate by files";
 
@@ -63,6 +65,7 @@ pub(crate) fn refuse_second_input(order: &Order<'_>) -> Result<(), &'static str>
             Some(certificate) => refuse_both(tables, certificate),
             None => Ok(()),
         },
+        Order::Survey { tables } => refuse_input(tables, SURVEYED),
         Order::Replay { tables, .. } => refuse_input(tables, REPLAYED),
         Order::Audit {
             tables,

@@ -5,7 +5,7 @@ ghost use Rattle.dc_command.specs.Program.{IsDecode, IsProgram, IsRead, bare_app
 
 use crate::after::{
     AFTER_AUDIT, AFTER_BENCH, AFTER_CHECK, AFTER_DECODE, AFTER_EXPLAIN, AFTER_FIND, AFTER_MARGINS,
-    AFTER_REPLAY, AFTER_REPORT,
+    AFTER_REPLAY, AFTER_REPORT, AFTER_SURVEY,
 };
 use crate::limits::{MOST_DRIFT, MOST_TICKS, MOST_WORKERS};
 use clap::{Arg, ArgAction, Command, Error, value_parser};
@@ -187,6 +187,18 @@ fn margins<'a>(alloc: Global) -> Result<Command<'a>, Error>
     Ok(margins.arg(us)?.arg(drift(alloc))?)
 }
 
+/// The command `survey`.
+fn survey<'a>(alloc: Global) -> Result<Command<'a>, Error>
+    ensures { IfOk result (IsRead (tables_app (codes "survey"))) }
+{
+    on_tables(
+        alloc,
+        "survey",
+        "Surveys the capture on standard input: what each bus and each stream of the tables kept",
+        AFTER_SURVEY,
+    )
+}
+
 /// The command `replay`.
 fn replay<'a>(alloc: Global) -> Result<Command<'a>, Error>
     ensures { IfOk result (IsRead replay_app) }
@@ -285,6 +297,7 @@ pub fn program<'a>(alloc: Global) -> Result<Command<'a>, Error>
             .subcommand(decode(alloc)?)?
             .subcommand(check(alloc)?)?
             .subcommand(find(alloc)?)?
+            .subcommand(survey(alloc)?)?
             .subcommand(replay(alloc)?)?
             .subcommand(audit(alloc)?)?
             .subcommand(bench(alloc)?)?

@@ -1,5 +1,6 @@
 //! Lines of standard input: those that can't be read, and events that were refused.
 use crate::audits::tell_failing;
+use crate::capture::tell_captured;
 use crate::lines::{Line, line_of};
 use crate::output::Answer;
 use crate::plain::explain_plainly;
@@ -41,6 +42,10 @@ pub(crate) fn explain_line(
     out.begin(code);
     if kind == Kind::Decoded {
         tell_word(&mut out, code, line);
+        return out.finish();
+    }
+    if kind == Kind::Capture {
+        tell_captured(&mut out, code, line);
         return out.finish();
     }
     let Ok(tables) = read_tables(alloc, ran.first.text.as_slice()) else {

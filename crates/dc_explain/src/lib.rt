@@ -4,6 +4,7 @@
 #![tactic(auto)]
 
 mod audits;
+mod capture;
 mod devices;
 mod faults;
 mod judged;

@@ -38,7 +38,7 @@ fn answer_in(line: &str) -> Answer<'_> {
 }
 
 /// Whether a line holds a piece.
-fn holds(line: &[u8], piece: &[u8]) -> bool {
+pub(crate) fn holds(line: &[u8], piece: &[u8]) -> bool {
     for (at, _) in line.iter().enumerate() {
         if line.get(at..).unwrap_or(b"").starts_with(piece) {
             return true;

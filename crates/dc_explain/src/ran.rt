@@ -1,4 +1,5 @@
 //! A run that has ended, and what there is to say of its end.
+use crate::capture::explain_surveyed;
 use crate::devices::explain_failure;
 use crate::faults::explain_line;
 use crate::judged::{explain_refused, explain_unread};
@@ -46,7 +47,8 @@ impl<'a> Ran<'a> {
     pub(crate) fn names(&self) -> (&'a str, &'a str) {
         match self.order {
             Order::Decode(_) | Order::Explain { .. } => ("", ""),
-            Order::Find { tables, .. } | Order::Replay { tables, .. } => (told(tables), ""),
+            Order::Find { tables, .. } | Order::Survey { tables } | Order::Replay { tables, .. } =>
+                (told(tables), ""),
             Order::Report {
                 tables,
                 certificate,
@@ -106,6 +108,7 @@ fn explain_text(alloc: Global, ran: &Ran<'_>, answer: Answer<'_>) -> Option<Stri
     }
     let kind = match ran.order {
         Order::Decode(_) => Kind::Decoded,
+        Order::Survey { .. } => Kind::Capture,
         _ => Kind::Trace,
     };
     explain_line(alloc, ran, answer, kind)
@@ -113,6 +116,9 @@ fn explain_text(alloc: Global, ran: &Ran<'_>, answer: Answer<'_>) -> Option<Stri
 
 /// Explains what was judged and refused.
 fn explain_judged(alloc: Global, ran: &Ran<'_>, answer: Answer<'_>) -> Option<String> {
+    if let Order::Survey { .. } = ran.order {
+        return explain_surveyed(alloc, ran);
+    }
     match answer.code {
         "spent" | "early" | "owed" => explain_line(alloc, ran, answer, Kind::Step),
         "ticks" => explain_plainly(alloc, Kind::Step, answer.code),

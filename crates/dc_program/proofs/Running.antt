@@ -41,6 +41,12 @@ text_and_input P s text more same h rows trace e f =
     let here = subst (λ (x : SourceState). IfSome x.remaining (λ rows. IfSome more (λ trace. P rows trace x.failed))) same h in
     one_input (λ trace. P rows trace 0) more (one_input (λ rows. IfSome more (λ trace. P rows trace 0)) text here rows e) trace f
 
+pub text_then_input : (P : List ℕ → List ℕ → ℕ → Type 0) (s : SourceState) (text more : Option (List ℕ)) (a : ℕ) → s ≡ new_source text
+    → ((rows capture : List ℕ) → s.remaining ≡ Some rows → more ≡ Some capture → P rows capture (s.failed + a))
+    → (rows capture : List ℕ) → text ≡ Some rows → more ≡ Some capture → P rows capture (0 + a)
+text_then_input P s text more a same h =
+    subst (λ (x : SourceState). (rows capture : List ℕ) → x.remaining ≡ Some rows → more ≡ Some capture → P rows capture (x.failed + a)) same h
+
 -- calls that failed, of two files and then of standard input
 parted : (P : ℕ → ℕ → Type 0) (a b c d e : ℕ) → P (0 + (0 + a)) (b + (c + d)) → e ≡ b + c → P (0 + a) (e + d)
 parted P a b c d e h is = let m : 0 + (0 + a) ≡ 0 + a = omega arith in let n : b + (c + d) ≡ e + d = omega (arith, is) in subst (P (0 + a)) n (subst (λ x. P x (b + (c + d))) m h)

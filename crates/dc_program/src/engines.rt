@@ -3,7 +3,8 @@ ghost use Rattle.std.specs.Prelude.{◌≡◌, ◌≤◌, None, Some};
 ghost use Rattle.dc_answer.specs.Judging.{Leaves};
 ghost use Rattle.dc_device.specs.States.{AsksUpTo, CanFail, IsCountable, SourceState};
 ghost use Rattle.dc_event.specs.declared.trace_reader.TheConstants.{TRACE_LIMIT};
-ghost use Rattle.dc_command.specs.declared.asked.Order.TheVariants.{Audit, Bench, Check, Decode, Explain, Find, Replay};
+ghost use Rattle.dc_capture.specs.declared.capture_lines.TheConstants.{CAPTURE_LIMIT};
+ghost use Rattle.dc_command.specs.declared.asked.Order.TheVariants.{Audit, Bench, Check, Decode, Explain, Find, Replay, Survey};
 ghost use Rattle.dc_program.specs.Carries.{Carries};
 ghost use Rattle.dc_program.specs.Orders.{stream_limit};
 ghost use Rattle.dc_program.specs.World.{IsNew};
@@ -16,6 +17,7 @@ use dc_codes::Code;
 use dc_device::{Sink, Source};
 use dc_run::{run_audit, run_check, run_decode, run_find, run_replay};
 use dc_run_explain::run_explain;
+use dc_run_survey::run_survey;
 use dc_word::Format;
 use std::alloc::Global;
 
@@ -89,6 +91,28 @@ pub fn find<'a, W: World<'a>, K: Sink>(
 {
     match open_one(world, tables) {
         Ok(mut tables) => run_find(alloc, &mut tables, sink),
+        Err(why) => end_unopened(why, sink),
+    }
+}
+
+/// Surveys the capture on standard input.
+pub fn survey<'a, W: World<'a>, S: Source, K: Sink>(
+    alloc: Global,
+    world: &mut W,
+    input: &mut S,
+    sink: &mut K,
+    tables: &'a str,
+) -> Exit
+    requires new { IsNew (W.state world.old) }
+    requires input { IsCountable (S.state input.old) }
+    requires sink { CanFail (K.state sink.old) }
+    ensures carries { Carries (Survey tables.entry) (W.state world.old) (W.state world.new) (S.state input.old) (S.state input.new) (K.state sink.old)
+        (K.state sink.new) result }
+    ensures asks { AsksUpTo CAPTURE_LIMIT (S.state input.old) (S.state input.new) }
+    ensures left { Leaves (K.state sink.old) (K.state sink.new) }
+{
+    match open_one(world, tables) {
+        Ok(mut tables) => run_survey(alloc, &mut tables, input, sink),
         Err(why) => end_unopened(why, sink),
     }
 }
