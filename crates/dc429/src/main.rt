@@ -5,15 +5,24 @@ use dc_answer::Exit;
 use dc_command::Order;
 use dc_device::{ReadSource, WriteSink};
 use dc_explain::explain_end;
-use dc_keep::{Noted, Notes, Written};
+use dc_keep::{Cleared, Noted, Notes, Watched, Written};
 use dc_program::{Disk, Started, run_words, unasked};
 use std::alloc::AllocError;
 use std::io::IsTerminal;
 use std::process::ExitCode;
-use std::rt::{Env, Files};
+use std::rt::{Clock, Env, Files};
 use std::sync::Wait;
 use std::thread::Threads;
 use std::{env, fmt, fs, io};
+
+/// What who runs the program sees.
+#[derive(Clone, Copy, Debug)]
+struct Screen {
+    /// Whether standard error stands there.
+    has_errors: bool,
+    /// Whether what is written does.
+    has_output: bool,
+}
 
 /// What keeps the program from its work.
 #[derive(Debug, Drop)]
@@ -78,14 +87,26 @@ fn explain<R: AllocGlobal + Eprint>(rt: &R, order: Order<'_>, exit: Exit, notes:
 /// that is asked.
 fn carry<
     'a,
-    R: AllocGlobal + Files<File = fs::File> + Input + Print + Eprint + Threads + Wait + Sync,
+    R: AllocGlobal
+        + Clock
+        + Files<File = fs::File>
+        + Input
+        + Print
+        + Eprint
+        + Threads
+        + Wait
+        + Sync,
 >(rt: &'a R, words: &'a [String], notes: &'a Notes, is_seen: bool) -> Result<Exit, clap::Error> {
     let threads = Started(rt);
     let alloc = rt.alloc();
     let mut world = Disk::new(rt, notes, is_seen);
-    let mut input = ReadSource::new(Noted::new(rt.reader(), alloc, &notes.input));
-    let mut sink = WriteSink::new(Written::new(io::writer(rt), alloc, &notes.output));
+    let progress = &notes.progress;
+    let noted = Noted::new(rt.reader(), alloc, &notes.input);
+    let written = Written::new(io::writer(rt), alloc, &notes.output);
+    let mut input = ReadSource::new(Watched::new(rt, noted, progress));
+    let mut sink = WriteSink::new(Cleared::new(rt, written, progress));
     let exit = run_words(alloc, &threads, words, &mut world, &mut input, &mut sink)?;
+    progress.wipe(rt);
     if let Some(order) = world.explained() {
         explain(rt, order, exit, notes);
     }
@@ -95,22 +116,38 @@ fn carry<
 /// Reads the command line and carries it out, or shows clap's text; the end is explained where who runs the program sees
 /// standard error, or asks for it.
 fn run<
-    R: AllocGlobal + Env + Files<File = fs::File> + Input + Print + Eprint + Threads + Wait + Sync,
->(rt: &R, is_seen: bool) -> Result<Exit, Failure> {
+    R: AllocGlobal
+        + Clock
+        + Env
+        + Files<File = fs::File>
+        + Input
+        + Print
+        + Eprint
+        + Threads
+        + Wait
+        + Sync,
+>(rt: &R, screen: Screen) -> Result<Exit, Failure> {
     let words: Vec<String> = match env::args(rt) {
         Ok(words) => words.collect(rt.alloc())?,
         Err(error) => return end_unread(rt, error),
     };
     let asked = words.as_slice();
     let notes = Notes::new(rt.alloc());
-    match carry(rt, asked, &notes, is_seen) {
+    if screen.has_output {
+        notes.progress.share();
+    }
+    match carry(rt, asked, &notes, screen.has_errors) {
         Ok(exit) => Ok(exit),
         Err(error) => end_unasked(rt, error),
     }
 }
 
 fn main(rt: HostRuntime) -> ExitCode {
-    match run(&rt, rt.stderr().is_terminal()) {
+    let screen = Screen {
+        has_errors: rt.stderr().is_terminal(),
+        has_output: rt.stdout().is_terminal(),
+    };
+    match run(&rt, screen) {
         Ok(exit) => ExitCode::from(exit.code()),
         Err(failure) => {
             let _ = rt.println(failure);

@@ -25,6 +25,9 @@ pub struct Disk<'a, R> {
     crew: Option<Crew>,
 }
 
+/// How much is read before it is shown how far a command is that answers what it reads.
+const GIGABYTE: u64 = 1_000_000_000;
+
 /// What standard input is called as a file.
 const STANDARD_INPUT: &str = "-";
 
@@ -75,6 +78,16 @@ impl<'a, R: Files<File = File> + Input> Disk<'a, R> {
         Ok(Origin::File(file))
     }
 
+    /// Begins to show how far a command is that reads standard input as it comes: one that answers what it reads once it
+    /// has read much.
+    fn show_progress(&self, order: Order<'_>) {
+        match order {
+            Order::Audit { .. } => {}
+            Order::Decode(_) | Order::Replay { .. } => self.notes.progress.want(GIGABYTE),
+            _ => self.notes.progress.want(0),
+        }
+    }
+
     /// The notes of the file that is opened next.
     fn slot(&self) -> &'a Slot {
         if self.opened.is_empty() {
@@ -120,6 +133,9 @@ impl<'a, R: AllocGlobal + Files<File = File> + Input> World<'a> for Disk<'a, R> 
         if is_wanted {
             self.notes.want(matches!(asked.order, Order::Audit { .. }));
             self.explained = Some(asked.order);
+            if self.is_seen {
+                self.show_progress(asked.order);
+            }
         }
     }
 
