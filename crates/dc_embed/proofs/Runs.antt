@@ -35,7 +35,7 @@ comes_to outputs claims tables certificate (Ok e) old new report calls opens tol
       claims_of e,
       opens.0.0,
       opens.0.1.1,
-      record { outputs = outputs e own.0 calls opens.1 own.1; claimed = claims e own.0 calls opens.1 opens.0.1.2 own.1 },
+      record { outputs = outputs e own.0 calls opens.1 own.1; claimed = claims e own.0 calls opens.1 opens.0.1.3 own.1 },
     )
 comes_to outputs claims tables certificate (Err fault) old new report calls opens told are = absurd (true≢false told.2)
 
