@@ -19,21 +19,36 @@ struct event {
     uint32_t word;    /* A */
 };
 
+/* The names of a list by their numbers, and the number that was told last. Tables have at most 64 buses and routers. */
+struct names {
+    uint32_t list;
+    size_t count, last;
+    size_t length[64];
+    char text[64][DC429_LONGEST_NAME + 1];
+};
+
+static struct names buses = { .list = DC429_BUS }, routers = { .list = DC429_ROUTER }, outputs = { .list = DC429_OUTPUT };
 static bool shows_all, shows_none;
 
-/* The name of a number, with a zero byte. */
-static const char *name_of(dc429 *engine, uint32_t list, size_t number, char text[DC429_LONGEST_NAME + 1]) {
-    text[dc429_name(engine, list, number, (uint8_t *)text, DC429_LONGEST_NAME)] = 0;
-    return text;
+/* Takes the names of a list over from the engine. */
+static void take_names(dc429 *engine, struct names *names) {
+    while (names->count < 64) {
+        char *text = names->text[names->count];
+        size_t length = dc429_name(engine, names->list, names->count, (uint8_t *)text, DC429_LONGEST_NAME);
+        if (length == 0)
+            return;
+        text[length] = 0;
+        names->length[names->count++] = length;
+    }
 }
 
-/* The list in which the name of an event of this kind stands; 0 where it has none. */
-static uint32_t list_of(char kind) {
+/* The names among which an event of this kind has its own; NULL where it has none. */
+static struct names *names_of(char kind) {
     switch (kind) {
-    case 'A': return DC429_BUS;
-    case 'R': return DC429_ROUTER;
-    case 'S': return DC429_OUTPUT;
-    default: return 0;
+    case 'A': return &buses;
+    case 'R': return &routers;
+    case 'S': return &outputs;
+    default: return NULL;
     }
 }
 
@@ -55,42 +70,29 @@ static int not_opened(const dc429_fault *fault) {
 }
 
 /* Prints why an event was refused. */
-static void tell_refusal(dc429 *engine, const struct event *event, const dc429_reply *reply, unsigned long line) {
-    char name[DC429_LONGEST_NAME + 1];
+static void tell_refusal(const struct event *event, const dc429_reply *reply, unsigned long line) {
     switch (reply->kind) {
-    case DC429_SPENT:
-        printf("refused spent %s", name_of(engine, DC429_ROUTER, event->number, name));
-        break;
-    case DC429_TOO_SOON:
-        printf("refused early %s", name_of(engine, DC429_OUTPUT, event->number, name));
-        break;
-    case DC429_OWED_ROUTER:
-        printf("refused owed %s", name_of(engine, DC429_ROUTER, reply->number, name));
-        break;
-    case DC429_OWED_OUTPUT:
-        printf("refused owed %s", name_of(engine, DC429_OUTPUT, reply->number, name));
-        break;
-    case DC429_TICK_LIMIT:
-        printf("refused ticks");
-        break;
-    default:
-        printf("refused unknown");
-        break;
+    case DC429_SPENT: printf("refused spent %s", routers.text[event->number]); break;
+    case DC429_TOO_SOON: printf("refused early %s", outputs.text[event->number]); break;
+    case DC429_OWED_ROUTER: printf("refused owed %s", routers.text[reply->number]); break;
+    case DC429_OWED_OUTPUT: printf("refused owed %s", outputs.text[reply->number]); break;
+    case DC429_TICK_LIMIT: printf("refused ticks"); break;
+    default: printf("refused unknown"); break;
     }
     printf(" at line %lu\n", line);
 }
 
 /* Prints a reply, in the tick in which the event was. */
-static void tell_reply(dc429 *engine, const struct event *event, const dc429_reply *reply, uint64_t tick) {
-    char own[DC429_LONGEST_NAME + 1], bus[DC429_LONGEST_NAME + 1];
+static void tell_reply(const struct event *event, const dc429_reply *reply, uint64_t tick) {
     bool always = reply->kind == DC429_SENT || (reply->kind >= DC429_BAD_PARITY && reply->kind <= DC429_LATCHED);
+    const struct names *names = names_of(event->kind);
     if (shows_none || !(shows_all || always))
         return;
-    if (reply->kind == DC429_NOW) {
+    if (!names) {
         printf("%" PRIu64 " tick\n", reply->tick);
         return;
     }
-    printf("%" PRIu64 " %s ", tick, name_of(engine, list_of(event->kind), event->number, own));
+    printf("%" PRIu64 " %s ", tick, names->text[event->number]);
     switch (reply->kind) {
     case DC429_QUEUED: printf("queued %" PRIu32 "\n", reply->backlog); break;
     case DC429_BAD_PARITY: printf("parity %08" PRIX32 "\n", event->word); break;
@@ -98,40 +100,64 @@ static void tell_reply(dc429 *engine, const struct event *event, const dc429_rep
     case DC429_TOO_EARLY: printf("early %08" PRIX32 "\n", event->word); break;
     case DC429_OVERRUN: printf("overrun %08" PRIX32 "\n", event->word); break;
     case DC429_LATCHED: printf("latched %08" PRIX32 "\n", event->word); break;
-    case DC429_TOOK: printf("took %s %08" PRIX32 "\n", name_of(engine, DC429_BUS, reply->number, bus), reply->word); break;
-    case DC429_EMPTY: printf("empty %s\n", name_of(engine, DC429_BUS, reply->number, bus)); break;
+    case DC429_TOOK: printf("took %s %08" PRIX32 "\n", buses.text[reply->number], reply->word); break;
+    case DC429_EMPTY: printf("empty %s\n", buses.text[reply->number]); break;
     case DC429_SENT: printf("%08" PRIX32 "\n", reply->word); break;
     case DC429_IDLE: printf("idle\n"); break;
     default: printf("kind %" PRIu32 "\n", reply->kind); break;
     }
 }
 
-/* Reads the eight hexadecimal digits of a word. */
-static bool read_word(const uint8_t *text, size_t length, uint32_t *word) {
+/* Reads the eight hexadecimal digits of a word; NULL where one is none, else what stands behind them. */
+static const uint8_t *read_word(const uint8_t *at, const uint8_t *end, uint32_t *word) {
     *word = 0;
-    for (size_t at = 0; at < length; at++) {
-        uint8_t letter = text[at], lower = letter | 32;
-        bool is_digit = letter >= '0' && letter <= '9';
+    for (const uint8_t *stop = at + 8; at < stop; at++) {
+        uint8_t lower = at < end ? *at | 32 : 0;
+        bool is_digit = at < end && *at >= '0' && *at <= '9';
         if (!is_digit && (lower < 'a' || lower > 'f'))
-            return false;
-        *word = *word << 4 | (uint32_t)(is_digit ? letter - '0' : lower - 'a' + 10);
+            return NULL;
+        *word = *word << 4 | (uint32_t)(is_digit ? *at - '0' : lower - 'a' + 10);
     }
-    return length == 8;
+    return at;
 }
 
-/* Reads a line of a trace: A BUS WORD, R ROUTER, S OUTPUT or T. */
-static bool read_event(dc429 *engine, const uint8_t *line, size_t length, struct event *event) {
-    event->kind = length > 0 ? (char)line[0] : 0;
-    if (event->kind == 'T')
-        return length == 1;
-    if (list_of(event->kind) == 0 || length < 3 || line[1] != ' ')
+/* Whether the name of a number stands here, with this byte behind it. */
+static bool is_name(const struct names *names, size_t number, const uint8_t *at, const uint8_t *end, uint8_t behind) {
+    size_t length = names->length[number], same = 0;
+    if (number >= names->count || (size_t)(end - at) <= length || at[length] != behind)
         return false;
-    const uint8_t *name = line + 2, *end = line + length;
-    const uint8_t *space = event->kind == 'A' ? memchr(name, ' ', length - 2) : NULL;
-    const uint8_t *after = space ? space : end;
-    if (!dc429_number(engine, list_of(event->kind), name, (size_t)(after - name), &event->number))
-        return false;
-    return event->kind != 'A' || (space && read_word(space + 1, (size_t)(end - space - 1), &event->word));
+    while (same < length && at[same] == (uint8_t)names->text[number][same])
+        same++;
+    return same == length;
+}
+
+/* Reads a name up to this byte: mostly it is that of the last number or of the next one, else the engine knows. What stands behind
+   the byte is returned; NULL where there is no such name. */
+static const uint8_t *read_name(dc429 *engine, struct names *names, const uint8_t *at, const uint8_t *end, uint8_t behind) {
+    size_t next = names->last + 1 < names->count ? names->last + 1 : 0;
+    if (is_name(names, names->last, at, end, behind))
+        return at + names->length[names->last] + 1;
+    if (is_name(names, next, at, end, behind)) {
+        names->last = next;
+        return at + names->length[next] + 1;
+    }
+    const uint8_t *stop = memchr(at, behind, (size_t)(end - at));
+    return stop && dc429_number(engine, names->list, at, (size_t)(stop - at), &names->last) ? stop + 1 : NULL;
+}
+
+/* Reads a line of a trace, A BUS WORD, R ROUTER, S OUTPUT or T, and returns the next one; NULL where it is no event. */
+static const uint8_t *read_event(dc429 *engine, const uint8_t *at, const uint8_t *end, struct event *event) {
+    struct names *names = names_of(event->kind = (char)*at++);
+    if (!names)
+        return event->kind == 'T' && at < end && *at == '\n' ? at + 1 : NULL;
+    if (at == end || *at != ' ')
+        return NULL;
+    at = read_name(engine, names, at + 1, end, event->kind == 'A' ? ' ' : '\n');
+    event->number = names->last;
+    if (!at || event->kind != 'A')
+        return at;
+    at = read_word(at, end, &event->word);
+    return at && at < end && *at == '\n' ? at + 1 : NULL;
 }
 
 /* Carries an event out. */
@@ -148,21 +174,20 @@ static uint32_t apply(dc429 *engine, const struct event *event, dc429_reply *rep
 static int replay(dc429 *engine, const uint8_t *trace, size_t length) {
     uint64_t tick = 0;
     unsigned long line = 0;
-    struct event event;
+    struct event event = { 0, 0, 0 };
     dc429_reply reply;
     for (const uint8_t *at = trace, *end = trace + length; at < end;) {
-        const uint8_t *feed = memchr(at, '\n', (size_t)(end - at));
+        at = read_event(engine, at, end, &event);
         line++;
-        if (!feed || !read_event(engine, at, (size_t)(feed - at), &event)) {
+        if (!at) {
             printf("unreadable line %lu\n", line);
             return UNREADABLE;
         }
-        at = feed + 1;
         if (apply(engine, &event, &reply) != DC429_OK) {
-            tell_refusal(engine, &event, &reply, line);
+            tell_refusal(&event, &reply, line);
             return REFUSED;
         }
-        tell_reply(engine, &event, &reply, tick);
+        tell_reply(&event, &reply, tick);
         tick = reply.kind == DC429_NOW ? reply.tick : tick;
     }
     return DONE;
@@ -184,6 +209,9 @@ int main(int argc, char **argv) {
         dc429 engine = DC429_CLOSED;
         dc429_fault fault;
         if (dc429_open(&engine, tables, tables_length, certificate, certificate_length, &fault)) {
+            take_names(&engine, &buses);
+            take_names(&engine, &routers);
+            take_names(&engine, &outputs);
             status = replay(&engine, trace, trace_length);
             dc429_close(&engine);
         } else {
