@@ -452,7 +452,7 @@ the third field is not eight hexadecimal digits
 write the word as eight hexadecimal digits and nothing else: no `0x`, no carriage return
 
 E8
-the time is less than that of the line before
+the time is less than that of the line before, or, of `trace`, than its `--from`
 `1000 A 600000C1`, `999 A E0000021`: E8 at line 2
 sort the lines by their times, as `sort -s -n` does";
 

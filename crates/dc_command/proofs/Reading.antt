@@ -5,7 +5,7 @@ use Rattle.clap.specs.declared.parser.matches.Found.{Found}
 use Rattle.clap.proofs.WalkLemmas.{first_value-rows, one_text-rows}
 use Rattle.dc_codes.specs.Codes.{asks_for, names}
 use Rattle.dc_codes.specs.declared.code.Code.{Code}
-use Rattle.dc_command.specs.Asked.{AreGiven, CodesAre, DriftIs, IsSet, TicksAre, WhenIs, when_name}
+use Rattle.dc_command.specs.Asked.{AreGiven, BeginIs, CodesAre, DriftIs, IsSet, TicksAre, WhenIs, when_name}
 use Rattle.dc_command.specs.declared.explained.When.{When}
 
 -- a text that is given
@@ -19,6 +19,10 @@ workers_given f id workers given = subst (λ o. AreGiven o workers) (first_value
 -- the drift
 pub drift_given : (f : Found) (id : Text) (drift : Option ℕ) → DriftIs (first_value f id) drift → DriftIs (first_of id (rows_of f)) drift
 drift_given f id drift given = subst (λ o. DriftIs o drift) (first_value-rows f id) given
+
+-- the begin of tick 0
+pub begin_given : (f : Found) (id : Text) (begin : Option ℕ) → BeginIs (first_value f id) begin → BeginIs (first_of id (rows_of f)) begin
+begin_given f id begin given = subst (λ o. BeginIs o begin) (first_value-rows f id) given
 
 -- the number of ticks
 pub ticks_given : (f : Found) (id : Text) (ticks : ℕ) → TicksAre (first_value f id) ticks → TicksAre (first_of id (rows_of f)) ticks

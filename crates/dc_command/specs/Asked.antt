@@ -10,10 +10,10 @@ use Rattle.dc_word.specs.declared.format.Format.{Format}
 use Rattle.dc_word.specs.declared.format.Format.TheVariants.{Bnr, Bcd, Disc}
 use Rattle.dc_command.specs.Program.{program_app}
 use Rattle.dc_command.specs.declared.asked.Order.{Order}
-use Rattle.dc_command.specs.declared.asked.Order.TheVariants.{Decode, Check, Find, Report, Margins, Survey, Replay, Audit, Bench, Explain}
+use Rattle.dc_command.specs.declared.asked.Order.TheVariants.{Decode, Check, Find, Report, Margins, Survey, Trace, Replay, Audit, Bench, Explain}
 use Rattle.dc_command.specs.declared.explained.When.{When}
 use Rattle.dc_command.specs.declared.explained.When.TheVariants.{Always, Never, Auto}
-use Rattle.dc_command.specs.declared.limits.TheConstants.{MOST_DRIFT, MOST_TICKS, MOST_WORKERS, USUAL_TICKS}
+use Rattle.dc_command.specs.declared.limits.TheConstants.{LAST_BEGIN, MOST_DRIFT, MOST_TICKS, MOST_WORKERS, USUAL_TICKS}
 
 -- the text is this number of workers, in decimal
 abbrev pub IsCount : List ℕ → ℕ → Type 0
@@ -54,6 +54,19 @@ abbrev pub DriftIs : Option (List ℕ) → Option ℕ → Type 0
 DriftIs None drift = drift ≡ None
 DriftIs (Some text) drift = (n : ℕ) × (drift ≡ Some n) × IsDrift text n
 
+-- the text is this begin of tick 0 in microseconds, in decimal
+abbrev pub IsBegin : List ℕ → ℕ → Type 0
+IsBegin text n = IsNumeral 10 (without_leading_plus text) × (digits_value 10 (without_leading_plus text) ≡ n) × (n ≤ LAST_BEGIN)
+
+-- it is none of these
+abbrev pub IsNoBegin : List ℕ → Type 0
+IsNoBegin text = (n : ℕ) → IsBegin text n → ⊥
+
+-- the begin that is said by a text, or none where there is no text
+abbrev pub BeginIs : Option (List ℕ) → Option ℕ → Type 0
+BeginIs None begin = begin ≡ None
+BeginIs (Some text) begin = (n : ℕ) × (begin ≡ Some n) × IsBegin text n
+
 -- a format, as it is written after `decode`
 abbrev pub format_name : Format → List ℕ
 format_name Bnr = codes "bnr"
@@ -85,6 +98,8 @@ AsksBy name rows (Margins tables certificate microseconds drift) =
     (name ≡ codes "margins") × (first_of (codes "TABLES") rows ≡ Some tables.now) × (option_map (λ s. s.now) certificate ≡ first_of (codes "CERT") rows)
     × IsSet (one_of (codes "us") rows) microseconds × DriftIs (first_of (codes "drift") rows) drift
 AsksBy name rows (Survey tables) = (name ≡ codes "survey") × (first_of (codes "TABLES") rows ≡ Some tables.now)
+AsksBy name rows (Trace tables from) =
+    (name ≡ codes "trace") × (first_of (codes "TABLES") rows ≡ Some tables.now) × BeginIs (first_of (codes "from") rows) from
 AsksBy name rows (Replay tables all) =
     (name ≡ codes "replay") × (first_of (codes "TABLES") rows ≡ Some tables.now) × IsSet (one_of (codes "all") rows) all
 AsksBy name rows (Audit tables certificate) =
@@ -129,4 +144,5 @@ IsInRange (Check tables certificate workers) = IfSome workers (λ n. (1 ≤ n) �
 IsInRange (Bench tables certificate ticks marks) = (1 ≤ ticks) × (ticks ≤ MOST_TICKS)
 IsInRange (Report tables certificate drift) = IfSome drift (λ n. n ≤ MOST_DRIFT)
 IsInRange (Margins tables certificate microseconds drift) = IfSome drift (λ n. n ≤ MOST_DRIFT)
+IsInRange (Trace tables from) = IfSome from (λ n. n ≤ LAST_BEGIN)
 IsInRange _ = Unit {0}

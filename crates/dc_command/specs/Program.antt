@@ -7,7 +7,7 @@ use Rattle.clap.specs.declared.builder.command.Command.TheViews.{out-Command}
 use Rattle.clap.specs.declared.builder.action.ArgAction.TheVariants.{SetTrue}
 use Rattle.clap.specs.declared.builder.value_parser.ValueParser.{ValueParser}
 use Rattle.clap.specs.declared.builder.value_parser.ValueParser.TheVariants as vp
-use Rattle.dc_command.specs.declared.limits.TheConstants.{MOST_DRIFT, MOST_TICKS, MOST_WORKERS}
+use Rattle.dc_command.specs.declared.limits.TheConstants.{LAST_BEGIN, MOST_DRIFT, MOST_TICKS, MOST_WORKERS}
 
 -- a file that is wanted
 abbrev pub file_rule : Text → Rule
@@ -40,6 +40,10 @@ drift_rule = record (new_rule (codes "drift")) {
   value_names = 1;
   parser = Some (vp.Signed (pos 0) (pos MOST_DRIFT));
 }
+
+-- `--from`
+abbrev pub from_rule : Rule
+from_rule = record (new_rule (codes "from")) { long = Some (codes "from"); value_names = 1; parser = Some (vp.Unsigned 0 LAST_BEGIN) }
 
 -- a flag
 abbrev pub flag_rule : Text → Rule
@@ -97,6 +101,10 @@ report_app = with_rule (optional_app (codes "report")) drift_rule
 abbrev pub margins_app : App
 margins_app = with_rule (with_rule (optional_app (codes "margins")) us_rule) drift_rule
 
+-- `trace`, which reads tables and may be told when tick 0 begins
+abbrev pub trace_app : App
+trace_app = with_rule (tables_app (codes "trace")) from_rule
+
 -- `replay`, which reads tables and may print all replies
 abbrev pub replay_app : App
 replay_app = with_rule (tables_app (codes "replay")) all_rule
@@ -112,8 +120,8 @@ bare_app = on_top (λ s. record s { has_version = true; subcommand_required = tr
 -- the program, whose formats are read by this parser
 abbrev pub program_app : ValueParser → App
 program_app formats =
-    with_subcommand (with_subcommand (with_subcommand (with_subcommand (with_subcommand (with_subcommand (with_subcommand (with_subcommand (with_subcommand (with_subcommand
-    bare_app (decode_app formats).top) check_app.top) (tables_app (codes "find")).top) (tables_app (codes "survey")).top) replay_app.top) (certificate_app (codes "audit")).top) bench_app.top)
+    with_subcommand (with_subcommand (with_subcommand (with_subcommand (with_subcommand (with_subcommand (with_subcommand (with_subcommand (with_subcommand (with_subcommand (with_subcommand
+    bare_app (decode_app formats).top) check_app.top) (tables_app (codes "find")).top) (tables_app (codes "survey")).top) trace_app.top) replay_app.top) (certificate_app (codes "audit")).top) bench_app.top)
     report_app.top) margins_app.top) explain_app.top
 
 -- clap reads this of a command, none of whose arguments is global

@@ -66,6 +66,17 @@ Exit status:
   2  a text that can't be read, or a wrong command line
   3  a file, a device or memory was not to be had";
 
+/// Behind the options of `trace`.
+pub(crate) const AFTER_TRACE: &str =
+    "Example: dc429 trace tables.toml < bus.capture | dc429 replay tables.toml
+
+The capture comes from standard input, the tables from a file.
+
+Exit status:
+  0  written to the end
+  2  a text that can't be read, or a wrong command line
+  3  a file, a device or memory was not to be had";
+
 /// Behind the options of `replay`.
 pub(crate) const AFTER_REPLAY: &str = "Example: dc429 replay tables.toml < run.trace
 

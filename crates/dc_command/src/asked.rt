@@ -2,13 +2,13 @@
 ghost use Rattle.std.specs.Prelude.{codes, map, IfOk, IfSome, MatchResult};
 ghost use Rattle.std.specs.String.{string_bytes};
 ghost use Rattle.clap.specs.Words.{first_value, found_of, rows_of, subcommand_rows_of};
-ghost use Rattle.dc_command.specs.Asked.{AreGiven, Asks, AsksBy, AsksIn, Explains, ExplainsIn, DriftIs, IsCount, IsDrift, IsInRange, IsNoCount, IsNoDrift, IsNoTickCount, IsTickCount, TicksAre};
+ghost use Rattle.dc_command.specs.Asked.{AreGiven, Asks, AsksBy, AsksIn, BeginIs, Explains, ExplainsIn, DriftIs, IsBegin, IsCount, IsDrift, IsInRange, IsNoBegin, IsNoCount, IsNoDrift, IsNoTickCount, IsTickCount, TicksAre};
 ghost use Rattle.dc_command.specs.Inputs.{HasOneInput};
 
 use crate::explained::{When, when_in};
 use crate::inputs::refuse_second_input;
 use crate::known::program;
-use crate::limits::{MOST_DRIFT, MOST_TICKS, MOST_WORKERS, USUAL_TICKS};
+use crate::limits::{LAST_BEGIN, MOST_DRIFT, MOST_TICKS, MOST_WORKERS, USUAL_TICKS};
 use clap::error::ErrorKind;
 use clap::{ArgMatches, Error};
 use dc_codes::Code;
@@ -58,6 +58,13 @@ pub enum Order<'a> {
     Survey {
         /// The path of the tables.
         tables: &'a str,
+    },
+    /// Write the capture on standard input as a trace of the tables in a file.
+    Trace {
+        /// The path of the tables.
+        tables: &'a str,
+        /// When tick 0 begins, in microseconds, 0 to [`LAST_BEGIN`](crate::LAST_BEGIN), where that is said.
+        from: Option<u64>,
     },
     /// Replay the trace on standard input through the concentrator of the tables in a file.
     Replay {
@@ -134,6 +141,16 @@ fn drift_of(text: &str) -> Result<u16, OutOfRange>
     }
 }
 
+/// The begin of tick 0 that a text says, in microseconds.
+fn begin_of(text: &str) -> Result<u64, OutOfRange>
+    ensures { MatchResult result (λ n. IsBegin text.now n) (λ _. IsNoBegin text.now) }
+{
+    match text.parse::<u64>() {
+        Ok(begin) if begin <= LAST_BEGIN => Ok(begin),
+        _ => Err(OutOfRange),
+    }
+}
+
 /// The number of ticks that the matches of `bench` say, `USUAL_TICKS` where they say none.
 fn ticks_in(matches: &ArgMatches<'_>) -> Result<u16, OutOfRange>
     ensures { MatchResult result (TicksAre (first_value (found_of matches.now) (codes "ticks")))
@@ -167,6 +184,20 @@ fn drift_in(matches: &ArgMatches<'_>) -> Result<Option<u16>, OutOfRange>
     match matches.get_str("drift") {
         Some(text) => match drift_of(text) {
             Ok(drift) => Ok(Some(drift)),
+            Err(out) => Err(out),
+        },
+        None => Ok(None),
+    }
+}
+
+/// The begin of tick 0 that the matches of `trace` say.
+fn begin_in(matches: &ArgMatches<'_>) -> Result<Option<u64>, OutOfRange>
+    ensures { MatchResult result (BeginIs (first_value (found_of matches.now) (codes "from")))
+        (λ _. IfSome (first_value (found_of matches.now) (codes "from")) IsNoBegin) }
+{
+    match matches.get_str("from") {
+        Some(text) => match begin_of(text) {
+            Ok(begin) => Ok(Some(begin)),
             Err(out) => Err(out),
         },
         None => Ok(None),
@@ -251,6 +282,17 @@ fn survey_in<'a>(matches: &ArgMatches<'a>) -> Option<Order<'a>>
     Some(Order::Survey { tables })
 }
 
+/// What the matches of `trace` ask.
+fn trace_in<'a>(matches: &ArgMatches<'a>) -> Option<Order<'a>>
+    ensures { IfSome result (AsksBy (codes "trace") (rows_of (found_of matches.now))) }
+{
+    let tables = matches.get_str("TABLES")?;
+    match begin_in(matches) {
+        Ok(from) => Some(Order::Trace { tables, from }),
+        Err(_) => None,
+    }
+}
+
 /// What the matches of `replay` ask.
 fn replay_in<'a>(matches: &ArgMatches<'a>) -> Option<Order<'a>>
     ensures { IfSome result (AsksBy (codes "replay") (rows_of (found_of matches.now))) }
@@ -324,6 +366,7 @@ fn order_by<'a>(name: &str, matches: &ArgMatches<'a>) -> Option<Order<'a>>
         "report" => report_in(matches),
         "margins" => margins_in(matches),
         "survey" => survey_in(matches),
+        "trace" => trace_in(matches),
         "replay" => replay_in(matches),
         "audit" => audit_in(matches),
         "bench" => bench_in(matches),

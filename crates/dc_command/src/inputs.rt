@@ -13,6 +13,8 @@ const REPLAYED: &str = "replay reads its trace from standard input: name its tab
 
 const SURVEYED: &str = "survey reads its capture from standard input: name its tables by a file";
 
+const TRACED: &str = "trace reads its capture from standard input: name its tables by a file";
+
 const AUDITED: &str =
     "audit reads its trace from standard input: name its tables and its certificate by files";
 
@@ -66,6 +68,7 @@ pub(crate) fn refuse_second_input(order: &Order<'_>) -> Result<(), &'static str>
             None => Ok(()),
         },
         Order::Survey { tables } => refuse_input(tables, SURVEYED),
+        Order::Trace { tables, .. } => refuse_input(tables, TRACED),
         Order::Replay { tables, .. } => refuse_input(tables, REPLAYED),
         Order::Audit {
             tables,

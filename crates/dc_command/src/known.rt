@@ -1,13 +1,14 @@
 //! The commands that there are, with their arguments and what is said of them.
 ghost use Rattle.std.specs.Prelude.{◌≡◌, false, codes, IfOk};
 ghost use Rattle.clap.specs.Words.{new_app, rule_of};
-ghost use Rattle.dc_command.specs.Program.{IsDecode, IsProgram, IsRead, bare_app, bench_app, certificate_app, check_app, drift_rule, explain_app, explain_rule, file_rule, flag_rule, margins_app, optional_app, replay_app, report_app, tables_app, ticks_rule};
+ghost use Rattle.dc_command.specs.Program.{IsDecode, IsProgram, IsRead, bare_app, bench_app, certificate_app, check_app, drift_rule, explain_app, explain_rule, file_rule, flag_rule, from_rule, margins_app, optional_app, replay_app, report_app, tables_app, ticks_rule, trace_app};
 
 use crate::after::{
     AFTER_AUDIT, AFTER_BENCH, AFTER_CHECK, AFTER_DECODE, AFTER_EXPLAIN, AFTER_FIND, AFTER_MARGINS,
-    AFTER_REPLAY, AFTER_REPORT, AFTER_SURVEY,
+    AFTER_REPLAY, AFTER_REPORT, AFTER_SURVEY, AFTER_TRACE,
 };
-use crate::limits::{MOST_DRIFT, MOST_TICKS, MOST_WORKERS};
+use crate::limits::{LAST_BEGIN, MOST_DRIFT, MOST_TICKS, MOST_WORKERS};
+use clap::builder::ValueParser;
 use clap::{Arg, ArgAction, Command, Error, value_parser};
 use std::alloc::Global;
 
@@ -199,6 +200,33 @@ fn survey<'a>(alloc: Global) -> Result<Command<'a>, Error>
     )
 }
 
+/// The option `--from`.
+fn from<'a>(alloc: Global) -> Arg<'a>
+    ensures rule { rule_of result ≡ from_rule }
+    ensures local { result.global ≡ false }
+{
+    Arg::new(alloc, "from")
+        .long("from")
+        .value_name("US")
+        .help(
+            "Begins tick 0 at so many microseconds, 0 to 9007199254740992, where none is said with the first word",
+        )
+        .value_parser(ValueParser::unsigned(0, LAST_BEGIN))
+}
+
+/// The command `trace`.
+fn trace<'a>(alloc: Global) -> Result<Command<'a>, Error>
+    ensures { IfOk result (IsRead trace_app) }
+{
+    let trace = on_tables(
+        alloc,
+        "trace",
+        "Writes the capture on standard input as a trace, among the steps of the steady run",
+        AFTER_TRACE,
+    )?;
+    Ok(trace.arg(from(alloc))?)
+}
+
 /// The command `replay`.
 fn replay<'a>(alloc: Global) -> Result<Command<'a>, Error>
     ensures { IfOk result (IsRead replay_app) }
@@ -298,6 +326,7 @@ pub fn program<'a>(alloc: Global) -> Result<Command<'a>, Error>
             .subcommand(check(alloc)?)?
             .subcommand(find(alloc)?)?
             .subcommand(survey(alloc)?)?
+            .subcommand(trace(alloc)?)?
             .subcommand(replay(alloc)?)?
             .subcommand(audit(alloc)?)?
             .subcommand(bench(alloc)?)?

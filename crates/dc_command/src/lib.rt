@@ -10,4 +10,4 @@ mod limits;
 
 pub use asked::{Asked, Order, command};
 pub use explained::When;
-pub use limits::{MOST_DRIFT, MOST_TICKS, MOST_WORKERS, USUAL_TICKS};
+pub use limits::{LAST_BEGIN, MOST_DRIFT, MOST_TICKS, MOST_WORKERS, USUAL_TICKS};

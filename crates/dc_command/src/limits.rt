@@ -10,5 +10,8 @@ pub const MOST_TICKS: u16 = 1000;
 /// The greatest drift of clocks, in millionths.
 pub const MOST_DRIFT: u16 = 1000;
 
+/// The latest time at which tick 0 of a recording may begin, in microseconds: the latest that a capture may have.
+pub const LAST_BEGIN: u64 = 9_007_199_254_740_992;
+
 /// The ticks of a bench where none are said.
 pub const USUAL_TICKS: u16 = 200;

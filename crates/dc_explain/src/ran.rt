@@ -47,8 +47,10 @@ impl<'a> Ran<'a> {
     pub(crate) fn names(&self) -> (&'a str, &'a str) {
         match self.order {
             Order::Decode(_) | Order::Explain { .. } => ("", ""),
-            Order::Find { tables, .. } | Order::Survey { tables } | Order::Replay { tables, .. } =>
-                (told(tables), ""),
+            Order::Find { tables, .. }
+            | Order::Survey { tables }
+            | Order::Trace { tables, .. }
+            | Order::Replay { tables, .. } => (told(tables), ""),
             Order::Report {
                 tables,
                 certificate,
@@ -108,7 +110,7 @@ fn explain_text(alloc: Global, ran: &Ran<'_>, answer: Answer<'_>) -> Option<Stri
     }
     let kind = match ran.order {
         Order::Decode(_) => Kind::Decoded,
-        Order::Survey { .. } => Kind::Capture,
+        Order::Survey { .. } | Order::Trace { .. } => Kind::Capture,
         _ => Kind::Trace,
     };
     explain_line(alloc, ran, answer, kind)

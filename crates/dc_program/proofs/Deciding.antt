@@ -20,7 +20,7 @@ use Rattle.dc_run.specs.Check.{AnswersCheck, AnswersTables, AreCertified, Report
 use Rattle.dc_tables.specs.TableRows.{TableRows}
 use Rattle.dc_toml.specs.Reading.{tables_of}
 use Rattle.dc_command.specs.declared.asked.Order.{Order}
-use Rattle.dc_command.specs.declared.asked.Order.TheVariants.{Decode, Check, Find, Report, Margins, Survey, Replay, Audit, Bench, Explain}
+use Rattle.dc_command.specs.declared.asked.Order.TheVariants.{Decode, Check, Find, Report, Margins, Survey, Trace, Replay, Audit, Bench, Explain}
 use Rattle.dc_program.specs.Carries.{Carries}
 use Rattle.dc_program.specs.Headline.{Decides, DecidesFiles}
 use Rattle.dc_program.specs.World.{WorldState}
@@ -88,6 +88,7 @@ carried_decides (Find tables) w w' input input' sink sink' exit h = tt
 carried_decides (Report tables certificate drift) w w' input input' sink sink' exit h = tt
 carried_decides (Margins tables certificate microseconds drift) w w' input input' sink sink' exit h = tt
 carried_decides (Survey tables) w w' input input' sink sink' exit h = tt
+carried_decides (Trace tables from) w w' input input' sink sink' exit h = tt
 carried_decides (Replay tables all) w w' input input' sink sink' exit h = tt
 carried_decides (Audit tables certificate) w w' input input' sink sink' exit h = tt
 carried_decides (Bench tables certificate ticks marks) w w' input input' sink sink' exit h = tt

@@ -7,7 +7,7 @@ use Rattle.dc_answer.specs.declared.exit.Exit.{Exit}
 use Rattle.dc_answer.specs.declared.exit.Exit.TheVariants.{Failed}
 use Rattle.dc_command.specs.declared.asked.Order.{Order}
 use Rattle.dc_capture.specs.declared.capture_lines.TheConstants.{CAPTURE_LIMIT}
-use Rattle.dc_command.specs.declared.asked.Order.TheVariants.{Decode, Check, Find, Report, Margins, Survey, Replay, Audit, Bench, Explain}
+use Rattle.dc_command.specs.declared.asked.Order.TheVariants.{Decode, Check, Find, Report, Margins, Survey, Trace, Replay, Audit, Bench, Explain}
 use Rattle.dc_device.specs.States.{AsksUpTo, SinkState, SourceState}
 use Rattle.dc_event.specs.declared.trace_reader.TheConstants.{TRACE_LIMIT}
 use Rattle.dc_program.specs.declared.world.Crew.{Crew}
@@ -22,6 +22,7 @@ use Rattle.dc_run_explain.specs.Explain.{ReportsExplain}
 use Rattle.dc_run_margins.specs.Margins.{ReportsMargins, ReportsLeast as ReportsMarginsLeast}
 use Rattle.dc_run_report.specs.Paper.{ReportsPage, ReportsLeast as ReportsPageLeast}
 use Rattle.dc_run_survey.specs.Answer.{ReportsSurvey}
+use Rattle.dc_run_trace.specs.Answer.{ReportsTrace}
 
 -- ---- what is asked of the world
 
@@ -35,6 +36,7 @@ files_of (Report tables (Some certificate) drift) = tables.now ∷ certificate.n
 files_of (Margins tables None microseconds drift) = tables.now ∷ []
 files_of (Margins tables (Some certificate) microseconds drift) = tables.now ∷ certificate.now ∷ []
 files_of (Survey tables) = tables.now ∷ []
+files_of (Trace tables from) = tables.now ∷ []
 files_of (Replay tables all) = tables.now ∷ []
 files_of (Audit tables certificate) = tables.now ∷ certificate.now ∷ []
 files_of (Bench tables certificate ticks marks) = tables.now ∷ certificate.now ∷ []
@@ -59,6 +61,7 @@ stream_limit = 2 ^ 63 - 1
 abbrev pub AsksInput : Order → SourceState → SourceState → Type 0
 AsksInput (Decode format) input input' = AsksUpTo stream_limit input input'
 AsksInput (Survey tables) input input' = AsksUpTo CAPTURE_LIMIT input input'
+AsksInput (Trace tables from) input input' = AsksUpTo CAPTURE_LIMIT input input'
 AsksInput (Replay tables all) input input' = AsksUpTo TRACE_LIMIT input input'
 AsksInput (Audit tables certificate) input input' = AsksUpTo TRACE_LIMIT input input'
 AsksInput _ input input' = input' ≡ input
@@ -67,6 +70,7 @@ AsksInput _ input input' = input' ≡ input
 abbrev pub sources_in : Order → ℕ → SourceState → ℕ
 sources_in (Decode format) failed input = failed + input.failed
 sources_in (Survey tables) failed input = failed + input.failed
+sources_in (Trace tables from) failed input = failed + input.failed
 sources_in (Replay tables all) failed input = failed + input.failed
 sources_in (Audit tables certificate) failed input = failed + input.failed
 sources_in _ failed input = failed
@@ -100,6 +104,9 @@ ReportsOrder (Margins tables (Some certificate) microseconds drift) holds failed
 ReportsOrder (Survey tables) holds failed input input' sink sink' exit =
     (rows capture : List ℕ) → holds tables.now ≡ Some rows → input.remaining ≡ Some capture
     → ReportsSurvey rows capture sink.contents sink'.contents (0 + input.failed) (failed + input'.failed) sink.failed sink'.failed exit
+ReportsOrder (Trace tables from) holds failed input input' sink sink' exit =
+    (rows capture : List ℕ) → holds tables.now ≡ Some rows → input.remaining ≡ Some capture
+    → ReportsTrace from rows capture sink.contents sink'.contents (0 + input.failed) (failed + input'.failed) sink.failed sink'.failed exit
 ReportsOrder (Replay tables all) holds failed input input' sink sink' exit =
     (rows trace : List ℕ) → holds tables.now ≡ Some rows → input.remaining ≡ Some trace
     → ReportsReplay all rows trace sink.contents sink'.contents (0 + input.failed) (failed + input'.failed) sink.failed sink'.failed exit

@@ -9,7 +9,7 @@ ghost use Rattle.dc_program.specs.Orders.{AsksInput};
 ghost use Rattle.dc_program.specs.World.{IsNew};
 
 use crate::crews::ByThreads;
-use crate::engines::{audit, bench, check, check_by, decode, explain, find, replay, survey};
+use crate::engines::{audit, bench, check, check_by, decode, explain, find, replay, survey, trace};
 use crate::optional::{margins, page};
 use crate::world::World;
 use dc_answer::Exit;
@@ -69,6 +69,7 @@ fn obey<'a, W: World<'a>, S: Source, K: Sink, H: ByThreads>(
             margins(alloc, world, sink, tables, certificate, told)
         }
         Order::Survey { tables } => survey(alloc, world, input, sink, tables),
+        Order::Trace { tables, from } => trace(alloc, world, input, sink, tables, from),
         Order::Replay { tables, all } => replay(alloc, world, input, sink, tables, all),
         Order::Audit {
             tables,

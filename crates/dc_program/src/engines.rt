@@ -4,7 +4,7 @@ ghost use Rattle.dc_answer.specs.Judging.{Leaves};
 ghost use Rattle.dc_device.specs.States.{AsksUpTo, CanFail, IsCountable, SourceState};
 ghost use Rattle.dc_event.specs.declared.trace_reader.TheConstants.{TRACE_LIMIT};
 ghost use Rattle.dc_capture.specs.declared.capture_lines.TheConstants.{CAPTURE_LIMIT};
-ghost use Rattle.dc_command.specs.declared.asked.Order.TheVariants.{Audit, Bench, Check, Decode, Explain, Find, Replay, Survey};
+ghost use Rattle.dc_command.specs.declared.asked.Order.TheVariants.{Audit, Bench, Check, Decode, Explain, Find, Replay, Survey, Trace};
 ghost use Rattle.dc_program.specs.Carries.{Carries};
 ghost use Rattle.dc_program.specs.Orders.{stream_limit};
 ghost use Rattle.dc_program.specs.World.{IsNew};
@@ -18,6 +18,7 @@ use dc_device::{Sink, Source};
 use dc_run::{run_audit, run_check, run_decode, run_find, run_replay};
 use dc_run_explain::run_explain;
 use dc_run_survey::run_survey;
+use dc_run_trace::run_trace;
 use dc_word::Format;
 use std::alloc::Global;
 
@@ -113,6 +114,29 @@ pub fn survey<'a, W: World<'a>, S: Source, K: Sink>(
 {
     match open_one(world, tables) {
         Ok(mut tables) => run_survey(alloc, &mut tables, input, sink),
+        Err(why) => end_unopened(why, sink),
+    }
+}
+
+/// Writes the capture on standard input as a trace.
+pub fn trace<'a, W: World<'a>, S: Source, K: Sink>(
+    alloc: Global,
+    world: &mut W,
+    input: &mut S,
+    sink: &mut K,
+    tables: &'a str,
+    from: Option<u64>,
+) -> Exit
+    requires new { IsNew (W.state world.old) }
+    requires input { IsCountable (S.state input.old) }
+    requires sink { CanFail (K.state sink.old) }
+    ensures carries { Carries (Trace tables.entry from) (W.state world.old) (W.state world.new) (S.state input.old) (S.state input.new) (K.state sink.old)
+        (K.state sink.new) result }
+    ensures asks { AsksUpTo CAPTURE_LIMIT (S.state input.old) (S.state input.new) }
+    ensures left { Leaves (K.state sink.old) (K.state sink.new) }
+{
+    match open_one(world, tables) {
+        Ok(mut tables) => run_trace(alloc, from, &mut tables, input, sink),
         Err(why) => end_unopened(why, sink),
     }
 }

@@ -177,6 +177,7 @@ fn the_first_opening_is_refused(rt: HostRuntime) -> Result<(), Fail> {
     assert!(rt; stops(&rt, "dc429 margins T", 1, 1)?);
     assert!(rt; stops(&rt, "dc429 margins T C", 1, 1)?);
     assert!(rt; stops(&rt, "dc429 survey T", 1, 1)?);
+    assert!(rt; stops(&rt, "dc429 trace T", 1, 1)?);
     assert!(rt; stops(&rt, "dc429 replay T", 1, 1)?);
     assert!(rt; stops(&rt, "dc429 audit T C", 1, 1)?);
     assert!(rt; stops(&rt, "dc429 bench T C", 1, 1)?);

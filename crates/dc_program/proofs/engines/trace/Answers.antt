@@ -1,0 +1,19 @@
+use Rattle.std.proofs.Common.{◌+◌, refl}
+use Rattle.dc_answer.specs.Answer.{Any, Reported}
+use Rattle.dc_command.specs.declared.asked.Order.TheVariants.{Trace}
+use Rattle.dc_run_trace.specs.Answer.{ReportsTrace}
+use Rattle.dc_program.proofs.Running.{of_one, ran, text_and_input}
+use Rattle.dc_program.proofs.engines.trace.Goals as goal
+
+pub returns-in-Ok-clause-carries : goal.returns-in-Ok-clause-carries
+returns-in-Ok-clause-carries g c =
+    let sink = g.K.Sink.state c.args.sink.now in
+    let sink' = g.K.Sink.state c.run_trace.new.sink in
+    let input = g.S.Source.state c.args.input.now in
+    let input' = g.S.Source.state c.run_trace.new.capture in
+    let failed = (g.W.File.Source.state c.run_trace.new.tables).failed in
+    ran (Trace c.args.tables c.args.from) _ _ _ _ _ input input' failed c.in-Ok.ensures.opened refl
+    (text_and_input (λ rows capture n. ReportsTrace c.args.from rows capture sink.contents sink'.contents (n + input.failed) (failed + input'.failed) sink.failed sink'.failed c.run_trace.result)
+    (g.W.File.Source.state c.in-Ok.tables) _ _ c.in-Ok.ensures.file c.run_trace.ensures.reports)
+    (of_one (λ n. Reported Any sink.contents sink'.contents (n + input.failed) (failed + input'.failed) sink.failed sink'.failed c.run_trace.result)
+    (g.W.File.Source.state c.in-Ok.tables) _ c.in-Ok.ensures.file c.run_trace.ensures.reported)
