@@ -30,8 +30,10 @@ static _Thread_local uint64_t made_calls;
 
 /* ---- allocations ---- */
 
-/* How many blocks were asked for and how many freed, the bytes that are not, which block is refused, and whether all behind it. */
-static long taken, freed, held, refused = -1;
+/* How many blocks this thread asked for and how many it freed, the bytes that it did not; which block is refused, and whether all
+   behind it. */
+static _Thread_local long taken, freed, held;
+static long refused = -1;
 static bool all_behind;
 
 void *__real_malloc(size_t size);
