@@ -20,7 +20,7 @@ quick:
 # The proved program, at build/dc429: first the libraries that it stands on, side by side.
 build:
 	@mkdir -p build
-	@cd crates/dc429 && $(RT) all check --jobs $(JOBS)
+	@RT=$(RT) scripts/prove --jobs $(JOBS) dc429
 	@cd crates/dc429 && $(RT) run -- decode bnr < stdin
 	@cp crates/dc429/out/dc429 build/dc429
 	@echo "built build/dc429"
