@@ -58,8 +58,10 @@ uninstall:
 deb:
 	@scripts/package
 
+# With a fixed number of lanes rt ci reckons no memory: it takes each crate for 10 GB that takes 3, and leaves processors idle for
+# minutes while the longest link waits.
 test:
-	@$(RT) ci
+	@RT_JOBS=$(JOBS) $(RT) ci
 
 # The built program on the rows of rows/, on texts and captures by chance and of the largest sizes, on the commands of
 # docs/recordings.md and of the tutorial, at its edges, under refused memory and failing devices; the library for C beside it; what
