@@ -1,4 +1,4 @@
-//! The texts that `find` and `margins` print, made of texts that are handed in, for a program that calls.
+//! The text that `find` prints, made of the text of tables that is handed in, for a program that calls.
 #![tactic(auto)]
 
 mod fault;
