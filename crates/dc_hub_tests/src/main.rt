@@ -5,6 +5,8 @@
 #[cfg(test)]
 mod calls;
 mod fixture;
+#[cfg(test)]
+mod plain;
 mod refused;
 #[cfg(test)]
 mod runs;

@@ -13,7 +13,7 @@ use std::sync::Arc;
 use std::test::Fail;
 
 /// Tables of one bus, one router and one output.
-fn one_bus(alloc: Global) -> Result<Tables, Fail> {
+pub fn one_bus(alloc: Global) -> Result<Tables, Fail> {
     let mut text = String::new(alloc);
     push_equal_tables(&mut text, 1, false)?;
     Ok(tables_of(alloc, text.as_str())?)

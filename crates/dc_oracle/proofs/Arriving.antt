@@ -33,15 +33,14 @@ use Rattle.dc_oracle.specs.declared.arrivals.ArrivalWatch.{ArrivalWatch}
 use Rattle.dc_oracle.specs.declared.life.Life.{Life}
 use Rattle.dc_oracle.specs.declared.replies.ReplyWatch.{ReplyWatch}
 use Rattle.dc_oracle.specs.Arrivals.{is_arrival, taken_bus, ArrivesOf, Arrives, Follows}
-use Rattle.dc_oracle.specs.BusData.{BusData}
-use Rattle.dc_oracle.specs.BusLog.{IsLog, IsLastTaken, no_log}
+use Rattle.dc_oracle.specs.BusLog.{IsLastTaken}
 use Rattle.dc_oracle.specs.Fresh.{AllMade}
 use Rattle.dc_oracle.specs.Life.{IsLife, lived, no_life}
 use Rattle.dc_oracle.specs.Replies.{Holds}
 use Rattle.dc_oracle.proofs.Living.{life-new, life-same, life-other, life-push}
 use Rattle.dc_event.specs.lemmas.Arrivals.{stream_of-there}
 use Rattle.dc_oracle.proofs.Replying.{taken-new}
-use Rattle.dc_oracle.proofs.Taking.{latest_came, came-same, came-next, entry-tick, stamped-by}
+use Rattle.dc_oracle.proofs.Taking.{latest_came, came-same, came-next, stamped-by}
 
 -- ---- the words that came to a bus
 
@@ -178,18 +177,16 @@ module _ (t : TableRows) (grow : QueuesGrow t) (run : List Event) (e : Event) wh
   follows-still w none still h = record {
     lives = λ s l. life-same (stream_row t s).maximum s (tick_after run) (tick_after (run ++ e ∷ [])) _ _ _ _ _ (omega (arith, tick-push run e))
         (arrivals-other t s run e (ap (only s) (none (stream_row t s).bus))) (came-none t (stream_row t s).bus run e (none (stream_row t s).bus)) (h.lives s l);
-    came = λ b l. h.came b l ∙ sym (bus_arrivals-other t b run e (none b));
     latest = λ s l. h.latest s l ∙ sym (arrived-same s (still (stream_row t s).bus));
   }
 
 -- ---- no events
 
-pub follows-new : (t : TableRows) (w : ArrivalWatch) → AllMade (λ _. no_life) no_life (length t.streams) w.lives.items → AllMade (λ _. []) [] (length t.buses) w.came.items → AllMade (λ _. None) None (length t.streams) w.latest.items → Follows t w []
-follows-new t w ls cs as' = record {
+pub follows-new : (t : TableRows) (w : ArrivalWatch) → AllMade (λ _. no_life) no_life (length t.streams) w.lives.items → AllMade (λ _. None) None (length t.streams) w.latest.items → Follows t w []
+follows-new t w ls as' = record {
   lives = λ s l. (
       let P : Life → Type 0 = λ x. IsLife (stream_row t s).maximum s (tick_after []) (ticks_of (arrivals t s [])) (came_words t (stream_row t s).bus []) x in
       subst P (sym (ls.1 s l)) (life-same (stream_row t s).maximum s (tick_after []) (tick_after []) [] _ [] _ no_life (omega arith) (arrivals-nil t s) (came-nil t (stream_row t s).bus) (life-new (stream_row t s).maximum s (tick_after []))));
-  came = λ b l. cs.1 b l ∙ sym (bus_arrivals-nil t b);
   latest = λ s l. as'.1 s l ∙ sym (arrived-new t s);
 }
 
@@ -202,10 +199,10 @@ only_other : (s k : ℕ) → (s ≡ k → ⊥) → only k (Some s) ≡ None
 only_other s k other = ap (λ b. cond b (Some s) None) (ne_eqb s k other)
 
 pub follows-arrive : (t : TableRows) (v : AreValid t) (grow : QueuesGrow t) (old new : ArrivalWatch) (run : List Event) (b w s tick : ℕ) → ArrivesOf t run b w s → tick ≡ tick_after run
-    → length old.lives.items ≡ length t.streams → length old.came.items ≡ length t.buses → b < length t.buses
-    → new.lives.items ≡ set old.lives.items s (lived (stream_row t s).maximum tick w (get_or old.lives.items s no_life)) → new.came.items ≡ set old.came.items b (get_or old.came.items b [] ++ tick ∷ []) → new.latest.items ≡ old.latest.items
+    → length old.lives.items ≡ length t.streams → b < length t.buses
+    → new.lives.items ≡ set old.lives.items s (lived (stream_row t s).maximum tick w (get_or old.lives.items s no_life)) → new.latest.items ≡ old.latest.items
     → Follows t old run → Follows t new (run ++ Arrive w b ∷ [])
-follows-arrive t v grow old new run b w s tick a clock lives_sized came_sized bus_there lives cames latests h =
+follows-arrive t v grow old new run b w s tick a clock lives_sized bus_there lives latests h =
     let e = Arrive w b in
     let still : tick_after (run ++ Arrive w b ∷ []) ≡ tick_after run = calm run (Arrive w b) refl in
     let some : 1 ≤ (stream_row t s).maximum = omega (arith, v.minimums s a.there, v.maximums s a.there) in
@@ -236,14 +233,6 @@ follows-arrive t v grow old new run b w s tick a clock lives_sized came_sized bu
                   life-same (stream_row t k).maximum k (tick_after run) (tick_after (run ++ Arrive w b ∷ [])) _ _ _ _ _ (omega (arith, still))
                   (arrivals-other t k run (Arrive w b) (ap (only k) none)) (came-none t (stream_row t k).bus run (Arrive w b) none) (h.lives k l)
             ])
-      ];
-      came = λ c l. ap (λ xs. get_or xs c []) cames ∙ elim (cases_eq b c) [
-        | inl same ↦
-            let P : ℕ → Type 0 = λ c. get_or (set old.came.items b (get_or old.came.items b [] ++ tick ∷ [])) c [] ≡ ticks_of (bus_arrivals t c (run ++ Arrive w b ∷ [])) in
-            subst P same (get_or-set_same old.came.items b _ [] (omega arith) ∙ ap (λ z. z ++ tick ∷ []) (h.came b bus_there) ∙ ap (λ n. ticks_of (bus_arrivals t b run) ++ n ∷ []) clock ∙ sym (bus_arrivals-push t b s run (Arrive w b) a.here))
-        | inr other ↦
-            let ne : c ≡ b → ⊥ = λ e. other (sym e) in
-            get_or-set_other old.came.items b c _ [] ne ∙ h.came c l ∙ sym (bus_arrivals-other t c run (Arrive w b) (a.elsewhere c other))
       ];
       latest = λ k l. ap (λ xs. get_or xs k None) latests ∙ h.latest k l ∙ sym (arrived-same t grow run (Arrive w b) k (still-arrive t run b w (stream_row t k).bus));
     }
@@ -352,67 +341,64 @@ module _ (t : TableRows) (grow : QueuesGrow t) (old new : ArrivalWatch) (run : L
       omega (arith, q, next, took.taken)
 
   -- the last word that was taken, by the log after it
-  module _ (d : BusData) (log : IsLog (room t b) d (moves t b (run ++ Route r ∷ []))) where
-    log_taken : d.taken ≡ suc (bus_taken t b run)
-    log_taken = log.count ∙ one_more
+  module _ (o : Option (ℕ × ℕ)) (log : IsLastTaken (room t b) (moves t b (run ++ Route r ∷ [])) o) where
+    pub some_taken : o ≡ None → ⊥
+    some_taken none = (let P : Option (ℕ × ℕ) → Type 0 = λ o. IsLastTaken (room t b) (moves t b (run ++ Route r ∷ [])) o in
+        let z : taken (room t b) (moves t b (run ++ Route r ∷ [])) ≡ 0 = subst P none log in omega (arith, z, one_more))
 
-    entered_le : bus_taken t b (run ++ Route r ∷ []) ≤ length d.words
-    entered_le = omega (arith, taken-le (room t b) (moves t b (run ++ Route r ∷ [])), ap (λ (xs : List (ℕ × ℕ)). length xs) log.words)
+    module _ (came_at s : ℕ) (last : o ≡ Some (came_at, s)) where
+      number : ℕ
+      number = bus_taken t b run
 
-    pub some_taken : IsLastTaken d None → ⊥
-    some_taken (inl none) = omega (arith, none, log_taken)
-    some_taken (inr over) = omega (arith, over, log_taken, entered_le, one_more)
+      parts : IsLastTaken (room t b) (moves t b (run ++ Route r ∷ [])) (Some (came_at, s))
+      parts = (let P : Option (ℕ × ℕ) → Type 0 = λ o. IsLastTaken (room t b) (moves t b (run ++ Route r ∷ [])) o in subst P last log)
 
-    module _ (number s : ℕ) (last : IsLastTaken d (Some (number, s))) where
-      number_is : number ≡ bus_taken t b run
-      number_is = omega (arith, last.0, log_taken)
+      before_it : bus_taken t b (run ++ Route r ∷ []) - 1 ≡ bus_taken t b run
+      before_it = omega (arith, one_more)
 
-      stream_is : s ≡ (bus_item t b (run ++ Route r ∷ []) number).0
-      stream_is = last.2 ∙ ap (λ (xs : List (ℕ × ℕ)). (get_or xs number (0, 0)).0) log.words
+      stream_is : s ≡ (bus_item t b (run ++ Route r ∷ []) (bus_taken t b run)).0
+      stream_is = parts.2 ∙ ap (λ n. (bus_item t b (run ++ Route r ∷ []) n).0) before_it
 
-      in_entered : number < length (entered (room t b) (moves t b (run ++ Route r ∷ [])))
-      in_entered = omega (arith, last.1, ap (λ (xs : List (ℕ × ℕ)). length xs) log.words)
+      came_is : came_at ≡ arrived_tick (bus_taken t b run) (moves t b (run ++ Route r ∷ []))
+      came_is = parts.1 ∙ ap (λ n. arrived_tick n (moves t b (run ++ Route r ∷ []))) before_it
+
+      in_entered : bus_taken t b run < length (entered (room t b) (moves t b (run ++ Route r ∷ [])))
+      in_entered = omega (arith, one_more, taken-le (room t b) (moves t b (run ++ Route r ∷ [])))
 
       own : (s < length t.streams) × ((stream_row t s).bus ≡ b)
       own =
           let P : ℕ → Type 0 = λ s. (s < length t.streams) × ((stream_row t s).bus ≡ b) in
-          subst P (sym stream_is) (stream_of-there t b _ _ (entered-declared t b (room t b) number (run ++ Route r ∷ []) in_entered))
-
-      came_is : get_or (ticks_of (bus_arrivals t b (run ++ Route r ∷ []))) number 0 ≡ arrived_tick number (moves t b (run ++ Route r ∷ []))
-      came_is = entry-tick (moves t b (run ++ Route r ∷ [])) number (omega (arith, in_entered, entered-le (room t b) (moves t b (run ++ Route r ∷ []))))
+          subst P (sym stream_is) (stream_of-there t b _ _ (entered-declared t b (room t b) (bus_taken t b run) (run ++ Route r ∷ []) in_entered))
 
       -- the latest of a stream on the bus, by the number
-      on_bus : (k : ℕ) → (stream_row t k).bus ≡ b → latest_arrived t k (run ++ Route r ∷ []) ≡ cond (is_of_stream k (bus_item t b (run ++ Route r ∷ []) number)) (Some (arrived_tick number (moves t b (run ++ Route r ∷ [])))) (latest_arrived t k run)
+      on_bus : (k : ℕ) → (stream_row t k).bus ≡ b → latest_arrived t k (run ++ Route r ∷ []) ≡ cond (is_of_stream k (bus_item t b (run ++ Route r ∷ []) (bus_taken t b run))) (Some came_at) (latest_arrived t k run)
       on_bus k same =
           let P : ℕ → Type 0 = λ c. bus_taken t c (run ++ Route r ∷ []) ≡ suc (bus_taken t c run) in
           let Q : ℕ → Type 0 = λ c. latest_arrived t k (run ++ Route r ∷ []) ≡ cond (is_of_stream k (bus_item t c (run ++ Route r ∷ []) (bus_taken t c run))) (Some (arrived_tick (bus_taken t c run) (moves t c (run ++ Route r ∷ [])))) (latest_arrived t k run) in
-          let R : ℕ → Type 0 = λ n. latest_arrived t k (run ++ Route r ∷ []) ≡ cond (is_of_stream k (bus_item t b (run ++ Route r ∷ []) n)) (Some (arrived_tick n (moves t b (run ++ Route r ∷ [])))) (latest_arrived t k run) in
-          subst R (sym number_is) (subst Q same (arrived-next t grow run (Route r) k (subst P (sym same) one_more)))
+          subst Q same (arrived-next t grow run (Route r) k (subst P (sym same) one_more))
+          ∙ ap (λ n. cond (is_of_stream k (bus_item t b (run ++ Route r ∷ []) (bus_taken t b run))) (Some n) (latest_arrived t k run)) (sym came_is)
 
-      pub follows-took : length old.latest.items ≡ length t.streams → b < length t.buses → new.lives.items ≡ old.lives.items → new.came.items ≡ old.came.items → new.latest.items ≡ set old.latest.items s (Some (get_or (get_or old.came.items b []) number 0))
+      pub follows-took : length old.latest.items ≡ length t.streams → b < length t.buses → new.lives.items ≡ old.lives.items → new.latest.items ≡ set old.latest.items s (Some came_at)
           → Follows t old run → Follows t new (run ++ Route r ∷ [])
-      follows-took sized bus_there lives cames latests h =
+      follows-took sized bus_there lives latests h =
           let none : (a : ℕ) → arrival_of t a run (Route r) ≡ None = λ a. refl in
           record {
             lives = λ k l. (let P : Life → Type 0 = λ x. IsLife (stream_row t k).maximum k (tick_after (run ++ Route r ∷ [])) (ticks_of (arrivals t k (run ++ Route r ∷ []))) (came_words t (stream_row t k).bus (run ++ Route r ∷ [])) x in
                 subst P (sym (ap (λ xs. get_or xs k no_life) lives))
                 (life-same (stream_row t k).maximum k (tick_after run) (tick_after (run ++ Route r ∷ [])) _ _ _ _ _ (omega (arith, tick-push run (Route r)))
                 (arrivals-other t k run (Route r) refl) (came-none t (stream_row t k).bus run (Route r) refl) (h.lives k l)));
-            came = λ c l. ap (λ xs. get_or xs c []) cames ∙ h.came c l ∙ sym (bus_arrivals-other t c run (Route r) refl);
             latest = λ k l. ap (λ xs. get_or xs k None) latests ∙ elim (cases_eq s k) [
               | inl mine ↦
-                  let P : ℕ → Type 0 = λ k. get_or (set old.latest.items s (Some (get_or (get_or old.came.items b []) number 0))) k None ≡ latest_arrived t k (run ++ Route r ∷ []) in
-                  let yes' : is_of_stream s (bus_item t b (run ++ Route r ∷ []) number) ≡ true = eq-eqb _ _ (sym stream_is) in
-                  let tick : get_or (get_or old.came.items b []) number 0 ≡ arrived_tick number (moves t b (run ++ Route r ∷ [])) =
-                  ap (λ xs. get_or xs number 0) (h.came b bus_there ∙ sym (bus_arrivals-other t b run (Route r) refl)) ∙ came_is in
-                  subst P mine (get_or-set_same old.latest.items s _ None (omega (arith, own.0)) ∙ ap (λ n. Some n) tick
-                  ∙ sym (on_bus s own.1 ∙ ap (λ v. cond v (Some (arrived_tick number (moves t b (run ++ Route r ∷ [])))) (latest_arrived t s run)) yes'))
+                  let P : ℕ → Type 0 = λ k. get_or (set old.latest.items s (Some came_at)) k None ≡ latest_arrived t k (run ++ Route r ∷ []) in
+                  let yes' : is_of_stream s (bus_item t b (run ++ Route r ∷ []) (bus_taken t b run)) ≡ true = eq-eqb _ _ (sym stream_is) in
+                  subst P mine (get_or-set_same old.latest.items s _ None (omega (arith, own.0))
+                  ∙ sym (on_bus s own.1 ∙ ap (λ v. cond v (Some came_at) (latest_arrived t s run)) yes'))
               | inr other ↦
                   let ne : k ≡ s → ⊥ = λ e. other (sym e) in
                   get_or-set_other old.latest.items s k _ None ne ∙ h.latest k l ∙ sym (elim (cases_eq (stream_row t k).bus b) [
                     | inl same ↦
-                        let no' : is_of_stream k (bus_item t b (run ++ Route r ∷ []) number) ≡ false = ne_eqb _ _ (λ e. other (stream_is ∙ e)) in
-                        on_bus k same ∙ ap (λ v. cond v (Some (arrived_tick number (moves t b (run ++ Route r ∷ [])))) (latest_arrived t k run)) no'
+                        let no' : is_of_stream k (bus_item t b (run ++ Route r ∷ []) (bus_taken t b run)) ≡ false = ne_eqb _ _ (λ e. other (stream_is ∙ e)) in
+                        on_bus k same ∙ ap (λ v. cond v (Some came_at) (latest_arrived t k run)) no'
                     | inr far ↦ arrived-same t grow run (Route r) k (still-elsewhere t run r (stream_row t k).bus (λ e. far (sym e ∙ sym took.bus)))
                   ])
             ];

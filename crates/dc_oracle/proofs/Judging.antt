@@ -68,7 +68,7 @@ flat_map-in f (x ∷ xs) c there =
       | inr later ↦ let r = flat_map-in f xs c later in (suc r.0, omega (arith, r.1), r.2)
     ]
 
-copied-there : (t : TableRows) (x : ℕ) (now : List Event) (a : ℕ × ℕ) → AreValid t → x < length t.labels → chosen_source t x now ≡ Some a → a.0 < length t.streams
+pub copied-there : (t : TableRows) (x : ℕ) (now : List Event) (a : ℕ × ℕ) → AreValid t → x < length t.labels → chosen_source t x now ≡ Some a → a.0 < length t.streams
 unfolding chosen_source
 copied-there t x now a v there is =
     let r = flat_map-in (fresh t x now) (label_row t x).sources a (choice-in (λ d. is_usable (label_row t x).format d.1) (flat_map (fresh t x now) (label_row t x).sources) a is) in

@@ -1,4 +1,5 @@
 pub mod Histories
+pub mod Kept
 pub mod Wires
 pub mod Places
 pub mod Sourcing
@@ -15,3 +16,4 @@ pub mod Arriving
 pub mod Emitting
 pub mod Judging
 pub mod Claiming
+pub mod Coursing

@@ -32,9 +32,9 @@ use Rattle.dc_event.specs.declared.event.Reply.TheVariants.{BadParity, Undeclare
 use Rattle.dc_oracle.specs.declared.replies.ReplyWatch.{ReplyWatch}
 use Rattle.dc_oracle.specs.Fresh.{AllMade}
 use Rattle.dc_oracle.specs.BusData.{BusData}
-use Rattle.dc_oracle.specs.BusLog.{IsLog, Received, no_log}
+use Rattle.dc_oracle.specs.BusLog.{IsLog, Received, new_log, no_log}
 use Rattle.dc_oracle.specs.Replies.{Holds, Replies}
-use Rattle.dc_oracle.proofs.Logs.{log-new, log-tick}
+use Rattle.dc_oracle.proofs.Logs.{log-new, log-tick, waiting-length, first-waiting}
 use Rattle.dc_oracle.proofs.Entries.{due-late}
 
 -- ---- no events
@@ -59,7 +59,7 @@ no_ticks : 0 ≡ tick_after []
 unfolding ticks
 no_ticks = refl
 
-pub holds-new : (t : TableRows) (w : ReplyWatch) → w.tick ≡ 0 → AllMade (λ _. no_log) no_log (length t.buses) w.buses.items → AllMade (λ _. None) None (length t.streams) w.latest.items
+pub holds-new : (t : TableRows) (w : ReplyWatch) → w.tick ≡ 0 → AllMade (λ b. new_log (room t b)) no_log (length t.buses) w.buses.items → AllMade (λ _. None) None (length t.streams) w.latest.items
     → AllMade (λ _. 0) 0 (length t.routers) w.cursors.items → AllMade (λ _. 0) 0 (length t.outputs) w.sent.items → Holds t w []
 holds-new t w start bs ls rs os = record {
   clock = start ∙ no_ticks;
@@ -322,9 +322,9 @@ module _ (t : TableRows) (old new : ReplyWatch) (run : List Event) (r b : ℕ) (
 
   -- ---- an empty queue
 
-  module _ (none : length (get_or old.buses.items b no_log).words ≤ (get_or old.buses.items b no_log).taken) where
+  module _ (none : (get_or old.buses.items b no_log).words ≡ []) where
     empty_is : taken (room t b) (moves t b run ++ Visit ∷ []) ≡ taken (room t b) (moves t b run)
-    empty_is = omega (arith, (queue-visit (room t b) (moves t b run)).2, taken-le (room t b) (moves t b run), ap (λ (xs : List (ℕ × ℕ)). length xs) log_b.words, log_b.count, none)
+    empty_is = omega (arith, (queue-visit (room t b) (moves t b run)).2, taken-le (room t b) (moves t b run), ap (λ (xs : List (ℕ × (ℕ × ℕ))). length xs) (sym none ∙ log_b.words), waiting-length (room t b) (moves t b run))
 
     latest_empty : (s : ℕ) → latest t s (run ++ Route r ∷ []) ≡ latest t s run
     unfolding latest
@@ -346,12 +346,12 @@ module _ (t : TableRows) (old new : ReplyWatch) (run : List Event) (r b : ℕ) (
 
   -- ---- a word is taken
 
-  module _ (x : ℕ × ℕ) (some : (get_or old.buses.items b no_log).taken < length (get_or old.buses.items b no_log).words) (is : x ≡ get_or (get_or old.buses.items b no_log).words (get_or old.buses.items b no_log).taken (0, 0)) where
+  module _ (x : ℕ × ℕ) (some : 1 ≤ length (get_or old.buses.items b no_log).words) (is : x ≡ (get_or (get_or old.buses.items b no_log).words 0 (0, (0, 0))).1) where
     waits : taken (room t b) (moves t b run) < length (entered (room t b) (moves t b run))
-    waits = omega (arith, ap (λ (xs : List (ℕ × ℕ)). length xs) log_b.words, log_b.count, some)
+    waits = omega (arith, ap (λ (xs : List (ℕ × (ℕ × ℕ))). length xs) log_b.words, waiting-length (room t b) (moves t b run), some)
 
     item_is : x ≡ item (room t b) (moves t b run) (taken (room t b) (moves t b run))
-    item_is = is ∙ ap (λ n. get_or (get_or old.buses.items b no_log).words n (0, 0)) log_b.count ∙ ap (λ (xs : List (ℕ × ℕ)). get_or xs (taken (room t b) (moves t b run)) (0, 0)) log_b.words
+    item_is = is ∙ ap (λ (xs : List (ℕ × (ℕ × ℕ))). (get_or xs 0 (0, (0, 0))).1) log_b.words ∙ ap (λ (z : ℕ × (ℕ × ℕ)). z.1) (first-waiting (room t b) (moves t b run) waits)
 
     declared : stream_of t b x.1 ≡ Some x.0
     declared =

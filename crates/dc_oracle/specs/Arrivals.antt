@@ -3,7 +3,7 @@ use Rattle.std.specs.Prelude.{◌≡◌, ℕ, ◌<◌, Bool, true, false, Option
 use Rattle.dc_bound.specs.Window.{ticks_of}
 use Rattle.dc_tables.specs.TableRows.{TableRows, stream_row}
 use Rattle.dc_event.specs.Time.{tick_after}
-use Rattle.dc_event.specs.Buses.{bus_arrivals, arrivals, arrival_of}
+use Rattle.dc_event.specs.Buses.{arrivals, arrival_of}
 use Rattle.dc_event.specs.Latest.{latest_arrived}
 use Rattle.dc_event.specs.Alive.{came_words}
 use Rattle.dc_event.specs.declared.event.Event.{Event}
@@ -53,14 +53,12 @@ abbrev pub Arrives : TableRows → List Event → ℕ → ℕ → Option ℕ →
 Arrives t run b w None = (a : ℕ) → arrival_of t a run (Arrive w b) ≡ None
 Arrives t run b w (Some s) = ArrivesOf t run b w s
 
--- a part for each stream and each bus of the tables
+-- a part for each stream of the tables
 pub record IsSized (t : TableRows) (w : ArrivalWatch) : Type 0 where
   pub lives : length w.lives.items ≡ length t.streams
-  pub came : length w.came.items ≡ length t.buses
   pub latest : length w.latest.items ≡ length t.streams
 
--- how the streams have come, the ticks of the words that came, and those of the latest words are those of the run
+-- how the streams have come, and the ticks of the latest words, are those of the run
 pub record Follows (t : TableRows) (w : ArrivalWatch) (run : List Event) : Type 0 where
   pub lives : (s : ℕ) → s < length t.streams → IsLife (stream_row t s).maximum s (tick_after run) (ticks_of (arrivals t s run)) (came_words t (stream_row t s).bus run) (slice_index_or w.lives.items s no_life)
-  pub came : (b : ℕ) → b < length t.buses → slice_index_or w.came.items b [] ≡ ticks_of (bus_arrivals t b run)
   pub latest : (s : ℕ) → s < length t.streams → slice_index_or w.latest.items s None ≡ latest_arrived t s run

@@ -1,19 +1,33 @@
 -- What is carried along the moves of a bus.
-use Rattle.std.specs.Prelude.{◌≡◌, ℕ, ◌+◌, ◌-◌, ◌<◌, ◌≤◌, ◌⊎◌, if◌then◌else◌, false, Option, Some, None, is_some, MatchOption, List, [], ◌∷◌, ◌++◌, length, slice_index_or}
-use Rattle.dc_bound.specs.Moves.{Move, latch, entered, taken}
+use Rattle.std.specs.Prelude.{◌≡◌, ℕ, ◌+◌, ◌-◌, ◌≤◌, if◌then◌else◌, false, Option, Some, None, is_some, List, [], ◌∷◌, ◌++◌, length, take, drop}
+use Rattle.dc_bound.specs.Run.{stamped}
+use Rattle.dc_bound.specs.Moves.{Move, move_ends, came, latch, entered, taken, item, arrived_tick}
 use Rattle.dc_bound.specs.Moves.Move.{In}
 use Rattle.dc_event.specs.declared.event.Reply.{Reply}
 use Rattle.dc_event.specs.declared.event.Reply.TheVariants.{Queued, Overrun, Latched}
 use Rattle.dc_oracle.specs.BusData.{BusData}
 
 -- a bus that brought nothing
-abbrev pub no_log : BusData
-no_log = record { words = []; taken = 0; latched = false }
+abbrev pub new_log : ℕ → BusData
+new_log room = record { words = []; last = None; latched = false; room = room }
 
--- the log holds what entered the queue, how much of it was taken, and whether the bus has latched
+abbrev pub no_log : BusData
+no_log = new_log 0
+
+-- the words that entered the queue and were not taken, as (tick in which it came, (number of the stream, word))
+unfoldable pub waiting : ℕ → List Move → List (ℕ × (ℕ × ℕ))
+waiting room ms = drop (taken room ms) (take (length (entered room ms)) (stamped move_ends came 0 ms))
+
+-- the last that was taken, as (tick in which it came, number of the stream)
+abbrev pub IsLastTaken : ℕ → List Move → Option (ℕ × ℕ) → Type 0
+IsLastTaken room ms None = taken room ms ≡ 0
+IsLastTaken room ms (Some x) = (1 ≤ taken room ms) × (x.0 ≡ arrived_tick (taken room ms - 1) ms) × (x.1 ≡ (item room ms (taken room ms - 1)).0)
+
+-- the log holds what waits in the queue, the last word that was taken, and whether the bus has latched
 pub record IsLog (room : ℕ) (log : BusData) (ms : List Move) : Type 0 where
-  pub words : log.words ≡ entered room ms
-  pub count : log.taken ≡ taken room ms
+  pub room_is : log.room ≡ room
+  pub words : log.words ≡ waiting room ms
+  pub last : IsLastTaken room ms log.last
   pub flag : log.latched ≡ is_some (latch room ms)
 
 -- the reply of a queue to a declared word
@@ -27,13 +41,3 @@ queue_reply room ms x =
 pub record Received (room : ℕ) (new : BusData) (ms : List Move) (x : ℕ × ℕ) (r : Reply) : Type 0 where
   pub holds : IsLog room new (ms ++ In x ∷ [])
   pub answer : r ≡ queue_reply room ms x
-
--- the word that is taken next, with the number of its stream; none where all are taken
-abbrev pub IsNextTaken : BusData → Option (ℕ × ℕ) → Type 0
-IsNextTaken log next =
-    MatchOption next (length log.words ≤ log.taken) (λ (x : ℕ × ℕ). (log.taken < length log.words) × (x ≡ slice_index_or log.words log.taken (0, 0)))
-
--- the last word that was taken, as its number and the number of its stream
-abbrev pub IsLastTaken : BusData → Option (ℕ × ℕ) → Type 0
-IsLastTaken log None = (log.taken ≡ 0) ⊎ (length log.words < log.taken)
-IsLastTaken log (Some x) = (x.0 + 1 ≡ log.taken) × (x.0 < length log.words) × (x.1 ≡ (slice_index_or log.words x.0 (0, 0)).0)

@@ -1,4 +1,5 @@
 pub mod History
+pub mod RecentData
 pub mod Fresh
 pub mod WireLoad
 pub mod Pace
@@ -12,3 +13,4 @@ pub mod Life
 pub mod Arrivals
 pub mod Emissions
 pub mod Claims
+pub mod Courses

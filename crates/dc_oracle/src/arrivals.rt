@@ -10,7 +10,6 @@ ghost use Rattle.dc_oracle.specs.Life.{no_life};
 ghost use Rattle.dc_event.specs.declared.event.Event.{Event};
 
 use crate::bus_log::BusLog;
-use crate::history::{History, no_histories};
 use crate::life::Life;
 use crate::replies::{ReplyWatch, all_of};
 use dc_event::laws::queues_grow;
@@ -19,12 +18,10 @@ use dc_tables::Tables;
 use dc_word::Word;
 use std::alloc::{AllocError, Global};
 
-/// What came to the buses so far: how each stream has come, the tick of each word that came to a bus, and the tick in
-/// which the latest word of each stream came.
+/// What came to the buses so far: how each stream has come, and the tick in which the latest word of each stream came.
 #[derive(Drop)]
 pub struct ArrivalWatch {
     lives: Vec<Life>,
-    came: Vec<History>,
     latest: Vec<Option<u64>>,
 }
 
@@ -93,7 +90,6 @@ impl ArrivalWatch {
         tables.valid();
         Ok(ArrivalWatch {
             lives: no_lives(alloc, tables.stream_count())?,
-            came: no_histories(alloc, tables.bus_count())?,
             latest: all_of(alloc, tables.stream_count(), None)?,
         })
     }
@@ -117,33 +113,21 @@ impl ArrivalWatch {
     }
 
     /// A word arrives.
-    fn arrive(
-        &mut self,
-        tables: &Tables,
-        bus: usize,
-        word: Word,
-        reply: &Reply,
-        tick: u64,
-    ) -> Result<(), AllocError>
+    fn arrive(&mut self, tables: &Tables, bus: usize, word: Word, reply: &Reply, tick: u64)
         requires sized { IsSized tables.now self.old }
         requires early { tick < 2 ^ 64 - 1 }
         ensures sized { IsSized tables.now self.new }
         ensures follows { (run : List Event) → Follows tables.now self.old run → tick ≡ tick_after run → bus < length tables.now.buses
             → reply.now ≡ reply_to tables.now run (Event.Arrive word bus)
-            → OnOk result (Follows tables.now self.new (run ++ Event.Arrive word bus ∷ [])) }
+            → Follows tables.now self.new (run ++ Event.Arrive word bus ∷ []) }
     {
         tables.valid();
         queues_grow(tables);
-        if bus >= self.came.len() {
-            return Ok(());
-        }
         let Some(stream) = arrival_of(tables, bus, word, reply) else {
-            return Ok(());
+            return;
         };
         let maximum = tables.stream(stream).maximum;
         self.lives[stream] = self.lives[stream].with(word, tick, maximum);
-        self.came[bus].add(tick)?;
-        Ok(())
     }
 
     /// A router makes a step.
@@ -160,13 +144,13 @@ impl ArrivalWatch {
         let Some(bus) = taken_bus(reply) else {
             return;
         };
-        if bus >= self.came.len() {
+        if bus >= tables.bus_count() {
             return;
         }
-        let Some((number, stream)) = replies.log(bus).last_taken() else {
+        let Some((came, stream)) = replies.log(bus).last_taken() else {
             return;
         };
-        note(&mut self.latest, stream, self.came[bus].at(number));
+        note(&mut self.latest, stream, came);
     }
 
     /// Follows the event, with the reply to it and the state of the replies after it.
@@ -177,23 +161,20 @@ impl ArrivalWatch {
         event: &Event,
         reply: &Reply,
         tick: u64,
-    ) -> Result<(), AllocError>
+    )
         requires sized { IsSized tables.now self.old }
         requires replies { AreReplies tables.now replies.now }
         requires early { tick < 2 ^ 64 - 1 }
         ensures sized { IsSized tables.now self.new }
         ensures follows { (run : List Event) → Follows tables.now self.old run → tick ≡ tick_after run
             → Holds tables.now replies.now (run ++ event.now ∷ []) → IsNumbered tables.now event.now → reply.now ≡ reply_to tables.now run event.now
-            → OnOk result (Follows tables.now self.new (run ++ event.now ∷ [])) }
+            → Follows tables.now self.new (run ++ event.now ∷ []) }
     {
         queues_grow(tables);
         match *event {
             Event::Arrive(word, bus) => self.arrive(tables, bus, word, reply, tick),
-            Event::Route(router) => {
-                self.route(tables, replies, router, reply);
-                Ok(())
-            }
-            Event::Tick | Event::Send(_) => Ok(()),
+            Event::Route(router) => self.route(tables, replies, router, reply),
+            Event::Tick | Event::Send(_) => {}
         }
     }
 }

@@ -1,19 +1,45 @@
 //! Whether actors keep their budgets.
 
-ghost use Rattle.std.specs.Prelude.{◌≡◌, ℕ, ◌-◌, ◌<◌, ◌^◌, List, [], IfOk};
+ghost use Rattle.std.specs.Prelude.{◌≡◌, ℕ, ◌+◌, ◌-◌, ◌<◌, ◌≤◌, ◌^◌, List, [], length, IfOk};
+ghost use Rattle.dc_oracle.specs.Fresh.{AllMade};
+ghost use Rattle.dc_oracle.specs.Budgets.{last_steps, router_room, output_room, no_steps};
 ghost use Rattle.dc_event.specs.Breaks.{BreaksBudgetsAt};
 
-use crate::history::{History, no_histories};
+use crate::recent::Recent;
 use dc_event::Event;
 use dc_tables::Tables;
 use std::alloc::{AllocError, Global};
 
-/// What the actors have done so far: the ticks of each router's steps and of each output's sends.
+/// What the actors have done last: the ticks of each router's last steps and of each output's last sends.
 #[derive(Drop)]
 pub struct BudgetWatch {
     tick: u64,
-    routers: Vec<History>,
-    outputs: Vec<History>,
+    routers: Vec<Recent>,
+    outputs: Vec<Recent>,
+}
+
+/// No steps of any router.
+fn no_router_steps(alloc: Global, tables: &Tables) -> Result<Vec<Recent>, AllocError>
+    ensures { IfOk result (λ v. AllMade (λ r. last_steps (router_room tables.now r) []) no_steps (length tables.now.routers) v.items) }
+{
+    let mut routers = Vec::new(alloc);
+    for router in 0..tables.router_count() {
+        let row = tables.router(router);
+        routers.push(Recent::new(alloc, row.steps.max(row.most))?)?;
+    }
+    Ok(routers)
+}
+
+/// No sends of any output.
+fn no_output_steps(alloc: Global, tables: &Tables) -> Result<Vec<Recent>, AllocError>
+    ensures { IfOk result (λ v. AllMade (λ o. last_steps (output_room tables.now o) []) no_steps (length tables.now.outputs) v.items) }
+{
+    let mut outputs = Vec::new(alloc);
+    for output in 0..tables.output_count() {
+        let row = tables.output(output);
+        outputs.push(Recent::new(alloc, row.steps)?)?;
+    }
+    Ok(outputs)
 }
 
 impl BudgetWatch {
@@ -21,52 +47,55 @@ impl BudgetWatch {
     ghost use Rattle.dc_event.specs.declared.event.Event.{Event};
 
     /// Before any event.
-    fn new(alloc: Global, tables: &Tables) -> Result<BudgetWatch, AllocError>
+    pub fn new(alloc: Global, tables: &Tables) -> Result<BudgetWatch, AllocError>
         ensures sized { IfOk result (λ w. IsSized tables.now w) }
+        ensures tick { IfOk result (λ w. w.tick ≡ 0) }
         ensures watches { IfOk result (λ w. Watches tables.now w []) }
     {
         tables.valid();
         Ok(BudgetWatch {
             tick: 0,
-            routers: no_histories(alloc, tables.router_count())?,
-            outputs: no_histories(alloc, tables.output_count())?,
+            routers: no_router_steps(alloc, tables)?,
+            outputs: no_output_steps(alloc, tables)?,
         })
     }
 
     /// A router makes a step. Whether the tick has room for it.
-    fn route(&mut self, tables: &Tables, router: usize) -> Result<bool, AllocError>
+    fn route(&mut self, tables: &Tables, router: usize) -> bool
         requires sized { IsSized tables.now self.old }
         ensures sized { IsSized tables.now self.new }
-        ensures seen { (run : List Event) → Watches tables.now self.old run → IfOk result (Seen tables.now self.new run (Event.Route router)) }
+        ensures tick { self.new.tick ≡ self.old.tick }
+        ensures seen { (run : List Event) → Watches tables.now self.old run → Seen tables.now self.new run (Event.Route router) result }
     {
         tables.valid();
         if router >= self.routers.len() {
-            return Ok(true);
+            return true;
         }
         let most = tables.router(router).most;
         if self.routers[router].holds(most, 1, self.tick) {
-            return Ok(false);
+            return false;
         }
-        self.routers[router].add(self.tick)?;
-        Ok(true)
+        self.routers[router].add(self.tick);
+        true
     }
 
     /// An output makes a send step. Whether its gap is over.
-    fn send(&mut self, tables: &Tables, output: usize) -> Result<bool, AllocError>
+    fn send(&mut self, tables: &Tables, output: usize) -> bool
         requires sized { IsSized tables.now self.old }
         ensures sized { IsSized tables.now self.new }
-        ensures seen { (run : List Event) → Watches tables.now self.old run → IfOk result (Seen tables.now self.new run (Event.Send output)) }
+        ensures tick { self.new.tick ≡ self.old.tick }
+        ensures seen { (run : List Event) → Watches tables.now self.old run → Seen tables.now self.new run (Event.Send output) result }
     {
         tables.valid();
         if output >= self.outputs.len() {
-            return Ok(true);
+            return true;
         }
         let gap = tables.output(output).gap;
         if self.outputs[output].holds(1, gap, self.tick) {
-            return Ok(false);
+            return false;
         }
-        self.outputs[output].add(self.tick)?;
-        Ok(true)
+        self.outputs[output].add(self.tick);
+        true
     }
 
     /// Whether some router lacks steps at the end of the tick.
@@ -104,6 +133,7 @@ impl BudgetWatch {
         requires sized { IsSized tables.now self.old }
         requires early { self.old.tick < 2 ^ 64 - 1 }
         ensures sized { IsSized tables.now self.new }
+        ensures tick { self.new.tick ≤ self.old.tick + 1 }
         ensures seen { (run : List Event) → Watches tables.now self.old run → Seen tables.now self.new run Event.Tick result }
     {
         tables.valid();
@@ -118,17 +148,18 @@ impl BudgetWatch {
     }
 
     /// Whether the run with this event keeps the budgets, where the run before it does.
-    fn see(&mut self, tables: &Tables, event: Event) -> Result<bool, AllocError>
+    pub fn see(&mut self, tables: &Tables, event: Event) -> bool
         requires sized { IsSized tables.now self.old }
         requires early { self.old.tick < 2 ^ 64 - 1 }
         ensures sized { IsSized tables.now self.new }
-        ensures seen { (run : List Event) → Watches tables.now self.old run → IfOk result (Seen tables.now self.new run event) }
+        ensures tick { self.new.tick ≤ self.old.tick + 1 }
+        ensures seen { (run : List Event) → Watches tables.now self.old run → Seen tables.now self.new run event result }
     {
         match event {
-            Event::Arrive(_, _) => Ok(true),
+            Event::Arrive(_, _) => true,
             Event::Route(router) => self.route(tables, router),
             Event::Send(output) => self.send(tables, output),
-            Event::Tick => Ok(self.turn(tables)),
+            Event::Tick => self.turn(tables),
         }
     }
 }
@@ -147,7 +178,7 @@ pub fn keeps_budgets(
 {
     let mut watch = BudgetWatch::new(alloc, tables)?;
     for (i, event) in run.iter().enumerate() {
-        if !watch.see(tables, *event)? {
+        if !watch.see(tables, *event) {
             return Ok(Some(i + 1));
         }
     }

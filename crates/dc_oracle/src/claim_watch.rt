@@ -59,7 +59,7 @@ impl ClaimWatch {
     ghost use Rattle.dc_event.specs.declared.event.Event.{Event};
 
     /// Before any event.
-    fn new(alloc: Global, tables: &Tables) -> Result<ClaimWatch, AllocError>
+    pub fn new(alloc: Global, tables: &Tables) -> Result<ClaimWatch, AllocError>
         ensures sized { IfOk result (λ w. IsSized tables.now w) }
         ensures stands { IfOk result (λ w. StandsFor tables.now w []) }
         ensures tick { IfOk result (λ w. w.replies.tick ≡ 0) }
@@ -74,12 +74,12 @@ impl ClaimWatch {
     }
 
     /// The least claim that fails at the event, if one does, by the certificate's ages.
-    fn see(
+    pub fn see(
         &mut self,
         tables: &Tables,
         certificate: &Certificate,
         event: &Event,
-    ) -> Result<Option<Claim>, AllocError>
+    ) -> Option<Claim>
         requires sized { IsSized tables.now self.old }
         requires early { self.old.replies.tick < 2 ^ 64 - 1 }
         requires police_early { self.old.police.tick < 2 ^ 64 - 1 }
@@ -87,20 +87,20 @@ impl ClaimWatch {
         ensures tick { self.new.replies.tick ≤ self.old.replies.tick + 1 }
         ensures police_tick { self.new.police.tick ≤ self.old.police.tick + 1 }
         ensures seen { (run : List Event) → StandsFor tables.now self.old run → IsNumbered tables.now event.now
-            → IfOk result (Seen tables.now (certificate_rows certificate.now).ages self.new run event.now) }
+            → Seen tables.now (certificate_rows certificate.now).ages self.new run event.now result }
     {
         let tick = self.replies.tick();
         let in_time = self.emissions.is_in_time(tables, tick);
         let emitted = self.replies.emits(tables, event);
         let spaced = self.emissions.is_spaced(tables, emitted, tick);
         self.emissions.emit(tables, emitted, tick);
-        let reply = answer(&mut self.replies, &mut self.police, tables, event)?;
+        let reply = answer(&mut self.replies, &mut self.police, tables, event);
         self.arrivals
-            .follow(tables, &self.replies, event, &reply, tick)?;
+            .follow(tables, &self.replies, event, &reply, tick);
         let young = is_sent_young(&self.replies, &self.arrivals, tables, certificate, emitted);
         let live = is_sent_live(&self.replies, &self.arrivals, tables, emitted);
         let fits = fits(&reply);
-        Ok(first_of(fits, young, live, in_time, spaced))
+        first_of(fits, young, live, in_time, spaced)
     }
 }
 
@@ -120,7 +120,7 @@ pub fn claims(
 {
     let mut watch = ClaimWatch::new(alloc, tables)?;
     for (i, event) in run.iter().enumerate() {
-        if let Some(claim) = watch.see(tables, certificate, event)? {
+        if let Some(claim) = watch.see(tables, certificate, event) {
             return Ok(Some((claim, i + 1)));
         }
     }

@@ -93,7 +93,7 @@ impl ReplyWatch {
         tables.valid();
         Ok(ReplyWatch {
             tick: 0,
-            buses: no_logs(alloc, tables.bus_count())?,
+            buses: no_logs(alloc, tables)?,
             latest: all_of(alloc, tables.stream_count(), None)?,
             cursors: all_of(alloc, tables.router_count(), 0)?,
             sent: all_of(alloc, tables.output_count(), 0)?,
@@ -101,24 +101,23 @@ impl ReplyWatch {
     }
 
     /// A word arrives.
-    fn arrive(&mut self, tables: &Tables, bus: usize, word: Word) -> Result<Reply, AllocError>
+    fn arrive(&mut self, tables: &Tables, bus: usize, word: Word) -> Reply
         requires sized { IsSized tables.now self.old }
         ensures sized { IsSized tables.now self.new }
         ensures tick { self.new.tick ≡ self.old.tick }
         ensures reply { (run : List Event) → Holds tables.now self.old run → bus < length tables.now.buses
-            → is_refused tables.now run (Event.Arrive word bus) ≡ false → IfOk result (Replies tables.now self.new run (Event.Arrive word bus)) }
+            → is_refused tables.now run (Event.Arrive word bus) ≡ false → Replies tables.now self.new run (Event.Arrive word bus) result }
     {
         if !word.is_odd() {
-            return Ok(Reply::BadParity);
+            return Reply::BadParity;
         }
         let Some(stream) = tables.stream_of(bus, word) else {
-            return Ok(Reply::Undeclared);
+            return Reply::Undeclared;
         };
         if bus >= self.buses.len() {
-            return Ok(Reply::Undeclared);
+            return Reply::Undeclared;
         }
-        let room = tables.queue(bus);
-        self.buses[bus].receive(room, stream, word)
+        self.buses[bus].receive(stream, word, self.tick)
     }
 
     /// A router makes a step. A step of a router that is not there is reported as idle.
@@ -216,6 +215,16 @@ impl ReplyWatch {
         &self.buses[bus]
     }
 
+    /// The tick in which the output's next entry is due, at most 2^64 - 1.
+    pub fn next_due(&self, tables: &Tables, output: usize) -> u64
+        requires sized { IsSized tables.now self.now }
+        requires there { output < length tables.now.outputs }
+        ensures { result ≡ min (due_tick tables.now output (slice_index_or self.now.sent.items output 0)) (2 ^ 64 - 1) }
+    {
+        let (_, due) = entry(tables, output, self.sent[output]);
+        due
+    }
+
     /// The number of the label that the event emits, if it emits one.
     pub fn emits(&self, tables: &Tables, event: &Event) -> Option<usize>
         requires sized { IsSized tables.now self.now }
@@ -285,19 +294,19 @@ impl ReplyWatch {
     }
 
     /// The reply to an event.
-    fn see(&mut self, tables: &Tables, event: Event) -> Result<Reply, AllocError>
+    fn see(&mut self, tables: &Tables, event: Event) -> Reply
         requires sized { IsSized tables.now self.old }
         requires early { self.old.tick < 2 ^ 64 - 1 }
         ensures sized { IsSized tables.now self.new }
         ensures tick { self.new.tick ≤ self.old.tick + 1 }
         ensures reply { (run : List Event) → Holds tables.now self.old run → IsNumbered tables.now event → is_refused tables.now run event ≡ false
-            → IfOk result (Replies tables.now self.new run event) }
+            → Replies tables.now self.new run event result }
     {
         match event {
             Event::Arrive(word, bus) => self.arrive(tables, bus, word),
-            Event::Route(router) => Ok(self.route(tables, router)),
-            Event::Send(output) => Ok(self.send(tables, output)),
-            Event::Tick => Ok(self.turn(tables)),
+            Event::Route(router) => self.route(tables, router),
+            Event::Send(output) => self.send(tables, output),
+            Event::Tick => self.turn(tables),
         }
     }
 }
@@ -314,12 +323,7 @@ fn is_wanted(usable: bool, tables: &Tables, label: usize, word: Word) -> bool
 }
 
 /// The reply to an event: a word that its bus refuses comes no further.
-pub fn answer(
-    watch: &mut ReplyWatch,
-    police: &mut Police,
-    tables: &Tables,
-    event: &Event,
-) -> Result<Reply, AllocError>
+pub fn answer(watch: &mut ReplyWatch, police: &mut Police, tables: &Tables, event: &Event) -> Reply
     requires sized { IsSized tables.now watch.old }
     requires paces { length police.old.paces.items ≡ length tables.now.streams }
     requires early { watch.old.tick < 2 ^ 64 - 1 }
@@ -329,12 +333,12 @@ pub fn answer(
     ensures tick { watch.new.tick ≤ watch.old.tick + 1 }
     ensures police_tick { police.new.tick ≤ police.old.tick + 1 }
     ensures reply { (run : List Event) → Holds tables.now watch.old run → Polices tables.now police.old run → IsNumbered tables.now event.now
-        → IfOk result (Replies tables.now watch.new run event.now) }
+        → Replies tables.now watch.new run event.now result }
     ensures judges { (run : List Event) → Polices tables.now police.old run → IsNumbered tables.now event.now
         → Polices tables.now police.new (run ++ event.now ∷ []) }
 {
     if police.refuses(tables, event) {
-        return Ok(Reply::TooEarly);
+        return Reply::TooEarly;
     }
     watch.see(tables, *event)
 }
@@ -351,7 +355,7 @@ pub fn outputs(alloc: Global, tables: &Tables, run: &[Event]) -> Result<Vec<Repl
     let mut police = Police::new(alloc, tables)?;
     let mut replies = Vec::new(alloc);
     for event in run {
-        let reply = answer(&mut watch, &mut police, tables, event)?;
+        let reply = answer(&mut watch, &mut police, tables, event);
         replies.push(reply)?;
     }
     Ok(replies)

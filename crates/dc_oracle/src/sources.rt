@@ -1,6 +1,6 @@
 //! Whether the sources of buses that are not policed keep their caps and their wires.
 
-ghost use Rattle.std.specs.Prelude.{◌≡◌, ◌-◌, ◌<◌, ◌^◌, List, [], IfOk};
+ghost use Rattle.std.specs.Prelude.{◌≡◌, ◌+◌, ◌-◌, ◌<◌, ◌≤◌, ◌^◌, List, [], IfOk};
 ghost use Rattle.dc_event.specs.Breaks.{BreaksSourcesAt};
 ghost use Rattle.dc_oracle.specs.Fresh.{AllMade};
 ghost use Rattle.dc_oracle.specs.Pace.{no_pace};
@@ -51,8 +51,9 @@ impl SourceWatch {
     ghost use Rattle.dc_event.specs.declared.event.Event.{Event};
 
     /// Before any event.
-    fn new(alloc: Global, tables: &Tables) -> Result<SourceWatch, AllocError>
+    pub fn new(alloc: Global, tables: &Tables) -> Result<SourceWatch, AllocError>
         ensures sized { IfOk result (λ w. IsSized tables.now w) }
+        ensures tick { IfOk result (λ w. w.tick ≡ 0) }
         ensures watches { IfOk result (λ w. Watches tables.now w []) }
     {
         tables.valid();
@@ -64,43 +65,45 @@ impl SourceWatch {
     }
 
     /// A word arrives. Whether its stream and its wire keep their rest.
-    fn arrive(&mut self, tables: &Tables, bus: usize, word: Word) -> Result<bool, AllocError>
+    fn arrive(&mut self, tables: &Tables, bus: usize, word: Word) -> bool
         requires sized { IsSized tables.now self.old }
         ensures sized { IsSized tables.now self.new }
-        ensures seen { (run : List Event) → Watches tables.now self.old run → IfOk result (Seen tables.now self.new run (Event.Arrive word bus)) }
+        ensures tick { self.new.tick ≡ self.old.tick }
+        ensures seen { (run : List Event) → Watches tables.now self.old run → Seen tables.now self.new run (Event.Arrive word bus) result }
     {
         tables.valid();
         if bus >= self.wires.len() || !word.is_odd() {
-            return Ok(true);
+            return true;
         }
         let Some(stream) = tables.stream_of(bus, word) else {
-            return Ok(true);
+            return true;
         };
         if tables.bus(bus).police {
-            return Ok(true);
+            return true;
         }
         let row = tables.stream(stream);
         if self.streams[stream].refuses(self.tick, row.minimum, row.jitter) {
-            return Ok(false);
+            return false;
         }
         let spacing = tables.bus(bus).spacing;
-        Ok(self.wires[bus].carry(self.tick, tables.tick_us(), spacing))
+        self.wires[bus].carry(self.tick, tables.tick_us(), spacing)
     }
 
     /// Whether the run with this event keeps what is asked of the sources, where the run before it does.
-    fn see(&mut self, tables: &Tables, event: Event) -> Result<bool, AllocError>
+    pub fn see(&mut self, tables: &Tables, event: Event) -> bool
         requires sized { IsSized tables.now self.old }
         requires early { self.old.tick < 2 ^ 64 - 1 }
         ensures sized { IsSized tables.now self.new }
-        ensures seen { (run : List Event) → Watches tables.now self.old run → IfOk result (Seen tables.now self.new run event) }
+        ensures tick { self.new.tick ≤ self.old.tick + 1 }
+        ensures seen { (run : List Event) → Watches tables.now self.old run → Seen tables.now self.new run event result }
     {
         tables.valid();
         match event {
             Event::Arrive(word, bus) => self.arrive(tables, bus, word),
-            Event::Route(_) | Event::Send(_) => Ok(true),
+            Event::Route(_) | Event::Send(_) => true,
             Event::Tick => {
                 self.tick += 1;
-                Ok(true)
+                true
             }
         }
     }
@@ -120,7 +123,7 @@ pub fn keeps_sources(
 {
     let mut watch = SourceWatch::new(alloc, tables)?;
     for (i, event) in run.iter().enumerate() {
-        if !watch.see(tables, *event)? {
+        if !watch.see(tables, *event) {
             return Ok(Some(i + 1));
         }
     }

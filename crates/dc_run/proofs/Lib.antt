@@ -1,12 +1,10 @@
-pub mod Auditing
+pub mod Accepting
 pub mod ByWorkers
 pub mod Checking
 pub mod DecodeExits
 pub mod Finding
 pub mod LineAnswers
-pub mod Numbers
 pub mod Printed
-pub mod Recorded
 pub mod ReplayExits
 pub mod ReplayReports
 pub mod Reported

@@ -1,5 +1,5 @@
 -- How each exit of a replay ends its answer.
-use Rattle.std.proofs.Common.{◌≡◌, ℕ, ◌+◌, ◌<◌, ◌≤◌, inl, inr, Bool, true, false, ◌||◌, cond, List, [], ◌∷◌, ◌++◌, length, length-append, ◌^◌, refl, sym, ◌∙◌, ap, subst, append_assoc, append-nil, arith, Option, Some, None, IfSome, Result, Ok, Err}
+use Rattle.std.proofs.Common.{◌≡◌, ℕ, ◌+◌, ◌≤◌, inl, inr, Bool, true, false, ◌||◌, cond, List, [], ◌∷◌, ◌++◌, length, length-append, ◌^◌, refl, sym, ◌∙◌, ap, subst, append_assoc, append-nil, arith, Option, Some, None, IfSome, Result, Ok, Err}
 use Rattle.std.proofs.KnownBytes.{Appends-nil}
 use Rattle.std.proofs.lemmas.Grind.{flat_map-append}
 use Rattle.std.specs.List.{flat_map}
@@ -11,7 +11,7 @@ use Rattle.dc_device.specs.Lines.{spelled}
 use Rattle.dc_device.specs.lemmas.Known.{front_more}
 use Rattle.dc_tables.specs.TableRows.{TableRows}
 use Rattle.dc_bound.specs.Run.{ticks}
-use Rattle.dc_event.specs.Reading.{IsOver, Reading, Stays, Tells, TellsEvent, event_in_front, no_more, pulls_left}
+use Rattle.dc_event.specs.Reading.{Stays, Tells, TellsEvent, no_more}
 use Rattle.dc_event.specs.ReplyText.{event_lines, is_reported, reply_line, run_lines}
 use Rattle.dc_event.specs.TraceText.{Trace, trace_of}
 use Rattle.dc_event.specs.declared.event.Event.{Event}
@@ -19,7 +19,6 @@ use Rattle.dc_event.specs.declared.trace.TraceFault.{TraceFault}
 use Rattle.dc_event.specs.declared.trace.TraceStop.{TraceStop}
 use Rattle.dc_event.specs.declared.trace.TraceStop.TheVariants.{End, Fault, Broken}
 use Rattle.dc_core.specs.Standing.{MayFollow}
-use Rattle.dc_event.specs.declared.trace_reader.TheConstants.{TRACE_LIMIT}
 use Rattle.dc_answer.specs.Answer.{Answer, Ends, EndsSome, after_all, nothing}
 use Rattle.dc_answer.specs.Exits.{is_whole}
 use Rattle.dc_answer.specs.declared.exit.Outcome.{Outcome}
@@ -33,7 +32,8 @@ use Rattle.dc_run.specs.declared.steps.Progress.{Progress}
 use Rattle.dc_run.specs.declared.steps.Refusal.{Refusal}
 use Rattle.dc_run.specs.declared.steps.Step.{Step}
 use Rattle.dc_answer.specs.lemmas.Endings.{by_text, ends_after, gathered_lines, gathered_pushed, some_ends}
-use Rattle.dc_run.proofs.Said.{Said, behind}
+use Rattle.dc_run.specs.lemmas.Traces.{behind_next, next, over, stayed}
+use Rattle.dc_run.proofs.Said.{Said}
 
 -- ---- runs
 
@@ -53,45 +53,25 @@ follow-push : (t : TableRows) (past done : List Event) (e : Event) → AllFollow
 follow-push t past [] e all may = (subst (λ p. MayFollow t p e) (append-nil past) may, tt)
 follow-push t past (x ∷ xs) e (first, more) may = (first, follow-push t (past ++ x ∷ []) xs e more (subst (λ p. MayFollow t p e) (sym (append_assoc past (x ∷ []) xs)) may))
 
--- ---- what is left of a trace
-
-pub over : (left : Option Trace) (rest : Trace) (fault : Option TraceFault) → left ≡ Some rest → IsOver left fault → rest ≡ no_more fault
-over None rest fault at h = cc
-over (Some t) rest fault at h = cc
-
-pub next : (left later : Option Trace) (rest : Trace) (e : Event) → left ≡ Some rest → TellsEvent left later e
-    → (more : Trace) × (later ≡ Some more) × (rest ≡ event_in_front e more)
-next None later rest e at h = cc
-next (Some t) later rest e at (more, is, whole) = (more, is, cc)
-
-pub stayed : (left later : Option Trace) (rest : Trace) → left ≡ Some rest → Stays left later → later ≡ Some rest
-stayed None later rest at h = cc
-stayed (Some t) later rest at h = cc
-
--- the trace after one more event
-pub behind_next : (done : List Event) (e : Event) (trace rest more : Trace) → trace ≡ behind done rest → rest ≡ event_in_front e more → trace ≡ behind (done ++ e ∷ []) more
-behind_next done e trace rest more whole first =
-    whole ∙ ap (λ r. behind done r) first ∙ ap (λ es. let t : Trace = record { events = es; fault = more.fault } in t) (sym (append_assoc done (e ∷ []) more.events))
-
 -- ---- exits
 
-module _ (t : TableRows) (all : Bool) (from : Option (List ℕ)) where
+module _ (t : TableRows) (limit : ℕ) (all : Bool) (from : Option (List ℕ)) where
   -- nothing was carried out and nothing was said
   pub said_first : (left : Option Trace) (p : Progress) (old : Option (List ℕ)) (waiting : List ℕ) → StandsAt p [] → waiting ≡ []
-      → ((text : List ℕ) → from ≡ Some text → left ≡ Some (trace_of t TRACE_LIMIT text)) → Said t all from left p old old waiting
+      → ((text : List ℕ) → from ≡ Some text → left ≡ Some (trace_of t limit text)) → Said t limit all from left p old old waiting
   said_first left p old waiting at empty whole = record {
     done = [];
     follow = tt;
     at = at;
     gathered = ([], Appends-nil old, rw (empty, run_lines-nil t all) refl);
-    ahead = λ text is. (trace_of t TRACE_LIMIT text, whole text is, refl);
+    ahead = λ text is. (trace_of t limit text, whole text is, refl);
   }
 
   -- what was said, and the end
-  said_ends : (left : Option Trace) (p : Progress) (old new end : Option (List ℕ)) (waiting : List ℕ) (result : Result Outcome Failure) (s : Said t all from left p old new waiting)
+  said_ends : (left : Option Trace) (p : Progress) (old new end : Option (List ℕ)) (waiting : List ℕ) (result : Result Outcome Failure) (s : Said t limit all from left p old new waiting)
       → ((rest : Trace) → left ≡ Some rest → (last : Answer) × GoesOn (is_whole result) t s.done rest.events rest.fault last × Ends new waiting end last result)
-      → IfSome from (λ text. WritesTrace t all text old end result)
-  said_ends left p old new end waiting result s f = by_text from (λ text. WritesTrace t all text old end result) (λ text is.
+      → IfSome from (λ text. WritesTrace t limit all text old end result)
+  said_ends left p old new end waiting result s f = by_text from (λ text. WritesTrace t limit all text old end result) (λ text is.
       let (rest, at, e) = s.ahead text is in
       let (last, goes, ends) = f rest at in (
         after_all (run_lines t all s.done) last,
@@ -107,8 +87,8 @@ module _ (t : TableRows) (all : Bool) (from : Option (List ℕ)) where
         ends_after old new end waiting (run_lines t all s.done) last result s.gathered ends,
       ))
 
-  pub flush_ends : {E : Type 0} (left : Option Trace) (p : Progress) (old new end : Option (List ℕ)) (waiting : List ℕ) (e : E) → Said t all from left p old new waiting
-      → AppendsFront new end waiting → IfSome from (λ text. WritesTrace t all text old end (Err Sink))
+  pub flush_ends : {E : Type 0} (left : Option Trace) (p : Progress) (old new end : Option (List ℕ)) (waiting : List ℕ) (e : E) → Said t limit all from left p old new waiting
+      → AppendsFront new end waiting → IfSome from (λ text. WritesTrace t limit all text old end (Err Sink))
   flush_ends left p old new end waiting e s failed = said_ends left p old new end waiting (Err Sink) s (λ rest at. (nothing, inr refl, front_more new end waiting [] failed))
 
   goes_either : (whole : Bool) (done rest : List Event) (fault : Option TraceFault) (last : Answer) → EndsBy t done rest fault last → GoesOn whole t done rest fault last
@@ -127,15 +107,15 @@ module _ (t : TableRows) (all : Bool) (from : Option (List ℕ)) where
   stop_goes Broken (Err x) left later done rest at reported stops = inr refl
 
   -- the reader stopped
-  pub stop_ends : (left later : Option Trace) (p : Progress) (old new end : Option (List ℕ)) (waiting : List ℕ) (stop : TraceStop) (result : Result Outcome Failure) → Said t all from left p old new waiting
-      → Tells left later (Err stop) → StopsBy stop result → Ends new waiting end (stop_end stop) result → IfSome from (λ text. WritesTrace t all text old end result)
+  pub stop_ends : (left later : Option Trace) (p : Progress) (old new end : Option (List ℕ)) (waiting : List ℕ) (stop : TraceStop) (result : Result Outcome Failure) → Said t limit all from left p old new waiting
+      → Tells left later (Err stop) → StopsBy stop result → Ends new waiting end (stop_end stop) result → IfSome from (λ text. WritesTrace t limit all text old end result)
   stop_ends left later p old new end waiting stop result s reported stops ends =
       said_ends left p old new end waiting result s (λ rest at. (stop_end stop, stop_goes stop result left later s.done rest at reported stops, ends))
 
   -- the next event was refused
   pub refused_ends : (rows : TableRows) (left later : Option Trace) (p p' : Progress) (old new end : Option (List ℕ)) (waiting : List ℕ) (e : Event) (r : Refusal) (result : Result Outcome Failure)
-      → rows ≡ t → Said t all from left p old new waiting → TellsEvent left later e → ((done : List Event) → StandsAt p done → Steps rows p' done e (Err r))
-      → Ends new waiting end (refused t r.event r.fault r.number) result → IfSome from (λ text. WritesTrace t all text old end result)
+      → rows ≡ t → Said t limit all from left p old new waiting → TellsEvent left later e → ((done : List Event) → StandsAt p done → Steps rows p' done e (Err r))
+      → Ends new waiting end (refused t r.event r.fault r.number) result → IfSome from (λ text. WritesTrace t limit all text old end result)
   refused_ends rows left later p p' old new end waiting e r result same s reported steps ends = said_ends left p old new end waiting result s (λ rest at.
       let (more, is, first) = next left later rest e at reported in
       let (never, cause, event, number) = subst (λ rows. Steps rows p' s.done e (Err r)) same (steps s.done s.at) in
@@ -152,9 +132,9 @@ module _ (t : TableRows) (all : Bool) (from : Option (List ℕ)) where
 
   -- the line of the next event could not be written
   pub say_ends : (rows : TableRows) (left later : Option Trace) (p p' : Progress) (old new end : Option (List ℕ)) (waiting waiting' : List ℕ) (e : Event) (step : Step) (failure : Failure)
-      → rows ≡ t → Said t all from left p old new waiting → TellsEvent left later e → ((done : List Event) → StandsAt p done → Steps rows p' done e (Ok step))
-      → AppendsFront new end (waiting ++ spelled (printed step)) → failure ≡ Sink → IfSome from (λ text. WritesTrace t all text old end (Err failure))
-  say_ends rows left later p p' old new end waiting waiting' e step failure same s reported steps failed is_sink = rw is_sink (by_text from (λ text. WritesTrace t all text old end (Err Sink)) (λ text is.
+      → rows ≡ t → Said t limit all from left p old new waiting → TellsEvent left later e → ((done : List Event) → StandsAt p done → Steps rows p' done e (Ok step))
+      → AppendsFront new end (waiting ++ spelled (printed step)) → failure ≡ Sink → IfSome from (λ text. WritesTrace t limit all text old end (Err failure))
+  say_ends rows left later p p' old new end waiting waiting' e step failure same s reported steps failed is_sink = rw is_sink (by_text from (λ text. WritesTrace t limit all text old end (Err Sink)) (λ text is.
       let (rest, at, whole) = s.ahead text is in
       let (more, later_is, first) = next left later rest e at reported in
       let (may, stands, step_is) = subst (λ rows. Steps rows p' s.done e (Ok step)) same (steps s.done s.at) in
@@ -168,7 +148,7 @@ module _ (t : TableRows) (all : Bool) (from : Option (List ℕ)) where
           done = s.done ++ e ∷ [];
           rest = more.events;
           last = nothing;
-          events = ap (λ (r : Trace). r.events) (behind_next s.done e (trace_of t TRACE_LIMIT text) rest more whole first);
+          events = ap (λ (r : Trace). r.events) (behind_next s.done e (trace_of t limit text) rest more whole first);
           follow = follow-push t [] s.done e s.follow may;
           goes_on = inr refl;
           said = refl;
@@ -178,8 +158,8 @@ module _ (t : TableRows) (all : Bool) (from : Option (List ℕ)) where
 
   -- the line of the next event was written
   pub said_next : (rows : TableRows) (left later : Option Trace) (p p' : Progress) (old new end : Option (List ℕ)) (waiting waiting' : List ℕ) (e : Event) (step : Step)
-      → rows ≡ t → Said t all from left p old new waiting → TellsEvent left later e → ((done : List Event) → StandsAt p done → Steps rows p' done e (Ok step))
-      → Gathered new waiting end waiting' (spelled (printed step)) → Said t all from later p' old end waiting'
+      → rows ≡ t → Said t limit all from left p old new waiting → TellsEvent left later e → ((done : List Event) → StandsAt p done → Steps rows p' done e (Ok step))
+      → Gathered new waiting end waiting' (spelled (printed step)) → Said t limit all from later p' old end waiting'
   said_next rows left later p p' old new end waiting waiting' e step same s reported steps gathered =
       let (may, stands, step_is) = subst (λ rows. Steps rows p' s.done e (Ok step)) same (steps s.done s.at) in
       let lines : printed step ≡ event_lines t all s.done e = ap printed step_is in
@@ -191,12 +171,12 @@ module _ (t : TableRows) (all : Bool) (from : Option (List ℕ)) where
         ahead = λ text is.
             let (rest, at, whole) = s.ahead text is in
             let (more, later_is, first) = next left later rest e at reported in
-            (more, later_is, behind_next s.done e (trace_of t TRACE_LIMIT text) rest more whole first);
+            (more, later_is, behind_next s.done e (trace_of t limit text) rest more whole first);
       }
 
   -- the source gave more, when what waited was pushed
-  pub said_pulled : (left later last : Option Trace) (p : Progress) (old new end : Option (List ℕ)) (waiting waiting' : List ℕ) → Said t all from left p old new waiting
-      → Stays left later → Stays later last → Appends new end waiting → waiting' ≡ [] → Said t all from last p old end waiting'
+  pub said_pulled : (left later last : Option Trace) (p : Progress) (old new end : Option (List ℕ)) (waiting waiting' : List ℕ) → Said t limit all from left p old new waiting
+      → Stays left later → Stays later last → Appends new end waiting → waiting' ≡ [] → Said t limit all from last p old end waiting'
   said_pulled left later last p old new end waiting waiting' s kept pulled pushed empty = record {
     done = s.done;
     follow = s.follow;
@@ -209,24 +189,24 @@ module _ (t : TableRows) (all : Bool) (from : Option (List ℕ)) where
 
   -- ---- the same, whatever the source gives
 
-  pub said_some : (left : Option Trace) (p : Progress) (old new end : Option (List ℕ)) (waiting : List ℕ) (last : Answer) (result : Result Outcome Failure) → Said t all from left p old new waiting
+  pub said_some : (left : Option Trace) (p : Progress) (old new end : Option (List ℕ)) (waiting : List ℕ) (last : Answer) (result : Result Outcome Failure) → Said t limit all from left p old new waiting
       → Ends new waiting end last result → EndsSome old end result
   said_some left p old new end waiting last result s ends = some_ends old new end waiting (run_lines t all s.done) last result s.gathered ends
 
   -- lines that could not be written
-  pub cut_some : (left : Option Trace) (p : Progress) (old new end : Option (List ℕ)) (waiting : List ℕ) (lines : List (List ℕ)) (failure : Failure) → Said t all from left p old new waiting
+  pub cut_some : (left : Option Trace) (p : Progress) (old new end : Option (List ℕ)) (waiting : List ℕ) (lines : List (List ℕ)) (failure : Failure) → Said t limit all from left p old new waiting
       → AppendsFront new end (waiting ++ spelled lines) → failure ≡ Sink → EndsSome old end (Err failure)
   cut_some left p old new end waiting lines failure s failed is =
       let last : Answer = record { lines = lines; outcome = Done } in
       rw is (said_some left p old new end waiting last (Err Sink) s failed)
 
   -- nothing was written
-  pub none_written : (old : Option (List ℕ)) → IfSome from (λ text. WritesTrace t all text old old (Err Memory))
-  none_written old = by_text from (λ text. WritesTrace t all text old old (Err Memory)) (λ text is. (
+  pub none_written : (old : Option (List ℕ)) → IfSome from (λ text. WritesTrace t limit all text old old (Err Memory))
+  none_written old = by_text from (λ text. WritesTrace t limit all text old old (Err Memory)) (λ text is. (
     nothing,
     record {
       done = [];
-      rest = (trace_of t TRACE_LIMIT text).events;
+      rest = (trace_of t limit text).events;
       last = nothing;
       events = refl;
       follow = tt;
@@ -247,21 +227,3 @@ step_early rows p' done e step (may, stands, is) = omega (arith, stands.clock, m
 
 pub step_count : (rows : TableRows) (p p' : Progress) (done : List Event) (e : Event) (step : Step) → StandsAt p done → Steps rows p' done e (Ok step) → p'.number ≡ p.number + 1
 step_count rows p p' done e step at (may, stands, is) = omega (arith, at.count, stands.count, length-append done (e ∷ []))
-
--- a reader that tells an event had not stopped
-pub not_stopped : (stopped : Option TraceStop) (reported : Result Event TraceStop) (e : Event) (old new : Reading) → reported ≡ Ok e
-    → IfSome stopped (λ stop. (Some reported ≡ Some (Err stop)) × (new ≡ old)) → stopped ≡ None
-not_stopped None reported e old new is again = refl
-not_stopped (Some stop) reported e old new is (same, kept) = absurd (cc)
-
--- needing more leaves no more to pull
-pub pulls_needed : (stopped stopped' : Option TraceStop) (held held' : List ℕ) (room room' : ℕ) → stopped ≡ None → stopped' ≡ None → held' ≡ [] → length held + room' ≡ room
-    → pulls_left stopped' room' held' ≤ pulls_left stopped room held
-pulls_needed stopped stopped' [] held' room room' a b c e = rw (a, b, c) (omega (arith, e))
-pulls_needed stopped stopped' (x ∷ xs) held' room room' a b c e = rw (a, b, c) (omega (arith, e))
-
--- nor does an event that was reported
-pub pulls_reported : (stopped stopped' : Option TraceStop) (held held' : List ℕ) (room room' : ℕ) → stopped ≡ None → stopped' ≡ None → room' < room
-    → pulls_left stopped' room' held' ≤ pulls_left stopped room held
-pulls_reported stopped stopped' held [] room room' a b e = rw (a, b) (omega (arith, e))
-pulls_reported stopped stopped' held (x ∷ xs) room room' a b e = rw (a, b) (omega (arith, e))

@@ -16,49 +16,49 @@ use Rattle.dc_answer.specs.declared.answer.Failure.{Failure}
 use Rattle.dc_answer.specs.declared.answer.Failure.TheVariants.{Memory}
 use Rattle.dc_answer.specs.declared.inputs.Unloaded.TheVariants.{Refused}
 
-replay_either : (all : Bool) (tables text : List ℕ) (whole : Bool) (answer : Answer) → AnswersTexts all tables text whole answer → ReplayAnswers all tables text whole answer
-replay_either all tables text true answer h = h
-replay_either all tables text false answer h = inl h
+replay_either : (limit : ℕ) (all : Bool) (tables text : List ℕ) (whole : Bool) (answer : Answer) → AnswersTexts limit all tables text whole answer → ReplayAnswers limit all tables text whole answer
+replay_either limit all tables text true answer h = h
+replay_either limit all tables text false answer h = inl h
 
 -- the tables were read
-pub read_replays : (r s : Option (List ℕ)) (all : Bool) (t : TableRows) (old new : Option (List ℕ)) (result : Result Outcome Failure) → IfSome r (λ rows. Loads (tables_of rows) (Ok t))
-    → IfSome s (λ text. WritesTrace t all text old new result) → IfSome r (λ rows. IfSome s (λ text. WritesReplay all rows text old new result))
-read_replays None s all t old new result loads writes = tt
-read_replays (Some rows) None all t old new result loads writes = tt
-read_replays (Some rows) (Some text) all t old new result loads (answer, replays, ends) =
-    (answer, replay_either all rows text (is_whole result) answer (Ok t, loads, replays), ends)
+pub read_replays : (r s : Option (List ℕ)) (limit : ℕ) (all : Bool) (t : TableRows) (old new : Option (List ℕ)) (result : Result Outcome Failure) → IfSome r (λ rows. Loads (tables_of rows) (Ok t))
+    → IfSome s (λ text. WritesTrace t limit all text old new result) → IfSome r (λ rows. IfSome s (λ text. WritesReplay limit all rows text old new result))
+read_replays None s limit all t old new result loads writes = tt
+read_replays (Some rows) None limit all t old new result loads writes = tt
+read_replays (Some rows) (Some text) limit all t old new result loads (answer, replays, ends) =
+    (answer, replay_either limit all rows text (is_whole result) answer (Ok t, loads, replays), ends)
 
-pub read_prompt : (r s : Option (List ℕ)) (all : Bool) (t : TableRows) (old seen : Option (List ℕ)) → IfSome r (λ rows. Loads (tables_of rows) (Ok t)) → IfSome s (λ text. ShowsTrace t all text old seen)
-    → IfSome r (λ rows. IfSome s (λ text. IsPrompt all rows text old seen))
-read_prompt None s all t old seen loads shows = tt
-read_prompt (Some rows) None all t old seen loads shows = tt
-read_prompt (Some rows) (Some text) all t old seen loads shows = (t, loads, shows)
+pub read_prompt : (r s : Option (List ℕ)) (limit : ℕ) (all : Bool) (t : TableRows) (old seen : Option (List ℕ)) → IfSome r (λ rows. Loads (tables_of rows) (Ok t)) → IfSome s (λ text. ShowsTrace t limit all text old seen)
+    → IfSome r (λ rows. IfSome s (λ text. IsPrompt limit all rows text old seen))
+read_prompt None s limit all t old seen loads shows = tt
+read_prompt (Some rows) None limit all t old seen loads shows = tt
+read_prompt (Some rows) (Some text) limit all t old seen loads shows = (t, loads, shows)
 
 -- the tables' text has a fault
-pub refused_replays : (r s : Option (List ℕ)) (all : Bool) (fault : TableFault) (old new : Option (List ℕ)) (waiting : List ℕ) (result : Result Outcome Failure) → IfSome r (λ rows. Loads (tables_of rows) (Err (Refused fault)))
-    → waiting ≡ [] → Ends old waiting new (tables_end fault) result → IfSome r (λ rows. IfSome s (λ text. WritesReplay all rows text old new result))
-refused_replays None s all fault old new waiting result loads empty ends = tt
-refused_replays (Some rows) None all fault old new waiting result loads empty ends = tt
-refused_replays (Some rows) (Some text) all fault old new waiting result loads empty ends =
-    (tables_end fault, replay_either all rows text (is_whole result) (tables_end fault) (Err (RefusedTables fault), loads, refl), subst (λ w. Ends old w new (tables_end fault) result) empty ends)
+pub refused_replays : (r s : Option (List ℕ)) (limit : ℕ) (all : Bool) (fault : TableFault) (old new : Option (List ℕ)) (waiting : List ℕ) (result : Result Outcome Failure) → IfSome r (λ rows. Loads (tables_of rows) (Err (Refused fault)))
+    → waiting ≡ [] → Ends old waiting new (tables_end fault) result → IfSome r (λ rows. IfSome s (λ text. WritesReplay limit all rows text old new result))
+refused_replays None s limit all fault old new waiting result loads empty ends = tt
+refused_replays (Some rows) None limit all fault old new waiting result loads empty ends = tt
+refused_replays (Some rows) (Some text) limit all fault old new waiting result loads empty ends =
+    (tables_end fault, replay_either limit all rows text (is_whole result) (tables_end fault) (Err (RefusedTables fault), loads, refl), subst (λ w. Ends old w new (tables_end fault) result) empty ends)
 
 -- the tables' text was not read
-pub failed_replays : (r s : Option (List ℕ)) (all : Bool) (failure : Failure) (old : Option (List ℕ)) → IfSome r (λ rows. IfSome s (λ text. WritesReplay all rows text old old (Err failure)))
-failed_replays None s all failure old = tt
-failed_replays (Some rows) None all failure old = tt
-failed_replays (Some rows) (Some text) all failure old = (nothing, inr refl, none_ends old failure)
+pub failed_replays : (r s : Option (List ℕ)) (limit : ℕ) (all : Bool) (failure : Failure) (old : Option (List ℕ)) → IfSome r (λ rows. IfSome s (λ text. WritesReplay limit all rows text old old (Err failure)))
+failed_replays None s limit all failure old = tt
+failed_replays (Some rows) None limit all failure old = tt
+failed_replays (Some rows) (Some text) limit all failure old = (nothing, inr refl, none_ends old failure)
 
-pub replay_reports : (r s : Option (List ℕ)) (all : Bool) (old mid new : Option (List ℕ)) (ended : Result Outcome Failure) (source source' sink sink' sink'' : ℕ) (exit : Exit)
-    → IfSome r (λ rows. IfSome s (λ text. WritesReplay all rows text old mid ended)) → (ended ≡ Err Memory → mid ≡ old) → Raises source source' ended
+pub replay_reports : (r s : Option (List ℕ)) (limit : ℕ) (all : Bool) (old mid new : Option (List ℕ)) (ended : Result Outcome Failure) (source source' sink sink' sink'' : ℕ) (exit : Exit)
+    → IfSome r (λ rows. IfSome s (λ text. WritesReplay limit all rows text old mid ended)) → (ended ≡ Err Memory → mid ≡ old) → Raises source source' ended
     → sink' ≡ sink + sink_failures_of ended → sink' ≤ sink'' → exit ≡ exit_of ended
     → ReportsBy ended mid new sink' sink'' exit
-    → IfSome r (λ rows. IfSome s (λ text. ReportsReplay all rows text old new source source' sink sink'' exit))
-replay_reports None s all old mid new ended source source' sink sink' sink'' exit writes quiet raises more rise is reports = tt
-replay_reports (Some rows) None all old mid new ended source source' sink sink' sink'' exit writes quiet raises more rise is reports = tt
-replay_reports (Some rows) (Some text) all old mid new ended source source' sink sink' sink'' exit (answer, answers, ends) quiet raises more rise is reports =
+    → IfSome r (λ rows. IfSome s (λ text. ReportsReplay limit all rows text old new source source' sink sink'' exit))
+replay_reports None s limit all old mid new ended source source' sink sink' sink'' exit writes quiet raises more rise is reports = tt
+replay_reports (Some rows) None limit all old mid new ended source source' sink sink' sink'' exit writes quiet raises more rise is reports = tt
+replay_reports (Some rows) (Some text) limit all old mid new ended source source' sink sink' sink'' exit (answer, answers, ends) quiet raises more rise is reports =
     let whole : is_whole ended ≡ is_answered exit = sym (answered_whole ended) ∙ ap is_answered (sym is) in
-    any_reported (ReplayAnswers all rows text (is_answered exit)) old mid new ended source source' sink sink' sink'' exit (answer, subst (λ whole. ReplayAnswers all rows text whole answer) whole answers, ends)
-    (λ refused. (quiet refused, subst (λ whole. ReplayAnswers all rows text whole nothing) (sym (ap is_whole refused) ∙ whole) (inr refl)))
+    any_reported (ReplayAnswers limit all rows text (is_answered exit)) old mid new ended source source' sink sink' sink'' exit (answer, subst (λ whole. ReplayAnswers limit all rows text whole answer) whole answers, ends)
+    (λ refused. (quiet refused, subst (λ whole. ReplayAnswers limit all rows text whole nothing) (sym (ap is_whole refused) ∙ whole) (inr refl)))
     raises more rise is reports
 
 pub replay_reported : (old mid new : Option (List ℕ)) (ended : Result Outcome Failure) (source source' sink sink' sink'' : ℕ) (exit : Exit) → EndsSome old mid ended → (ended ≡ Err Memory → mid ≡ old)

@@ -10,11 +10,11 @@ use Rattle.dc_event.specs.TraceText.{Trace, ended_by, trace_of}
 use Rattle.dc_event.specs.declared.event.Event.{Event}
 use Rattle.dc_event.specs.declared.trace.TraceStop.{TraceStop}
 use Rattle.dc_event.specs.declared.trace.TraceStop.TheVariants.{End, Fault, Broken}
-use Rattle.dc_event.specs.declared.trace_reader.TheConstants.{TRACE_LIMIT}
 use Rattle.dc_answer.specs.lemmas.Endings.{by_text}
 use Rattle.dc_run.specs.Replay.{ShowsTrace}
 use Rattle.dc_run.specs.declared.steps.Progress.{Progress}
-use Rattle.dc_run.proofs.Said.{Said, behind}
+use Rattle.dc_run.specs.lemmas.Traces.{behind}
+use Rattle.dc_run.proofs.Said.{Said}
 
 -- all that the sink holds was seen
 pub seen_all : (a c seen : Option (List ℕ)) (xs : List ℕ) → Appends a c xs → IsSnapshot c seen → IfSome seen (λ bytes. Appends a (Some bytes) xs)
@@ -40,11 +40,11 @@ ended_events n (c ∷ cs) = refl
 behind_ended : (done : List Event) (n : ℕ) (line : List ℕ) → behind done (ended_by n line) ≡ (let t : Trace = record { events = done; fault = (ended_by n line).fault } in t)
 behind_ended done n line = ap (λ es. let t : Trace = record { events = es; fault = (ended_by n line).fault } in t) (ap (λ es. done ++ es) (ended_events n line) ∙ append-nil done)
 
-module _ (t : TableRows) (all : Bool) (from : Option (List ℕ)) where
+module _ (t : TableRows) (limit : ℕ) (all : Bool) (from : Option (List ℕ)) where
   -- the trace ended behind this line
-  ended_shown : (r : Reading) (coming : Option (List ℕ)) (p : Progress) (old end seen : Option (List ℕ)) (waiting : List ℕ) (n : ℕ) (line : List ℕ) → Said t all from (ahead r coming) p old end waiting
-      → waiting ≡ [] → r.stopped ≡ Some (stop_behind n line) → IsSnapshot end seen → IfSome from (λ text. ShowsTrace t all text old seen)
-  ended_shown r coming p old end seen waiting n line said empty stops snapshot = by_text from (λ text. ShowsTrace t all text old seen) (λ text is.
+  ended_shown : (r : Reading) (coming : Option (List ℕ)) (p : Progress) (old end seen : Option (List ℕ)) (waiting : List ℕ) (n : ℕ) (line : List ℕ) → Said t limit all from (ahead r coming) p old end waiting
+      → waiting ≡ [] → r.stopped ≡ Some (stop_behind n line) → IsSnapshot end seen → IfSome from (λ text. ShowsTrace t limit all text old seen)
+  ended_shown r coming p old end seen waiting n line said empty stops snapshot = by_text from (λ text. ShowsTrace t limit all text old seen) (λ text is.
       let (rest, at, whole) = said.ahead text is in
       let (front, pushed, joined) = said.gathered in
       let lines : front ≡ spelled (run_lines t all said.done) = sym (append-nil front) ∙ ap (λ w. front ++ w) (sym empty) ∙ joined in (
@@ -55,9 +55,9 @@ module _ (t : TableRows) (all : Bool) (from : Option (List ℕ)) where
 
   -- the source was asked for more: if it gave no byte and did not fail, the trace ended
   pub pull_shown : (r : Reading) (stopped : Option TraceStop) (coming : Option (List ℕ)) (p : Progress) (old end seen : Option (List ℕ)) (waiting : List ℕ) (n : ℕ) (line : List ℕ) (dry dry' failed failed' : ℕ)
-      → r.stopped ≡ stopped → Said t all from (ahead r coming) p old end waiting → waiting ≡ [] → StopsBehind n line stopped → IsSnapshot end seen
+      → r.stopped ≡ stopped → Said t limit all from (ahead r coming) p old end waiting → waiting ≡ [] → StopsBehind n line stopped → IsSnapshot end seen
       → dry' + dry_left stopped ≤ dry + 1 → failed' ≡ failed + failures_at stopped
-      → dry < dry' → failed' ≡ failed → IfSome from (λ text. ShowsTrace t all text old seen)
+      → dry < dry' → failed' ≡ failed → IfSome from (λ text. ShowsTrace t limit all text old seen)
   pull_shown r None coming p old end seen waiting n line dry dry' failed failed' is said empty stops snapshot less count more same = absurd (omega (arith, less, more))
   pull_shown r (Some End) coming p old end seen waiting n line dry dry' failed failed' is said empty stops snapshot less count more same =
       ended_shown r coming p old end seen waiting n line said empty (is ∙ ap Some stops) snapshot

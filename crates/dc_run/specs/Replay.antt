@@ -13,7 +13,6 @@ use Rattle.dc_event.specs.declared.event.Event.{Event}
 use Rattle.dc_event.specs.declared.trace.TraceFault.{TraceFault}
 use Rattle.dc_core.specs.Standing.{IsFault, MayFollow}
 use Rattle.dc_core.specs.declared.fault.StepFault.{StepFault}
-use Rattle.dc_event.specs.declared.trace_reader.TheConstants.{TRACE_LIMIT}
 use Rattle.dc_answer.specs.declared.answer.Failure.{Failure}
 use Rattle.dc_answer.specs.declared.exit.Exit.{Exit}
 use Rattle.dc_answer.specs.declared.exit.Outcome.{Outcome}
@@ -49,49 +48,49 @@ pub record Replays (t : TableRows) (all : Bool) (trace : Trace) (whole : Bool) (
   pub goes_on : GoesOn whole t done rest trace.fault last
   pub said : answer ≡ after_all (run_lines t all done) last
 
--- the answer to the text of a trace within its limit, where the tables read so
-abbrev pub AnswersTrace : Bool → List ℕ → Bool → Answer → Result TableRows BuildError → Type 0
-AnswersTrace all text whole answer (Ok t) = Replays t all (trace_of t TRACE_LIMIT text) whole answer
-AnswersTrace all text whole answer (Err (Refused f)) = answer ≡ tables_end f
-AnswersTrace all text whole answer (Err (Memory e)) = ⊥
+-- the answer to the text of a trace of at most so many bytes, where the tables read so
+abbrev pub AnswersTrace : ℕ → Bool → List ℕ → Bool → Answer → Result TableRows BuildError → Type 0
+AnswersTrace limit all text whole answer (Ok t) = Replays t all (trace_of t limit text) whole answer
+AnswersTrace limit all text whole answer (Err (Refused f)) = answer ≡ tables_end f
+AnswersTrace limit all text whole answer (Err (Memory e)) = ⊥
 
 -- the answer to the texts of tables and of a trace
-abbrev pub AnswersTexts : Bool → List ℕ → List ℕ → Bool → Answer → Type 0
-AnswersTexts all tables text whole answer = (read : Result TableRows BuildError) × TellsTables (tables_of tables) read × AnswersTrace all text whole answer read
+abbrev pub AnswersTexts : ℕ → Bool → List ℕ → List ℕ → Bool → Answer → Type 0
+AnswersTexts limit all tables text whole answer = (read : Result TableRows BuildError) × TellsTables (tables_of tables) read × AnswersTrace limit all text whole answer read
 
 -- what `replay` answers: where it is not whole, a beginning of that, or no line
-abbrev pub ReplayAnswers : Bool → List ℕ → List ℕ → Bool → Answer → Type 0
-ReplayAnswers all tables text true answer = AnswersTexts all tables text true answer
-ReplayAnswers all tables text false answer = AnswersTexts all tables text false answer ⊎ (answer.lines ≡ [])
+abbrev pub ReplayAnswers : ℕ → Bool → List ℕ → List ℕ → Bool → Answer → Type 0
+ReplayAnswers limit all tables text true answer = AnswersTexts limit all tables text true answer
+ReplayAnswers limit all tables text false answer = AnswersTexts limit all tables text false answer ⊎ (answer.lines ≡ [])
 
 -- ---- what is written
 
 -- until something fails: what is written of the answer to a trace
-abbrev pub WritesTrace : TableRows → Bool → List ℕ → Option (List ℕ) → Option (List ℕ) → Result Outcome Failure → Type 0
-WritesTrace t all text old new result = (answer : Answer) × Replays t all (trace_of t TRACE_LIMIT text) (is_whole result) answer × Ends old [] new answer result
+abbrev pub WritesTrace : TableRows → ℕ → Bool → List ℕ → Option (List ℕ) → Option (List ℕ) → Result Outcome Failure → Type 0
+WritesTrace t limit all text old new result = (answer : Answer) × Replays t all (trace_of t limit text) (is_whole result) answer × Ends old [] new answer result
 
 -- and of the answer to both texts
-abbrev pub WritesReplay : Bool → List ℕ → List ℕ → Option (List ℕ) → Option (List ℕ) → Result Outcome Failure → Type 0
-WritesReplay all tables text old new result = (answer : Answer) × ReplayAnswers all tables text (is_whole result) answer × Ends old [] new answer result
+abbrev pub WritesReplay : ℕ → Bool → List ℕ → List ℕ → Option (List ℕ) → Option (List ℕ) → Result Outcome Failure → Type 0
+WritesReplay limit all tables text old new result = (answer : Answer) × ReplayAnswers limit all tables text (is_whole result) answer × Ends old [] new answer result
 
 -- What `replay` reports, where its sources and its sink failed so often before and after it
-abbrev pub ReportsReplay : Bool → List ℕ → List ℕ → Option (List ℕ) → Option (List ℕ) → ℕ → ℕ → ℕ → ℕ → Exit → Type 0
-ReportsReplay all tables text old new sources sources' sink sink' exit =
-    Reported (ReplayAnswers all tables text (is_answered exit)) old new sources sources' sink sink' exit
+abbrev pub ReportsReplay : ℕ → Bool → List ℕ → List ℕ → Option (List ℕ) → Option (List ℕ) → ℕ → ℕ → ℕ → ℕ → Exit → Type 0
+ReportsReplay limit all tables text old new sources sources' sink sink' exit =
+    Reported (ReplayAnswers limit all tables text (is_answered exit)) old new sources sources' sink sink' exit
 
 -- ---- what is shown
 
 -- The events that are due where a trace has come up to here: those of all its whole lines, none of which is faulty, and each
 -- may follow. Behind them stand at most the bytes of a line that is not ended.
-abbrev pub AreDue : TableRows → List ℕ → List Event → Type 0
-AreDue t text events =
-    (number : ℕ) × (rest : List ℕ) × (trace_of t TRACE_LIMIT text ≡ record { events = events; fault = (ended_by number rest).fault }) × AllFollow t [] events
+abbrev pub AreDue : TableRows → ℕ → List ℕ → List Event → Type 0
+AreDue t limit text events =
+    (number : ℕ) × (rest : List ℕ) × (trace_of t limit text ≡ record { events = events; fault = (ended_by number rest).fault }) × AllFollow t [] events
 
 -- what everyone saw is the lines of the events that are due
-abbrev pub ShowsTrace : TableRows → Bool → List ℕ → Option (List ℕ) → Option (List ℕ) → Type 0
-ShowsTrace t all text old seen = (events : List Event) × AreDue t text events × IfSome seen (λ bytes. Appends old (Some bytes) (spelled (run_lines t all events)))
+abbrev pub ShowsTrace : TableRows → ℕ → Bool → List ℕ → Option (List ℕ) → Option (List ℕ) → Type 0
+ShowsTrace t limit all text old seen = (events : List Event) × AreDue t limit text events × IfSome seen (λ bytes. Appends old (Some bytes) (spelled (run_lines t all events)))
 
 -- What everyone saw when a trace was asked for more behind its end: the lines of the events that are due. Any beginning of a
 -- trace is one that ends there, so each line is seen before what follows its event is asked for.
-abbrev pub IsPrompt : Bool → List ℕ → List ℕ → Option (List ℕ) → Option (List ℕ) → Type 0
-IsPrompt all tables text old seen = (t : TableRows) × AreTablesOf (tables_of tables) t × ShowsTrace t all text old seen
+abbrev pub IsPrompt : ℕ → Bool → List ℕ → List ℕ → Option (List ℕ) → Option (List ℕ) → Type 0
+IsPrompt limit all tables text old seen = (t : TableRows) × AreTablesOf (tables_of tables) t × ShowsTrace t limit all text old seen

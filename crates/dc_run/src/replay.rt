@@ -1,5 +1,5 @@
 //! `replay`: a recorded trace through the concentrator.
-ghost use Rattle.std.specs.Prelude.{◌≡◌, ◌≢◌, [], ◌∷◌, ◌++◌, ◌+◌, ◌-◌, ◌<◌, ◌≤◌, ◌||◌, cond, length, IfErr, IfOk, IfSome, Err, true};
+ghost use Rattle.std.specs.Prelude.{◌≡◌, ◌≢◌, [], ◌∷◌, ◌++◌, ◌+◌, ◌-◌, ◌<◌, ◌≤◌, ◌^◌, ◌||◌, cond, length, IfErr, IfOk, IfSome, Err, true};
 ghost use Rattle.dc_toml.specs.Reading.{tables_of};
 ghost use Rattle.dc_device.specs.Bytes.{Gathers};
 ghost use Rattle.dc_device.specs.Device.{failures_of};
@@ -8,14 +8,15 @@ ghost use Rattle.dc_device.specs.States.{AsksUpTo, CanFail, IsCountable};
 ghost use Rattle.dc_core.specs.CoreSteps.{rows_of};
 ghost use Rattle.dc_event.specs.ReplyText.{is_reported, reply_line};
 ghost use Rattle.dc_event.specs.TraceFaults.{line_rule_code};
-ghost use Rattle.dc_event.specs.declared.trace_reader.TheConstants.{TRACE_LIMIT};
 ghost use Rattle.dc_document.specs.declared.limits.TheConstants.{TEXT_LIMIT};
 ghost use Rattle.dc_answer.specs.Answer.{Any, Ends, EndsSome, LeavesSink, Raises, SettlesBy, Reported, sink_failures_of};
 ghost use Rattle.dc_answer.specs.Inputs.{OnlyBehind, tables_end};
+ghost use Rattle.dc_run.specs.Limits.{trace_limit};
 ghost use Rattle.dc_run.specs.Refusals.{StopsBy, refused, stop_end};
 ghost use Rattle.dc_run.specs.Replay.{IsPrompt, ReportsReplay, ShowsTrace, WritesReplay, WritesTrace};
 ghost use Rattle.dc_run.specs.Steps.{StandsAt};
 
+use crate::limits::limit_of;
 use crate::printer::{NameTexts, Printer};
 use crate::replies::{is_printed, print_refused};
 use crate::steps::{Progress, Refusal, Step};
@@ -23,7 +24,7 @@ use dc_answer::{Exit, Failure, Outcome, Unloaded, end_at, end_with, load, report
 use dc_core::Core;
 use dc_device::{LineWriter, Sink, Source};
 use dc_document::TableFault;
-use dc_event::{LineRule, TRACE_LIMIT, TraceLines, TraceStop};
+use dc_event::{LineRule, TraceLines, TraceStop};
 use dc_print::{Text, print_table_fault};
 use dc_tables::Tables;
 use std::alloc::Global;
@@ -143,29 +144,31 @@ fn say<K: Sink>(
 fn answer<S: Source, K: Sink>(
     tables: &Tables,
     progress: &mut Progress,
+    limit: u64,
     all: bool,
     trace: &mut S,
     writer: &mut LineWriter,
     sink: &mut K,
 ) -> Result<Outcome, Failure>
+    requires limit { limit ≤ 2 ^ 40 }
     requires new { writer.old ≡ [] }
     requires rows { rows_of progress.old.core ≡ tables.now }
     requires stands { StandsAt progress.old [] }
     requires source { IsCountable (S.state trace.old) }
     requires sink { CanFail (K.state sink.old) }
     ensures answer { IfSome (S.state trace.old).remaining (λ text.
-        WritesTrace tables.now all text (K.state sink.old).contents (K.state sink.new).contents result) }
+        WritesTrace tables.now limit all text (K.state sink.old).contents (K.state sink.new).contents result) }
     ensures some { EndsSome (K.state sink.old).contents (K.state sink.new).contents result }
     ensures settled { SettlesBy result (K.state sink.new).last_failed (K.state sink.new).hidden }
     ensures prompt { (S.state trace.old).dry < (S.state trace.new).dry → (S.state trace.new).failed ≡ (S.state trace.old).failed
-        → IfSome (S.state trace.old).remaining (λ text. ShowsTrace tables.now all text (K.state sink.old).contents (K.state sink.new).answered) }
-    ensures asks { AsksUpTo TRACE_LIMIT (S.state trace.old) (S.state trace.new) }
+        → IfSome (S.state trace.old).remaining (λ text. ShowsTrace tables.now limit all text (K.state sink.old).contents (K.state sink.new).answered) }
+    ensures asks { AsksUpTo limit (S.state trace.old) (S.state trace.new) }
     ensures device { IfErr result (λ e. e ≢ Failure.Memory) }
     ensures empty { writer.new ≡ [] }
     ensures source { Raises (S.state trace.old).failed (S.state trace.new).failed result }
     ensures sink { (K.state sink.new).failed ≡ (K.state sink.old).failed + sink_failures_of result }
 {
-    let mut lines = TraceLines::new(tables, TRACE_LIMIT);
+    let mut lines = TraceLines::new(tables, limit);
     let names = NameTexts::of(tables);
     let mut printer = Printer::new();
     loop {
@@ -190,21 +193,23 @@ fn answer<S: Source, K: Sink>(
 fn answer_on<S: Source, K: Sink>(
     alloc: Global,
     tables: Tables,
+    limit: u64,
     all: bool,
     trace: &mut S,
     writer: &mut LineWriter,
     sink: &mut K,
 ) -> Result<Outcome, Failure>
+    requires limit { limit ≤ 2 ^ 40 }
     requires new { writer.old ≡ [] }
     requires source { IsCountable (S.state trace.old) }
     requires sink { CanFail (K.state sink.old) }
     ensures answer { IfSome (S.state trace.old).remaining (λ text.
-        WritesTrace tables all text (K.state sink.old).contents (K.state sink.new).contents result) }
+        WritesTrace tables limit all text (K.state sink.old).contents (K.state sink.new).contents result) }
     ensures some { EndsSome (K.state sink.old).contents (K.state sink.new).contents result }
     ensures settled { SettlesBy result (K.state sink.new).last_failed (K.state sink.new).hidden }
     ensures prompt { (S.state trace.old).dry < (S.state trace.new).dry → (S.state trace.new).failed ≡ (S.state trace.old).failed
-        → IfSome (S.state trace.old).remaining (λ text. ShowsTrace tables all text (K.state sink.old).contents (K.state sink.new).answered) }
-    ensures asks { AsksUpTo TRACE_LIMIT (S.state trace.old) (S.state trace.new) }
+        → IfSome (S.state trace.old).remaining (λ text. ShowsTrace tables limit all text (K.state sink.old).contents (K.state sink.new).answered) }
+    ensures asks { AsksUpTo limit (S.state trace.old) (S.state trace.new) }
     ensures memory { result ≡ Err Failure.Memory → sink.new ≡ sink.old }
     ensures empty { writer.new ≡ [] }
     ensures source { Raises (S.state trace.old).failed (S.state trace.new).failed result }
@@ -224,31 +229,33 @@ fn answer_on<S: Source, K: Sink>(
         tick: 0,
         number: 1,
     };
-    answer(&tables, &mut progress, all, trace, writer, sink)
+    answer(&tables, &mut progress, limit, all, trace, writer, sink)
 }
 
 /// Answers the texts of tables and a trace, until something fails.
 fn replay<T: Source, S: Source, K: Sink>(
     alloc: Global,
+    limit: u64,
     all: bool,
     tables: &mut T,
     trace: &mut S,
     writer: &mut LineWriter,
     sink: &mut K,
 ) -> Result<Outcome, Failure>
+    requires limit { limit ≤ 2 ^ 40 }
     requires new { writer.old ≡ [] }
     requires tables { IsCountable (T.state tables.old) }
     requires source { IsCountable (S.state trace.old) }
     requires sink { CanFail (K.state sink.old) }
     ensures answer { IfSome (T.state tables.old).remaining (λ rows. IfSome (S.state trace.old).remaining (λ text.
-        WritesReplay all rows text (K.state sink.old).contents (K.state sink.new).contents result)) }
+        WritesReplay limit all rows text (K.state sink.old).contents (K.state sink.new).contents result)) }
     ensures some { EndsSome (K.state sink.old).contents (K.state sink.new).contents result }
     ensures settled { SettlesBy result (K.state sink.new).last_failed (K.state sink.new).hidden }
     ensures prompt { (S.state trace.old).dry < (S.state trace.new).dry → (S.state trace.new).failed ≡ (S.state trace.old).failed
         → IfSome (T.state tables.old).remaining (λ rows. IfSome (S.state trace.old).remaining (λ text.
-        IsPrompt all rows text (K.state sink.old).contents (K.state sink.new).answered)) }
+        IsPrompt limit all rows text (K.state sink.old).contents (K.state sink.new).answered)) }
     ensures asks_tables { AsksUpTo TEXT_LIMIT (T.state tables.old) (T.state tables.new) }
-    ensures asks_trace { AsksUpTo TRACE_LIMIT (S.state trace.old) (S.state trace.new) }
+    ensures asks_trace { AsksUpTo limit (S.state trace.old) (S.state trace.new) }
     ensures order { IfSome (T.state tables.old).remaining (λ rows. OnlyBehind (tables_of rows) (trace.new ≡ trace.old)) }
     ensures memory { result ≡ Err Failure.Memory → sink.new ≡ sink.old }
     ensures empty { writer.new ≡ [] }
@@ -260,11 +267,11 @@ fn replay<T: Source, S: Source, K: Sink>(
         Err(Unloaded::Refused(fault)) => return end_unloaded(fault, writer, sink),
         Err(Unloaded::Failed(failure)) => return Err(failure),
     };
-    answer_on(alloc, tables, all, trace, writer, sink)
+    answer_on(alloc, tables, limit, all, trace, writer, sink)
 }
 
 /// Replays a recorded trace through the concentrator of a tables' text, onto a sink: each reply as a line where `all`,
-/// else only those that tell of a word that is sent, refused or lost.
+/// else only those that tell of a word that is sent, refused or lost. A trace may have more bytes where `long`.
 ///
 /// It ends `Done` at the end of the trace; `Refused` at the first event that may not follow, `Unreadable` at the first
 /// fault of the tables or of the trace, whose line was written after the lines before it; `Failed` where a device
@@ -275,6 +282,7 @@ fn replay<T: Source, S: Source, K: Sink>(
 /// tables are in order.
 pub fn run_replay<T: Source, S: Source, K: Sink>(
     alloc: Global,
+    long: bool,
     all: bool,
     tables: &mut T,
     trace: &mut S,
@@ -284,7 +292,7 @@ pub fn run_replay<T: Source, S: Source, K: Sink>(
     requires source { IsCountable (S.state trace.old) }
     requires sink { CanFail (K.state sink.old) }
     ensures reports { IfSome (T.state tables.old).remaining (λ rows. IfSome (S.state trace.old).remaining (λ text.
-        ReportsReplay all rows text (K.state sink.old).contents (K.state sink.new).contents
+        ReportsReplay (trace_limit long) all rows text (K.state sink.old).contents (K.state sink.new).contents
         ((T.state tables.old).failed + (S.state trace.old).failed) ((T.state tables.new).failed + (S.state trace.new).failed)
         (K.state sink.old).failed (K.state sink.new).failed result)) }
     ensures reported { Reported Any (K.state sink.old).contents (K.state sink.new).contents
@@ -292,15 +300,15 @@ pub fn run_replay<T: Source, S: Source, K: Sink>(
         (K.state sink.old).failed (K.state sink.new).failed result }
     ensures prompt { (S.state trace.old).dry < (S.state trace.new).dry → (S.state trace.new).failed ≡ (S.state trace.old).failed
         → IfSome (T.state tables.old).remaining (λ rows. IfSome (S.state trace.old).remaining (λ text.
-        IsPrompt all rows text (K.state sink.old).contents (K.state sink.new).answered)) }
+        IsPrompt (trace_limit long) all rows text (K.state sink.old).contents (K.state sink.new).answered)) }
     ensures asks_tables { AsksUpTo TEXT_LIMIT (T.state tables.old) (T.state tables.new) }
-    ensures asks_trace { AsksUpTo TRACE_LIMIT (S.state trace.old) (S.state trace.new) }
+    ensures asks_trace { AsksUpTo (trace_limit long) (S.state trace.old) (S.state trace.new) }
     ensures order { IfSome (T.state tables.old).remaining (λ rows. OnlyBehind (tables_of rows) (trace.new ≡ trace.old)) }
     ensures left { LeavesSink (K.state sink.old).failed (K.state sink.new).failed (K.state sink.new).last_failed (K.state sink.new).hidden }
     ensures quiet { result ≢ Exit.Failed → (T.state tables.new).failed + (S.state trace.new).failed + (K.state sink.new).failed
         ≡ (T.state tables.old).failed + (S.state trace.old).failed + (K.state sink.old).failed }
 {
     let mut writer = LineWriter::new();
-    let ended = replay(alloc, all, tables, trace, &mut writer, sink);
+    let ended = replay(alloc, limit_of(long), all, tables, trace, &mut writer, sink);
     report(ended, &mut writer, sink)
 }

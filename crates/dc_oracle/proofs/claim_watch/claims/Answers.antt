@@ -24,7 +24,7 @@ pub returns-in-Some : goal.returns-in-Some
 returns-in-Some c = λ n.
     let P : Event → Type 0 = λ e. IsNumbered c.args.tables.now e in
     let numbered : IsNumbered c.args.tables.now c.index-run-i.result = subst P (sym c.index-run-i.is) (n c.loop-i.i c.index-run-i.result c.loop-i-test.true) in
-    let seen = c.in_ok-claim.ensures.seen (take c.loop-i.i c.args.run.now) (c.loop-i.invariant.stands n) numbered in
+    let seen = c.see.ensures.seen (take c.loop-i.i c.args.run.now) (c.loop-i.invariant.stands n) numbered in
     let Q : Option Claim → Type 0 = λ o. Judged c.args.tables.now (certificate_rows c.args.certificate.now).ages (take c.loop-i.i c.args.run.now) c.index-run-i.result o in
     breaks-here c.args.tables.now (certificate_rows c.args.certificate.now).ages c.args.run.now c.loop-i.i c.index-run-i.result c.in-Some.claim c.loop-i-test.true
     (next-place c.args.run.now c.loop-i.i c.index-run-i.result c.loop-i-test.true c.index-run-i.is) (c.loop-i.invariant.hold n) (subst Q c.in-Some.is seen.judged)
@@ -34,14 +34,14 @@ loop-i-preserved c =
     let P : Event → Type 0 = λ e. IsNumbered c.args.tables.now e in
     let Q : Option Claim → Type 0 = λ o. Judged c.args.tables.now (certificate_rows c.args.certificate.now).ages (take c.loop-i.i c.args.run.now) c.index-run-i.result o in
     record {
-      sized = c.in_ok-claim.ensures.sized;
-      early = omega (arith, c.in_ok-claim.ensures.tick, c.loop-i.invariant.early);
-      police_early = omega (arith, c.in_ok-claim.ensures.police_tick, c.loop-i.invariant.police_early);
+      sized = c.see.ensures.sized;
+      early = omega (arith, c.see.ensures.tick, c.loop-i.invariant.early);
+      police_early = omega (arith, c.see.ensures.police_tick, c.loop-i.invariant.police_early);
       stands = λ n. (
-          let seen = c.in_ok-claim.ensures.seen (take c.loop-i.i c.args.run.now) (c.loop-i.invariant.stands n) (subst P (sym c.index-run-i.is) (n c.loop-i.i c.index-run-i.result c.loop-i-test.true)) in
+          let seen = c.see.ensures.seen (take c.loop-i.i c.args.run.now) (c.loop-i.invariant.stands n) (subst P (sym c.index-run-i.is) (n c.loop-i.i c.index-run-i.result c.loop-i-test.true)) in
           holds-more (StandsFor c.args.tables.now c.see.new.self) c.args.run.now c.loop-i.i c.index-run-i.result c.loop-i-test.true c.index-run-i.is seen.stands);
       hold = λ n. (
-          let seen = c.in_ok-claim.ensures.seen (take c.loop-i.i c.args.run.now) (c.loop-i.invariant.stands n) (subst P (sym c.index-run-i.is) (n c.loop-i.i c.index-run-i.result c.loop-i-test.true)) in
+          let seen = c.see.ensures.seen (take c.loop-i.i c.args.run.now) (c.loop-i.invariant.stands n) (subst P (sym c.index-run-i.is) (n c.loop-i.i c.index-run-i.result c.loop-i-test.true)) in
           holds-more (ClaimsHold c.args.tables.now (certificate_rows c.args.certificate.now).ages) c.args.run.now c.loop-i.i c.index-run-i.result c.loop-i-test.true c.index-run-i.is
           (hold-push c.args.tables.now (certificate_rows c.args.certificate.now).ages (take c.loop-i.i c.args.run.now) c.index-run-i.result (c.loop-i.invariant.hold n) (subst Q c.in_default.is seen.judged)));
     }

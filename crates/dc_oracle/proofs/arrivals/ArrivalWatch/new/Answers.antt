@@ -7,6 +7,5 @@ use Rattle.dc_oracle.proofs.arrivals.ArrivalWatch.new.Goals as goal
 pub returns-clause-follows : goal.returns-clause-follows
 returns-clause-follows c =
     let P : ℕ → Type 0 = λ n. AllMade (λ _. no_life) no_life n c.in_ok-no_lives.field-0.items in
-    let Q : ℕ → Type 0 = λ n. AllMade (λ _. []) [] n c.in_ok-no_histories.field-0.items in
     let R : ℕ → Type 0 = λ n. AllMade (λ _. None) None n c.in_ok-all_of.field-0.items in
-    follows-new c.args.tables.now _ (subst P c.stream_count.ensures c.in_ok-no_lives.ensures) (subst Q c.bus_count.ensures c.in_ok-no_histories.ensures) (subst R c.stream_count-2.ensures c.in_ok-all_of.ensures)
+    follows-new c.args.tables.now _ (subst P c.stream_count.ensures c.in_ok-no_lives.ensures) (subst R c.stream_count-2.ensures c.in_ok-all_of.ensures)

@@ -14,28 +14,27 @@ returns-in_default-clause-follows c = λ run h holds l is.
     let P : Option ℕ → Type 0 = λ o. TakesAs c.args.tables.now run c.args.router o in
     follows-nothing c.args.tables.now c.queues_grow.ensures c.args.self.now run c.args.router (subst P (sym c.taken_bus.ensures ∙ c.in_default.is) (takes-as c.args.tables.now run c.args.router c.args.reply.now is)) h
 
-pub returns-then-bus-len-clause-follows : goal.returns-then-bus-len-clause-follows
-returns-then-bus-len-clause-follows c = λ run h holds l is.
+pub returns-then-bus-bus_count-clause-follows : goal.returns-then-bus-bus_count-clause-follows
+returns-then-bus-bus_count-clause-follows c = λ run h holds l is.
     let P : Option ℕ → Type 0 = λ o. TakesAs c.args.tables.now run c.args.router o in
     let took : TookFrom c.args.tables.now run c.args.router c.in-Some.bus = subst P (sym c.taken_bus.ensures ∙ c.in-Some.is) (takes-as c.args.tables.now run c.args.router c.args.reply.now is) in
-    absurd (omega (arith, c.if-bus-len.true, c.len.ensures, c.requires.sized.came, took.bus, c.valid.ensures.visits_on_buses c.args.router (routes c.args.router run % length (router_row c.args.tables.now c.args.router).visits) l))
+    absurd (omega (arith, c.if-bus-bus_count.true, c.bus_count.ensures, took.bus, c.valid.ensures.visits_on_buses c.args.router (routes c.args.router run % length (router_row c.args.tables.now c.args.router).visits) l))
 
 pub returns-in_default-last_taken-clause-follows : goal.returns-in_default-last_taken-clause-follows
 returns-in_default-last_taken-clause-follows c = λ run h holds l is.
     let P : Option ℕ → Type 0 = λ o. TakesAs c.args.tables.now run c.args.router o in
     let took : TookFrom c.args.tables.now run c.args.router c.in-Some.bus = subst P (sym c.taken_bus.ensures ∙ c.in-Some.is) (takes-as c.args.tables.now run c.args.router c.args.reply.now is) in
-    let bus_there : c.in-Some.bus < length c.args.tables.now.buses = omega (arith, c.if-bus-len.false, c.len.ensures, c.requires.sized.came) in
+    let bus_there : c.in-Some.bus < length c.args.tables.now.buses = omega (arith, c.if-bus-bus_count.false, c.bus_count.ensures) in
     let Q : BusData → Type 0 = λ d. IsLog (room c.args.tables.now c.in-Some.bus) d (moves c.args.tables.now c.in-Some.bus (run ++ Route c.args.router ∷ [])) in
-    absurd (some_taken c.args.tables.now c.queues_grow.ensures c.args.self.now c.args.self.now run c.args.router c.in-Some.bus took c.log.result.now (subst Q (sym c.log.ensures) (holds.logs c.in-Some.bus bus_there)) c.in_default-last_taken.ensures)
+    let log : IsLog (room c.args.tables.now c.in-Some.bus) c.log.result.now (moves c.args.tables.now c.in-Some.bus (run ++ Route c.args.router ∷ [])) = subst Q (sym c.log.ensures) (holds.logs c.in-Some.bus bus_there) in
+    absurd (some_taken c.args.tables.now c.queues_grow.ensures c.args.self.now c.args.self.now run c.args.router c.in-Some.bus took c.log.result.now.last log.last (sym c.last_taken.ensures ∙ c.in_default-last_taken.is))
 
 pub returns-clause-follows : goal.returns-clause-follows
 returns-clause-follows c = λ run h holds l is.
     let P : Option ℕ → Type 0 = λ o. TakesAs c.args.tables.now run c.args.router o in
     let took : TookFrom c.args.tables.now run c.args.router c.in-Some.bus = subst P (sym c.taken_bus.ensures ∙ c.in-Some.is) (takes-as c.args.tables.now run c.args.router c.args.reply.now is) in
-    let there : c.in-Some.bus < length c.args.self.now.came.items = omega (arith, c.if-bus-len.false, c.len.ensures) in
-    let bus_there : c.in-Some.bus < length c.args.tables.now.buses = omega (arith, there, c.requires.sized.came) in
-    let read = get_or_read c.args.self.now.came.items c.in-Some.bus c.index.result.now there c.index.ensures [] in
+    let bus_there : c.in-Some.bus < length c.args.tables.now.buses = omega (arith, c.if-bus-bus_count.false, c.bus_count.ensures) in
     let Q : BusData → Type 0 = λ d. IsLog (room c.args.tables.now c.in-Some.bus) d (moves c.args.tables.now c.in-Some.bus (run ++ Route c.args.router ∷ [])) in
-    follows-took c.args.tables.now c.queues_grow.ensures c.args.self.now _ run c.args.router c.in-Some.bus took c.log.result.now (subst Q (sym c.log.ensures) (holds.logs c.in-Some.bus bus_there))
-    c.in-Some-last_taken.number c.in-Some-last_taken.stream c.in-Some-last_taken.ensures c.requires.sized.latest bus_there refl refl
-    (c.note.ensures ∙ ap (λ k. set c.args.self.now.latest.items c.in-Some-last_taken.stream (Some k)) (c.at.ensures ∙ ap (λ xs. get_or xs c.in-Some-last_taken.number 0) read)) h
+    let log : IsLog (room c.args.tables.now c.in-Some.bus) c.log.result.now (moves c.args.tables.now c.in-Some.bus (run ++ Route c.args.router ∷ [])) = subst Q (sym c.log.ensures) (holds.logs c.in-Some.bus bus_there) in
+    follows-took c.args.tables.now c.queues_grow.ensures c.args.self.now _ run c.args.router c.in-Some.bus took c.log.result.now.last log.last
+    c.in-Some-last_taken.came c.in-Some-last_taken.stream (sym c.last_taken.ensures ∙ c.in-Some-last_taken.is) c.requires.sized.latest bus_there refl c.note.ensures h

@@ -6,7 +6,8 @@ use Rattle.dc_event.specs.Offers.{refuses_early}
 use Rattle.dc_event.specs.Buses.{moves, room}
 use Rattle.dc_oracle.specs.BusData.{BusData}
 use Rattle.dc_oracle.specs.BusLog.{IsLog, Received, no_log}
-use Rattle.dc_oracle.proofs.Entries.{map_ok}
+use Rattle.dc_bound.specs.Moves.{ticks_in}
+use Rattle.dc_event.specs.lemmas.RunPush.{ticks_in-moves}
 use Rattle.dc_oracle.proofs.Replying.{replies-even, replies-undeclared, replies-arrive}
 use Rattle.dc_oracle.proofs.replies.ReplyWatch.arrive.Goals as goal
 
@@ -25,8 +26,7 @@ returns-clause-reply c = λ run h l unrefused.
     let there : c.args.bus < length c.args.self.now.buses.items = omega (arith, c.if-bus-len.false, c.len.ensures) in
     let read = get_or_read c.args.self.now.buses.items c.args.bus c.index_mut.result.now there c.index_mut.ensures.value no_log in
     let P : BusData → Type 0 = λ d. IsLog (room c.args.tables.now c.args.bus) d (moves c.args.tables.now c.args.bus run) in
-    let Q : ℕ → Type 0 = λ n. IsLog n c.index_mut.result.now (moves c.args.tables.now c.args.bus run) in
-    map_ok c.receive.result (Received c.queue-room.result c.receive.new.self (moves c.args.tables.now c.args.bus run) (c.in-Some.stream, c.args.word)) _
-    (λ reply got. (let G : ℕ → Type 0 = λ n. Received n c.receive.new.self (moves c.args.tables.now c.args.bus run) (c.in-Some.stream, c.args.word) reply in
-    replies-arrive c.args.tables.now c.args.self.now _ run c.args.bus c.args.word c.in-Some.stream c.receive.new.self reply there odd some free (subst G c.queue-room.ensures got) refl refl refl refl refl h))
-    (c.receive.ensures (moves c.args.tables.now c.args.bus run) (subst Q (sym c.queue-room.ensures) (subst P (sym read) (h.logs c.args.bus l))))
+    let time : c.args.self.now.tick ≡ ticks_in (moves c.args.tables.now c.args.bus run) = h.clock ∙ sym (ticks_in-moves c.args.tables.now c.args.bus run) in
+    let got : Received (room c.args.tables.now c.args.bus) c.receive.new.self (moves c.args.tables.now c.args.bus run) (c.in-Some.stream, c.args.word) c.receive.result =
+    c.receive.ensures (room c.args.tables.now c.args.bus) (moves c.args.tables.now c.args.bus run) (subst P (sym read) (h.logs c.args.bus l)) time in
+    replies-arrive c.args.tables.now c.args.self.now _ run c.args.bus c.args.word c.in-Some.stream c.receive.new.self c.receive.result there odd some free got refl refl refl refl refl h

@@ -21,7 +21,7 @@ returns-in_default-clause-reply c = λ run h l.
     let cursor = get_or_read c.args.self.now.cursors.items c.args.router c.index-cursor.result.now there c.index-cursor.ensures 0 in
     let read = get_or_read c.args.self.now.buses.items c.visit-bus.result.0 c.index_mut-2.result.now bus_there c.index_mut-2.ensures.value no_log in
     let P : BusData → Type 0 = λ d. (ms : List Move) → IsLog (room c.args.tables.now c.visit-bus.result.0) d ms → IsLog (room c.args.tables.now c.visit-bus.result.0) c.take-taken.new.self (ms ++ Visit ∷ []) in
-    let Q : BusData → Type 0 = λ d. length d.words ≤ d.taken in
+    let Q : BusData → Type 0 = λ d. d.words ≡ [] in
     let v : Steps c.args.tables.now c.args.self.now _ c.args.router c.visit-bus.result.0 c.take-taken.new.self = record {
       router_there = there;
       bus_there = bus_there;
@@ -44,7 +44,7 @@ returns-clause-reply c = λ run h l.
     let cursor = get_or_read c.args.self.now.cursors.items c.args.router c.index-cursor.result.now there c.index-cursor.ensures 0 in
     let read = get_or_read c.args.self.now.buses.items c.visit-bus.result.0 c.index_mut-2.result.now bus_there c.index_mut-2.ensures.value no_log in
     let P : BusData → Type 0 = λ d. (ms : List Move) → IsLog (room c.args.tables.now c.visit-bus.result.0) d ms → IsLog (room c.args.tables.now c.visit-bus.result.0) c.take-taken.new.self (ms ++ Visit ∷ []) in
-    let Q : BusData → Type 0 = λ d. d.taken < length d.words in
+    let Q : BusData → Type 0 = λ d. 1 ≤ length d.words in
     let new : ReplyWatch =
     record { tick = c.args.self.now.tick; buses = with_item c.args.self.now.buses c.visit-bus.result.0 c.take-taken.new.self; latest = c.note.new.latest; cursors = with_item c.args.self.now.cursors c.args.router c.visit-bus.result.1; sent = c.args.self.now.sent } in
     let v : Steps c.args.tables.now c.args.self.now new c.args.router c.visit-bus.result.0 c.take-taken.new.self = record {
@@ -63,5 +63,5 @@ returns-clause-reply c = λ run h l.
     let latests : c.note.new.latest.items ≡ set c.args.self.now.latest.items c.in-Some.stream (Some ((c.in-Some.stream, c.in-Some.word), c.args.self.now.tick)) = search rules in
     let reported : Replies c.args.tables.now new run (Route c.args.router) (Took c.in-Some.word c.visit-bus.result.0) =
     replies-took c.args.tables.now c.args.self.now new run c.args.router c.visit-bus.result.0 c.take-taken.new.self v h (c.in-Some.stream, c.in-Some.word) (subst Q read c.in-Some.ensures.item.0)
-    (c.in-Some.ensures.item.1 ∙ ap (λ (d : BusData). get_or d.words d.taken (0, 0)) read) c.requires.sized.streams latests in
+    (c.in-Some.ensures.item.1 ∙ ap (λ (d : BusData). (get_or d.words 0 (0, (0, 0))).1) read) c.requires.sized.streams latests in
     search rules

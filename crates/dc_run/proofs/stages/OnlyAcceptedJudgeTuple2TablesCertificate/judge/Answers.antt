@@ -1,7 +1,7 @@
 use Rattle.std.proofs.Common.{inr, refl}
 use Rattle.dc_answer.specs.lemmas.Stages.{none_ask}
 use Rattle.dc_cert.specs.NamedRows.{named_rows}
-use Rattle.dc_run.proofs.Auditing.{accepted_judged, accepted_order, not_accepted}
+use Rattle.dc_run.proofs.Accepting.{accepted_judged, accepted_order, not_accepted}
 use Rattle.dc_run.proofs.stages.OnlyAcceptedJudgeTuple2TablesCertificate.judge.Goals as goal
 
 pub returns-in-Done-clause-answer : goal.returns-in-Done-clause-answer

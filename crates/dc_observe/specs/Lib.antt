@@ -1,0 +1,7 @@
+pub mod Observed
+pub mod Carried
+pub mod Backlogs
+pub mod Waits
+pub mod Lates
+pub mod Labels
+pub mod Near

@@ -1,0 +1,3 @@
+pub mod Auditing
+pub mod Recorded
+pub mod Reported
