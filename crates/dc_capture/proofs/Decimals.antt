@@ -1,7 +1,11 @@
 -- A time read digit by digit.
-use Rattle.std.proofs.Common.{◌≡◌, ℕ, ◌+◌, ◌*◌, ◌≤◌, ◌<◌, List, [], ◌∷◌, ◌++◌, length, get_or, take, drop, drop_of_length-le, Option, Some, None, option_and_then, refl, sym, ap, ◌∙◌, arith}
+use Rattle.std.proofs.Common.{◌≡◌, ℕ, ◌+◌, ◌*◌, ◌%◌, ◌^◌, ◌≤◌, ◌<◌, List, [], ◌∷◌, ◌++◌, length, get_or, take, drop, drop_of_length-le, Option, Some, None, option_and_then, refl, sym, ap, ◌∙◌, arith}
 use Rattle.std.proofs.lemmas.Bool.{le-ltb, lt-ltb, ne_eqb}
+use Rattle.std.proofs.lemmas.Grind.{pow_more}
 use Rattle.std.proofs.lemmas.List.{drop_more, take_more}
+use Rattle.std.proofs.lemmas.Str.{digit_value_digit}
+use Rattle.std.proofs.Math.Nat.{pow-le-pow_right}
+use Rattle.std.specs.Char.{digit_value}
 use Rattle.dc_word.specs.Digits.{digit_in}
 use Rattle.dc_capture.specs.TimeText.{decimal_behind, time_of, up_to_last}
 use Rattle.dc_capture.specs.declared.time.TheConstants.{LAST_TIME}
@@ -69,3 +73,23 @@ decimal-push n time c d (x ∷ xs) reads digit =
 pub digits-more : (time i c d : ℕ) (text : List ℕ) → i < length text → c ≡ get_or text i 0 → digit_in 10 c ≡ Some d → decimal_behind 0 (take i text) ≡ Some time → decimal_behind 0 (take (i + 1) text) ≡ Some (time * 10 + d)
 digits-more time i c d text there is digit reads =
     ap (decimal_behind 0) (take_more text i 0 there ∙ ap (λ b. take i text ++ b ∷ []) (sym is)) ∙ decimal-push 0 time c d (take i text) reads digit
+
+-- ---- digits as bytes
+
+-- a byte less the one of the digit 0, round 256, is its value where that is less than ten
+pub byte_value : (c v : ℕ) → c < 256 → v ≡ (c + 208) % 256 → v < 10 → digit_in 10 c ≡ Some v
+byte_value c v byte is small =
+    let low : 48 ≤ c = omega (arith, byte, is, small) in
+    let high : c ≤ 57 = omega (arith, byte, is, small) in
+    let worth : digit_value c + 48 ≡ c = digit_value_digit c (low, high) in
+    let e : digit_value c ≡ v = omega (arith, worth, byte, is, small) in
+    rw (lt-ltb (digit_value c) 10 (omega (arith, e, small))) (ap Some e)
+
+-- a number of so many digits
+pub fits_digits : (time i : ℕ) → time < 10 ^ i → i ≤ 16 → time < 10000000000000000
+fits_digits time i small few =
+    let h : 10 ^ i ≤ 10 ^ 16 = pow-le-pow_right (omega arith) few in
+    omega (arith, h, small)
+
+pub more_digits : (time d i : ℕ) → time < 10 ^ i → d < 10 → time * 10 + d < 10 ^ (i + 1)
+more_digits time d i small digit = rw (pow_more 10 i) (omega (arith, small, digit))

@@ -4,3 +4,4 @@ pub mod CaptureText
 pub mod CaptureFaults
 pub mod Reading
 pub mod Ahead
+pub mod Guesses

@@ -4,3 +4,5 @@ pub mod Answer
 -- how the engine goes through a capture
 pub mod Steps
 pub mod Names
+-- laws about it
+pub mod Laws

@@ -3,6 +3,7 @@
 
 mod clock;
 mod engine;
+pub mod laws;
 mod texts;
 
 pub use engine::run_trace;

@@ -1,1 +1,2 @@
+mod SameWords
 pub mod Surveying

@@ -7,6 +7,7 @@ use Rattle.dc_gauge.specs.Gauges.{IsStreamGauge, IsWireGauge}
 use Rattle.dc_gauge.specs.Steps.{no_stream_words, no_wire_words}
 use Rattle.dc_gauge.specs.declared.stream.StreamGauge.{StreamGauge}
 use Rattle.dc_gauge.specs.declared.timing.StreamTiming.{StreamTiming}
+use Rattle.dc_survey.specs.Known.{AreKnown}
 use Rattle.dc_survey.specs.Captures.{picked, of_stream, offered_on, even_on, undeclared_on}
 use Rattle.dc_survey.specs.declared.bus_gauge.BusGauge.{BusGauge}
 use Rattle.dc_survey.specs.declared.survey.Survey.{Survey}
@@ -30,12 +31,13 @@ stream_gauge w s = slice_index_or w.streams.items s no_stream_words
 abbrev pub bus_gauge : Survey → ℕ → BusGauge
 bus_gauge w b = slice_index_or w.buses.items b no_bus_words
 
--- a part for each stream and each bus of the tables
+-- a part for each stream and each bus of the tables, and what is known of them
 pub record IsSized (t : TableRows) (w : Survey) : Type 0 where
   pub timings : length w.timings.items ≡ length t.streams
   pub streams : length w.streams.items ≡ length t.streams
   pub buses : length w.buses.items ≡ length t.buses
   pub timed : (s : ℕ) → s < length t.streams → 1 ≤ (timing_of w s).min_us
+  pub known : AreKnown t w.known
 
 -- the numbers of a bus: of its words that are offered to a stream, of its even ones, of its undeclared ones
 pub record IsBusGauge (t : TableRows) (b : ℕ) (capture : List (ℕ × (ℕ × ℕ))) (g : BusGauge) : Type 0 where

@@ -2,6 +2,7 @@
 #![tactic(auto)]
 
 mod bus_gauge;
+mod known_streams;
 mod states;
 mod survey;
 

@@ -8,6 +8,7 @@ ghost use Rattle.dc_survey.specs.Surveys.{no_bus_words, no_timing, AllMade};
 ghost use Rattle.dc_tables.specs.TableRows.{TableRows};
 
 use crate::bus_gauge::BusGauge;
+use crate::known_streams::KnownStreams;
 use crate::states::{PaceState, WireState};
 use dc_gauge::{StreamGauge, StreamTiming};
 use dc_tables::Tables;
@@ -18,6 +19,7 @@ use std::alloc::{AllocError, Global};
 #[derive(Drop)]
 pub struct Survey {
     line: u64,
+    known: KnownStreams,
     timings: Vec<StreamTiming>,
     streams: Vec<StreamGauge>,
     buses: Vec<BusGauge>,
@@ -63,10 +65,12 @@ impl Survey {
         ensures surveys { IfOk result (λ w. Surveys tables.now [] w) }
         ensures timings { IfOk result (λ w. w.timings ≡ timings) }
     {
+        let known = KnownStreams::new(alloc, tables)?;
         let streams = no_streams(alloc, tables.stream_count())?;
         let buses = no_buses(alloc, tables.bus_count())?;
         Ok(Survey {
             line: 0,
+            known,
             timings,
             streams,
             buses,
@@ -89,7 +93,7 @@ impl Survey {
             self.buses[bus].parity = self.buses[bus].parity.saturating_add(1);
             return;
         }
-        let Some(stream) = tables.stream_of(bus, word) else {
+        let Some(stream) = self.known.stream_of(tables, bus, word) else {
             self.buses[bus].undeclared = self.buses[bus].undeclared.saturating_add(1);
             return;
         };
