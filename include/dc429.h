@@ -6,9 +6,10 @@
  *  - a `dc429` is DC429_CLOSED, or as the last call with it left it. It is never copied, moved, changed or compared, and is
  *    in one call at a time. Another thread may go on with it once a lock, the start or the join of a thread, or an atomic
  *    with SEQ_CST has put its calls behind those of the first. Several may be open, and be called side by side;
- *  - malloc gives blocks aligned to 16 bytes. Only dc429_open, dc429_check, dc429_find and dc429_close call malloc, realloc or free;
- *  - no call is made from a signal handler that may have interrupted a call with the same `dc429`, nor dc429_open,
- *    dc429_check, dc429_find or dc429_close from any signal handler.
+ *  - malloc gives blocks aligned to 16 bytes. Only dc429_open, dc429_check, dc429_find, dc429_margins, dc429_least_margins and
+ *    dc429_close call malloc, realloc or free;
+ *  - no call is made from a signal handler that may have interrupted a call with the same `dc429`, nor one of these six from
+ *    any signal handler.
  * No call locks, waits, prints, reads the clock, sets errno of its own or keeps a pointer that it was given.
  *
  * The numbers of kinds, places, statuses, lists and formats that stand here are never given another meaning: what is new
@@ -52,7 +53,7 @@ enum dc429_fault_kind {
     DC429_UNREADABLE_TABLES = 'T',   /* the tables' text is none, or breaks a rule */
     DC429_UNREADABLE_CERTIFICATE = 'K', /* the certificate's text is none */
     DC429_REFUSED_CERTIFICATE = 'C', /* the certificate is not one for these tables */
-    DC429_NO_CERTIFICATE = 'F'       /* dc429_find: no certificate is accepted for these tables */
+    DC429_NO_CERTIFICATE = 'F'       /* dc429_find, dc429_least_margins: no certificate is accepted for these tables */
 };
 
 /* The place of a fault of the tables (T). */
@@ -170,6 +171,19 @@ bool dc429_check(const uint8_t *tables, size_t tables_length, const uint8_t *cer
  * stands at the front of `text`, where `room` is no less; else `text` is unchanged: call again with more room.
  * false: `length` is 0, `text` is unchanged, and `fault` says why: T, F or M. */
 bool dc429_find(const uint8_t *tables, size_t tables_length, uint8_t *text, size_t room, size_t *length, dc429_fault *fault);
+
+/* How far each condition of a certificate is from failing: the text that dc429 margins prints without options, whatever it ends
+ * with, with its line feeds. `length` is how many bytes it takes, and it stands at the front of `text`, where `room` is no less;
+ * else `text` is unchanged: call again with more room. Tables at their limits take 400 KB.
+ * true: the certificate is accepted. false: `fault` says why not, as of dc429_check; the text is told all the same, but for M,
+ * where `length` is 0 and `text` is unchanged. */
+bool dc429_margins(const uint8_t *tables, size_t tables_length, const uint8_t *certificate, size_t certificate_length,
+                   uint8_t *text, size_t room, size_t *length, dc429_fault *fault);
+
+/* The same without a certificate, of the least one: the text that dc429 margins prints of the tables alone. true: there is one.
+ * false: `fault` says why there is none, as of dc429_find, and the text tells all margins that are known; M as above. */
+bool dc429_least_margins(const uint8_t *tables, size_t tables_length, uint8_t *text, size_t room, size_t *length,
+                         dc429_fault *fault);
 
 /* Closes an engine and frees its memory; of a closed one, nothing. */
 void dc429_close(dc429 *engine);

@@ -127,6 +127,27 @@ static void refusals(long needed, bool behind) {
     printf("%s %ld memory %ld opened %ld well %ld\n", behind ? "behind" : "each", needed, memory, opened, well);
 }
 
+static bool told_margins(bool is_least, uint8_t *text, size_t room, size_t *length, dc429_fault *fault);
+
+/* Refuses each of so many allocations of a call for margins in turn: it tells that and no text, or made up for it; it keeps nothing. */
+static void margin_refusals(bool is_least, long needed) {
+    static uint8_t text[1 << 16];
+    long memory = 0, told = 0, kept = 0;
+    all_behind = false;
+    for (long at = 0; at < needed; at++) {
+        dc429_fault fault;
+        size_t length = 77;
+        taken = freed = held = 0;
+        refused = at;
+        bool is_told = told_margins(is_least, text, sizeof text, &length, &fault);
+        refused = -1;
+        told += is_told && length > 0;
+        memory += !is_told && fault.kind == DC429_MEMORY && length == 0;
+        kept += held != 0;
+    }
+    printf("%s_refused %ld memory %ld told %ld kept %ld\n", is_least ? "least" : "margins", needed, memory, told, kept);
+}
+
 static int allocations(void) {
     dc429 engine = DC429_CLOSED;
     dc429_fault fault;
@@ -154,6 +175,12 @@ static int allocations(void) {
     taken = freed = 0;
     bool is_found = dc429_find(tables, tables_length, name, sizeof name, &number, &fault);
     printf("find %d takes %ld frees %ld\n", is_found, taken, freed);
+    for (int is_least = 0; is_least < 2; is_least++) {
+        taken = freed = 0;
+        bool is_told = told_margins(is_least, name, sizeof name, &number, &fault);
+        printf("%s %d takes %ld frees %ld\n", is_least ? "least" : "margins", is_told, taken, freed);
+        margin_refusals(is_least, taken);
+    }
     for (int behind = 0; behind < 2; behind++)
         refusals(needed, behind);
     return 0;
@@ -311,6 +338,31 @@ static bool found_edges(void) {
     return is_well && fault.kind == DC429_UNREADABLE_TABLES;
 }
 
+/* The margins of the certificate, or of the least one. */
+static bool told_margins(bool is_least, uint8_t *text, size_t room, size_t *length, dc429_fault *fault) {
+    return is_least ? dc429_least_margins(tables, tables_length, text, room, length, fault)
+                    : dc429_margins(tables, tables_length, certificate, certificate_length, text, room, length, fault);
+}
+
+/* Margins: written where there is room for all of them, else not at all; of texts that are unreadable the line that says so. */
+static bool margin_edges(bool is_least) {
+    static uint8_t text[1 << 20];
+    static const char unreadable[] = "unreadable T01 at top\n";
+    dc429_fault fault;
+    size_t length = 77, again = 77;
+    memset(text, '-', sizeof text);
+    bool is_well = told_margins(is_least, text, 0, &length, &fault) && length > 1 && text[0] == '-';
+    is_well = is_well && told_margins(is_least, text, length - 1, &again, &fault) && again == length && text[0] == '-';
+    if (!is_well || length >= sizeof text)
+        return false;
+    is_well = told_margins(is_least, text, length, &again, &fault) && again == length && fault.kind == DC429_NO_FAULT;
+    is_well = is_well && memcmp(text, "accepted ", 9) == 0 && text[length - 1] == '\n' && text[length] == '-';
+    bool is_read = is_least ? dc429_least_margins(tables, 1, text, sizeof text, &again, &fault)
+                            : dc429_margins(tables, 1, certificate, certificate_length, text, sizeof text, &again, &fault);
+    is_well = is_well && !is_read && again == sizeof unreadable - 1 && memcmp(text, unreadable, again) == 0;
+    return is_well && fault.kind == DC429_UNREADABLE_TABLES && fault.code == 1;
+}
+
 static int edges(void) {
     dc429 engine = DC429_CLOSED;
     dc429_fault fault;
@@ -320,6 +372,7 @@ static int edges(void) {
     printf("names %d\n", is_open && name_edges(&engine));
     printf("texts %d\n", is_open && text_edges(&engine));
     printf("found %d\n", found_edges());
+    printf("margins %d\n", margin_edges(false) && margin_edges(true));
     dc429_close(&engine);
     return 0;
 }
@@ -327,7 +380,7 @@ static int edges(void) {
 /* ---- the stack ---- */
 
 static dc429 stacked = DC429_CLOSED;
-static const char *const STACKED[] = { "nothing", "open", "events", "names", "close", "check", "find" };
+static const char *const STACKED[] = { "nothing", "open", "events", "names", "close", "check", "find", "margins" };
 
 static void *run_stacked(void *what) {
     dc429_fault fault;
@@ -348,6 +401,10 @@ static void *run_stacked(void *what) {
     case 4: dc429_close(&stacked); break;
     case 5: dc429_check(tables, tables_length, certificate, certificate_length, &fault); break;
     case 6: dc429_find(tables, tables_length, name, sizeof name, &number, &fault); break;
+    case 7:
+        for (int is_least = 0; is_least < 2; is_least++)
+            told_margins(is_least, name, sizeof name, &number, &fault);
+        break;
     default: break;
     }
     return NULL;
@@ -372,7 +429,7 @@ static size_t stack_of(uintptr_t what) {
 
 static int stack(void) {
     size_t own = stack_of(0);
-    for (uintptr_t what = 1; what < 7; what++)
+    for (uintptr_t what = 1; what < 8; what++)
         printf("%s %zu\n", STACKED[what], stack_of(what) - own);
     return 0;
 }

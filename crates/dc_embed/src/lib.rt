@@ -8,6 +8,7 @@ mod finding;
 mod handle;
 mod laws;
 mod lookups;
+mod margins;
 mod slot;
 mod text;
 
@@ -20,4 +21,5 @@ pub use finding::dc429_find;
 pub use handle::Handle;
 pub use laws::opened_engines_answer_their_runs;
 pub use lookups::{dc429_name, dc429_number};
+pub use margins::{dc429_least_margins, dc429_margins};
 pub use slot::{Slot, may_cross};
