@@ -1,0 +1,5 @@
+pub mod Words
+pub mod Digits
+pub mod Times
+pub mod Names
+pub mod Titles

@@ -1,0 +1,95 @@
+//! Drafts of tables, one for each length of a tick that is tried.
+use crate::tables::write_tables;
+use dc_cell::Shown;
+use dc_design_rows::{Document, Fact, Lines};
+use dc_document::TEXT_LIMIT;
+use dc_plan::{Knobs, Obstacles, Unplanned, make_plan};
+use std::alloc::{AllocError, Global};
+
+/// The lengths of a tick that are tried in microseconds, in their order: what is usual, then shorter ones, which lose
+/// less to rounding, then long ones for slow labels.
+static TICKS: [u32; 8] = [1_000, 500, 250, 125, 100, 2_000, 5_000, 10_000];
+
+/// What is asked of a design beside its rows.
+#[derive(Clone, Copy, Debug, PartialEq, Eq)]
+pub struct Wish {
+    /// The length of a tick in microseconds, where only one is to be tried.
+    pub tick_us: Option<u32>,
+    /// So many percent of each queue, budget, wire and age are to be left free, where that is asked.
+    pub headroom: Option<u32>,
+}
+
+/// The columns that are not read.
+#[derive(Clone, Copy)]
+pub struct Unread<'a> {
+    /// Those of the inputs.
+    pub inputs: &'a [Shown],
+    /// Those of the outputs.
+    pub outputs: &'a [Shown],
+}
+
+/// Why there are no tables with ticks of one length.
+#[derive(Drop)]
+pub enum Untabled {
+    /// Something stands in the way.
+    Obstacles(Obstacles),
+    /// Memory was refused.
+    NoMemory,
+}
+
+/// The lengths of a tick that are tried, in microseconds, in their order.
+pub fn ticks_of(wish: &Wish) -> &[u32] {
+    match &wish.tick_us {
+        Some(tick_us) => std::slice::from_ref(tick_us),
+        None => &TICKS,
+    }
+}
+
+/// That a text is too long to be read.
+fn too_long(alloc: Global, tick: u64, length: usize) -> Obstacles {
+    let mut obstacles = Obstacles::new(alloc, tick);
+    obstacles.stage = 4;
+    obstacles.lines.begin("");
+    obstacles.lines.line(
+        "the tables take {} bytes, at most {} (T01); shorter names",
+        &[Fact::Number(length as u64), Fact::Number(TEXT_LIMIT as u64)],
+    );
+    obstacles
+}
+
+/// What is asked of a plan with ticks of this length.
+fn knobs_of(wish: &Wish, tick_us: u32) -> Knobs {
+    let headroom = match wish.headroom {
+        Some(percent) => Some(u64::from(percent)),
+        None => None,
+    };
+    Knobs::new(u64::from(tick_us), headroom, wish.tick_us.is_some())
+}
+
+/// The text of tables for a document with ticks of this length, or what stands in the way. What holds of the text is for
+/// its judges to say.
+pub fn draft(
+    alloc: Global,
+    document: &Document,
+    wish: Wish,
+    tick_us: u32,
+    unread: &Unread<'_>,
+) -> Result<String, Untabled> {
+    let plan = match make_plan(alloc, document, &knobs_of(&wish, tick_us)) {
+        Ok(plan) => plan,
+        Err(Unplanned::NoMemory) => return Err(Untabled::NoMemory),
+        Err(Unplanned::Obstacles(obstacles)) => return Err(Untabled::Obstacles(obstacles)),
+    };
+    let mut lines = Lines::new(alloc);
+    if write_tables(alloc, document, &plan, unread, &mut lines).is_err() {
+        return Err(Untabled::NoMemory);
+    }
+    let Some(text) = lines.finish() else {
+        return Err(Untabled::NoMemory);
+    };
+    let length = text.len();
+    if length > TEXT_LIMIT {
+        return Err(Untabled::Obstacles(too_long(alloc, u64::from(tick_us), length)));
+    }
+    Ok(text)
+}

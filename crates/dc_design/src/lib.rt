@@ -1,0 +1,13 @@
+//! The text of tables for a document, and what is told where there are none.
+#![tactic(auto)]
+
+mod bus_lines;
+mod drafts;
+mod furthest;
+mod output_lines;
+mod tables;
+mod words;
+
+pub use dc_plan::Obstacles;
+pub use drafts::{Unread, Untabled, Wish, draft, ticks_of};
+pub use furthest::Furthest;

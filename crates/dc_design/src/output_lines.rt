@@ -1,0 +1,163 @@
+//! The lines of outputs and their labels.
+use crate::words::{speed_word, ticks_word};
+use dc_design_rows::{Document, Fact, Label, Lines, Output, Span};
+use dc_plan::{LabelPlan, OutputPlan, Plan, part, up};
+
+/// The least and the greatest gap between offsets.
+#[derive(Clone, Copy)]
+struct Gaps {
+    least: u64,
+    most: u64,
+}
+
+/// The gaps between offsets round a frame.
+fn gaps_of(offsets: &[u64], span: Span, frame: u64) -> Gaps {
+    let mut gaps = Gaps {
+        least: u64::MAX,
+        most: 0,
+    };
+    let first = offsets.get(span.first).copied().unwrap_or(0);
+    for place in span.first..span.end {
+        let next = place.saturating_add(1);
+        let end = if next < span.end {
+            offsets.get(next).copied().unwrap_or(0)
+        } else {
+            first.saturating_add(frame)
+        };
+        let gap = end.saturating_sub(offsets.get(place).copied().unwrap_or(0));
+        gaps.least = gaps.least.min(gap);
+        gaps.most = gaps.most.max(gap);
+    }
+    gaps
+}
+
+/// Writes an output without its labels.
+fn write_head(output: &Output, plan: &OutputPlan, lines: &mut Lines) {
+    lines.say(
+        "\n# {} % of the wire, {} entries; an entry leaves within {} {} of its offset\n[[output]]\n",
+        &[
+            Fact::Number(plan.load),
+            Fact::Number(plan.entries),
+            Fact::Number(plan.within),
+            ticks_word(plan.within),
+        ],
+    );
+    lines.line(
+        "name = \"{}\"\nspeed = \"{}\"\nsteps = 1\nwithin = {}\nframe = {}",
+        &[
+            Fact::Name(output.name),
+            speed_word(output.speed),
+            Fact::Number(plan.within),
+            Fact::Number(plan.frame),
+        ],
+    );
+}
+
+/// Says by which numbers the offsets of a label are as they are.
+fn say_gaps(
+    document: &Document,
+    plan: &Plan,
+    label: &Label,
+    own: &LabelPlan,
+    output: &OutputPlan,
+    lines: &mut Lines,
+) {
+    let gaps = gaps_of(&plan.offsets, own.offsets, output.frame);
+    let Some(parameter) = document.parameter(label.parameter) else {
+        return;
+    };
+    lines.say(
+        "\n# outputs row {}: gaps {} to {}, give or take {}, of {} to ",
+        &[
+            Fact::Number(label.row),
+            Fact::Number(gaps.least),
+            Fact::Number(gaps.most),
+            Fact::Number(output.within),
+            Fact::Number(up(parameter.min, plan.tick).saturating_add(1)),
+        ],
+    );
+    lines.line(
+        "{}; at most {} {} old",
+        &[
+            Fact::Number(part(parameter.max, plan.tick).saturating_sub(1)),
+            Fact::Number(own.least_age),
+            ticks_word(own.least_age),
+        ],
+    );
+}
+
+/// Says the sources of a label.
+fn say_sources(document: &Document, label: &Label, lines: &mut Lines) {
+    for place in label.sources.first..label.sources.end {
+        let number = document.sources.get(place).copied().unwrap_or(0);
+        if let Some(stream) = document.streams.get(number) {
+            let is_first = place == label.sources.first;
+            lines.say(
+                if is_first { "\"{}\"" } else { ", \"{}\"" },
+                &[Fact::Name(stream.name)],
+            );
+        }
+    }
+}
+
+/// Says the offsets of a label.
+fn say_offsets(plan: &Plan, span: Span, lines: &mut Lines) {
+    for place in span.first..span.end {
+        let offset = plan.offsets.get(place).copied().unwrap_or(0);
+        let is_first = place == span.first;
+        lines.say(
+            if is_first { "{}" } else { ", {}" },
+            &[Fact::Number(offset)],
+        );
+    }
+}
+
+/// Writes the keys of a label.
+fn write_keys(document: &Document, plan: &Plan, label: &Label, own: &LabelPlan, lines: &mut Lines) {
+    lines.say(
+        "[[output.label]]\nname = \"{}\"\nlabel = \"{}\"\nequipment = \"{}\"\nsdi = {}\nsources = [",
+        &[
+            Fact::Name(label.name),
+            Fact::Octal(label.label),
+            Fact::Hexadecimal(label.equipment),
+            Fact::Number(label.sdi),
+        ],
+    );
+    say_sources(document, label, lines);
+    lines.say(
+        "]\nstale = {}\nage = {}\noffsets = [",
+        &[Fact::Number(own.stale), Fact::Number(own.age)],
+    );
+    say_offsets(plan, own.offsets, lines);
+    lines.line("]", &[]);
+}
+
+/// Writes the labels of an output.
+fn write_labels(
+    document: &Document,
+    plan: &Plan,
+    output: &Output,
+    own: &OutputPlan,
+    lines: &mut Lines,
+) {
+    for place in output.labels.first..output.labels.end {
+        let number = document.on_output.get(place).copied().unwrap_or(0);
+        let Some(label) = document.labels.get(number) else {
+            continue;
+        };
+        if let Some(numbers) = plan.labels.get(number) {
+            say_gaps(document, plan, label, numbers, own, lines);
+            write_keys(document, plan, label, numbers, lines);
+        }
+    }
+}
+
+/// Writes the outputs with their labels.
+pub(crate) fn write_outputs(document: &Document, plan: &Plan, lines: &mut Lines) {
+    for (number, output) in document.outputs.iter().enumerate() {
+        if let Some(own) = plan.outputs.get(number) {
+            write_head(output, own, lines);
+            write_labels(document, plan, output, own, lines);
+        }
+    }
+}

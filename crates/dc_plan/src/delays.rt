@@ -1,0 +1,134 @@
+//! Stage 2: how late a bus may be.
+use crate::knobs::Knobs;
+use crate::numbers::{part, share_of, up, whole_of};
+use crate::obstacles::Obstacles;
+use crate::planned::Pace;
+use dc_design_rows::{Document, Fact, Label, Letters};
+use std::alloc::AllocError;
+
+/// No word waits longer than so many microseconds, or one tick.
+const POLL_US: u64 = 5_000;
+
+/// Of the sources of a label the one whose words lie farthest apart.
+#[derive(Clone, Copy)]
+struct Slowest {
+    /// So many ticks they lie apart.
+    most: u64,
+    /// What it is called.
+    name: Letters,
+}
+
+/// The age that a label may have, in ticks.
+pub(crate) fn age_of(max_age: u64, tick: u64) -> u64 {
+    part(max_age, tick).saturating_sub(1)
+}
+
+/// Of the sources of a label the first one whose words lie farthest apart.
+fn slowest_of(document: &Document, paces: &[Pace], label: &Label) -> Slowest {
+    let mut slowest = Slowest {
+        most: 0,
+        name: Letters::empty(),
+    };
+    for place in label.sources.first..label.sources.end {
+        let number = document.sources.get(place).copied().unwrap_or(0);
+        let Some(stream) = document.streams.get(number) else {
+            continue;
+        };
+        let Some(pace) = paces.get(number) else {
+            continue;
+        };
+        if pace.most > slowest.most {
+            slowest = Slowest {
+                most: pace.most,
+                name: stream.name,
+            };
+        }
+    }
+    slowest
+}
+
+/// Tells that the words of a source lie too far apart for the age of a label.
+fn tell_age(
+    label: &Label,
+    max_age: u64,
+    slowest: &Slowest,
+    knobs: &Knobs,
+    obstacles: &mut Obstacles,
+) {
+    let left = share_of(age_of(max_age, knobs.tick), knobs.share);
+    let least = whole_of(slowest.most.saturating_add(2), knobs.share).saturating_add(1);
+    obstacles.lines.begin("");
+    obstacles.lines.say(
+        "outputs row {} column max_age: {} us leave {} ticks of {} us, but words of {} may lie {} apart, ",
+        &[
+            Fact::Number(label.row),
+            Fact::Number(max_age),
+            Fact::Number(left),
+            Fact::Number(knobs.tick),
+            Fact::Name(slowest.name),
+            Fact::Number(slowest.most),
+        ],
+    );
+    obstacles.lines.line(
+        "and its bus and the choice take one more each (C11, C12); a max_age of {} us, or a quicker {}{}",
+        &[
+            Fact::Number(least.saturating_mul(knobs.tick)),
+            Fact::Name(slowest.name),
+            Fact::Word(knobs.shorter),
+        ],
+    );
+}
+
+/// Lets the buses of the sources of a label be no later than this.
+fn limit(document: &Document, label: &Label, spare: u64, wanted: &mut Vec<u64>) {
+    for place in label.sources.first..label.sources.end {
+        let number = document.sources.get(place).copied().unwrap_or(0);
+        let Some(stream) = document.streams.get(number) else {
+            continue;
+        };
+        if let Some(most) = wanted.get_mut(stream.bus) {
+            let least = spare.min(*most).max(1);
+            *most = least;
+        }
+    }
+}
+
+/// How late the buses of a label's sources may be, by its age.
+fn limit_by(
+    document: &Document,
+    paces: &[Pace],
+    label: &Label,
+    knobs: &Knobs,
+    wanted: &mut Vec<u64>,
+    obstacles: &mut Obstacles,
+) {
+    let Some(max_age) = label.max_age else {
+        return;
+    };
+    let slowest = slowest_of(document, paces, label);
+    let left = share_of(age_of(max_age, knobs.tick), knobs.share);
+    let spare = left.saturating_sub(slowest.most) / 2;
+    if spare < 1 {
+        tell_age(label, max_age, &slowest, knobs, obstacles);
+    }
+    limit(document, label, spare, wanted);
+}
+
+/// How late each bus may be, by the ages of the labels.
+pub(crate) fn limit_all(
+    document: &Document,
+    paces: &[Pace],
+    knobs: &Knobs,
+    wanted: &mut Vec<u64>,
+    obstacles: &mut Obstacles,
+) -> Result<(), AllocError> {
+    for _ in &document.buses {
+        wanted.push(up(POLL_US, knobs.tick).max(1))?;
+    }
+    for number in &document.on_output {
+        if let Some(label) = document.labels.get(*number) {
+            limit_by(document, paces, label, knobs, wanted, obstacles);
+        }
+    }
+    Ok(())
+}

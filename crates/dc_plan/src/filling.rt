@@ -1,0 +1,289 @@
+//! A frame that is filled with the entries of labels.
+use crate::board::Board;
+use crate::counts::Rhythm;
+use crate::numbers::part;
+use crate::windows::{Window, Windows};
+use dc_design_rows::Span;
+use std::alloc::{AllocError, Global};
+
+/// So many entries of a label, with gaps of its window.
+#[derive(Clone, Copy, PartialEq)]
+pub(crate) struct Need {
+    window: Window,
+    entries: u64,
+}
+
+/// A label with this need found its first place just before this one.
+#[derive(Clone, Copy)]
+struct Start {
+    need: Need,
+    next: u64,
+}
+
+/// A frame that is being filled: its places, what its labels need, in which order they look, and where.
+#[derive(Drop)]
+struct Trial {
+    board: Board,
+    needs: Vec<Need>,
+    order: Vec<usize>,
+    starts: Vec<Start>,
+}
+
+/// The places that labels found.
+#[derive(Drop)]
+pub(crate) struct Filling {
+    /// The places of all, those of each label from its first on; some are behind the frame's end.
+    pub(crate) spots: Vec<u64>,
+    /// Where those of each label stand.
+    pub(crate) spans: Vec<Span>,
+}
+
+/// The free place for the next entry of a label that is nearest to an even rhythm.
+fn nearest(board: &Board, need: &Need, first: u64, last: u64, number: u64) -> Option<u64> {
+    let frame = board.frame();
+    let left = need.entries.saturating_sub(number);
+    let round = first.saturating_add(frame);
+    let low = last.saturating_add(need.window.low).max(round.saturating_sub(left.saturating_mul(
+        need.window.high,
+    )));
+    let high = last
+        .saturating_add(need.window.high)
+        .min(round.saturating_sub(left.saturating_mul(need.window.low)));
+    let even = first.saturating_add(part(number.saturating_mul(frame), need.entries));
+    let wanted = even.max(low).min(high);
+    let reach = wanted.saturating_sub(low).max(high.saturating_sub(wanted));
+    for away in 0..reach.saturating_add(1) {
+        let later = wanted.saturating_add(away);
+        if later <= high && board.is_free(later) {
+            return Some(later);
+        }
+        let earlier = wanted.saturating_sub(away);
+        if earlier >= low && away <= wanted && board.is_free(earlier) {
+            return Some(earlier);
+        }
+    }
+    None
+}
+
+/// Adds the places of a label whose first entry stands here; whether all its entries found one.
+fn walk(board: &Board, need: &Need, first: u64, spots: &mut Vec<u64>) -> Result<bool, AllocError> {
+    let mut last = first;
+    spots.push(first)?;
+    for number in 1..need.entries {
+        let Some(next) = nearest(board, need, first, last, number) else {
+            return Ok(false);
+        };
+        spots.push(next)?;
+        last = next;
+    }
+    Ok(true)
+}
+
+/// Where the first place of a label is looked for: one like it found none before there.
+fn start_of(starts: &[Start], need: &Need) -> u64 {
+    for start in starts {
+        if start.need == *need {
+            return start.next;
+        }
+    }
+    0
+}
+
+/// Notes where the next label like this one is to look.
+fn note_start(starts: &mut Vec<Start>, need: &Need, next: u64) -> Result<(), AllocError> {
+    for start in starts.iter_mut() {
+        if start.need == *need {
+            start.next = next;
+            return Ok(());
+        }
+    }
+    starts.push(Start { need: *need, next })?;
+    Ok(())
+}
+
+/// Adds the places of a label; nothing where it finds none, else its first.
+fn settle(
+    board: &Board,
+    need: &Need,
+    start: u64,
+    spots: &mut Vec<u64>,
+) -> Result<Option<u64>, AllocError> {
+    let count = spots.len();
+    for first in start..need.window.high.min(board.frame()) {
+        if board.is_free(first) {
+            if walk(board, need, first, spots)? {
+                return Ok(Some(first));
+            }
+            spots.truncate(count);
+        }
+    }
+    Ok(None)
+}
+
+/// Takes the places of a label.
+fn take_all(board: &mut Board, spots: &[u64], first: usize, apart: u64) {
+    for (number, spot) in spots.iter().enumerate() {
+        if number >= first {
+            board.take(*spot, apart);
+        }
+    }
+}
+
+/// Adds the places of the next label in the order, any two so far apart; whether it found them.
+fn place_label(
+    trial: &mut Trial,
+    label: usize,
+    apart: u64,
+    filling: &mut Filling,
+) -> Result<bool, AllocError> {
+    let Some(need) = trial.needs.get(label).copied() else {
+        return Ok(true);
+    };
+    let first = filling.spots.len();
+    let start = start_of(&trial.starts, &need);
+    let Some(found) = settle(&trial.board, &need, start, &mut filling.spots)? else {
+        return Ok(false);
+    };
+    note_start(&mut trial.starts, &need, found.saturating_add(1))?;
+    take_all(&mut trial.board, &filling.spots, first, apart);
+    let end = filling.spots.len();
+    if let Some(span) = filling.spans.get_mut(label) {
+        *span = Span { first, end };
+    }
+    Ok(true)
+}
+
+/// Fills a frame with labels in their order; what is left is the first label that finds no place.
+fn place(
+    trial: &mut Trial,
+    apart: u64,
+    filling: &mut Filling,
+) -> Result<Option<usize>, AllocError> {
+    for number in 0..trial.order.len() {
+        let label = trial.order.get(number).copied().unwrap_or(0);
+        if !place_label(trial, label, apart, filling)? {
+            return Ok(Some(label));
+        }
+    }
+    Ok(None)
+}
+
+/// Whether a label comes before another one: the narrow windows first.
+fn is_before(windows: &[Window], one: usize, other: usize) -> bool {
+    let (Some(left), Some(right)) = (windows.get(one), windows.get(other)) else {
+        return one < other;
+    };
+    if left.width() != right.width() {
+        return left.width() < right.width();
+    }
+    if left.high != right.high {
+        return left.high < right.high;
+    }
+    one < other
+}
+
+/// The labels in the order in which they are placed first.
+pub(crate) fn order_labels(windows: &[Window], order: &mut Vec<usize>) -> Result<(), AllocError> {
+    for label in 0..windows.len() {
+        let mut carried = label;
+        for other in order.iter_mut() {
+            if is_before(windows, carried, *other) {
+                let next = *other;
+                *other = carried;
+                carried = next;
+            }
+        }
+        order.push(carried)?;
+    }
+    Ok(())
+}
+
+/// Brings a label to the front.
+fn bring_forward(order: &mut [usize], label: usize) {
+    let mut carried = label;
+    for slot in order.iter_mut() {
+        let next = *slot;
+        *slot = carried;
+        if next == label {
+            return;
+        }
+        carried = next;
+    }
+}
+
+/// How many entries each label has in a frame.
+fn list_needs(
+    rhythm: &Rhythm,
+    frame: u64,
+    windows: &[Window],
+    needs: &mut Vec<Need>,
+) -> Result<(), AllocError> {
+    let Some(base) = rhythm.base(frame) else {
+        return Ok(());
+    };
+    for window in windows {
+        needs.push(Need {
+            window: *window,
+            entries: rhythm.count(frame, base, window).entries,
+        })?;
+    }
+    Ok(())
+}
+
+/// Empties what was filled, with room for so many labels.
+fn empty(filling: &mut Filling, labels: usize) -> Result<(), AllocError> {
+    filling.spots.truncate(0);
+    filling.spans.truncate(0);
+    for _ in 0..labels {
+        filling.spans.push(Span { first: 0, end: 0 })?;
+    }
+    Ok(())
+}
+
+/// Makes a frame ready to be filled once more.
+fn begin(trial: &mut Trial, filling: &mut Filling) -> Result<(), AllocError> {
+    trial.board.clear();
+    trial.starts.truncate(0);
+    empty(filling, trial.needs.len())
+}
+
+/// Fills a frame in so many orders.
+fn fill_orders(
+    trial: &mut Trial,
+    apart: u64,
+    orders: usize,
+    filling: &mut Filling,
+) -> Result<Option<usize>, AllocError> {
+    let mut lost = None;
+    for _ in 0..orders {
+        begin(trial, filling)?;
+        let Some(label) = place(trial, apart, filling)? else {
+            return Ok(None);
+        };
+        lost = Some(label);
+        bring_forward(&mut trial.order, label);
+    }
+    Ok(lost)
+}
+
+/// Fills a frame in so many orders: who found no place comes first in the next one. What is left is who found none in
+/// the last one.
+pub(crate) fn fill_frame(
+    alloc: Global,
+    frame: u64,
+    windows: &Windows,
+    rhythm: &Rhythm,
+    apart: u64,
+    orders: usize,
+    filling: &mut Filling,
+) -> Result<Option<usize>, AllocError> {
+    let mut trial = Trial {
+        board: Board::new(alloc, frame)?,
+        needs: Vec::new(alloc),
+        order: Vec::new(alloc),
+        starts: Vec::new(alloc),
+    };
+    list_needs(rhythm, frame, &windows.of_labels, &mut trial.needs)?;
+    order_labels(&windows.of_labels, &mut trial.order)?;
+    fill_orders(&mut trial, apart, orders, filling)
+}

@@ -1,0 +1,63 @@
+//! Frames in which the least numbers of entries have room.
+use crate::counts::{LABEL_ENTRIES, Loads, fits};
+use crate::numbers::{part, up};
+use crate::windows::{Group, Spacing, Windows};
+use dc_bound::LONGEST_FRAME;
+use std::alloc::AllocError;
+
+/// The longest frame, in ticks.
+pub(crate) const LONGEST: u64 = LONGEST_FRAME as u64;
+
+/// So many frames are looked at for one spacing.
+const MOST_FRAMES: usize = 1_024;
+
+/// The least number of entries of all labels; nothing where a label has none that are whole.
+fn least_entries(frame: u64, groups: &[Group]) -> Option<u64> {
+    let mut entries = 0u64;
+    for group in groups {
+        let count = up(frame, group.window.high);
+        if count > part(frame, group.window.low).min(LABEL_ENTRIES) {
+            return None;
+        }
+        entries = entries.saturating_add(count.saturating_mul(group.labels));
+    }
+    Some(entries)
+}
+
+/// Whether the least numbers of entries have room in a frame, with so many percent of the wire.
+fn is_valid(frame: u64, groups: &[Group], spacing: &Spacing, most: u64) -> bool {
+    match least_entries(frame, groups) {
+        None => false,
+        Some(entries) => fits(frame, entries, spacing, &Loads { over: 0, most }),
+    }
+}
+
+/// The first frames, in units, in which the least numbers of entries have room.
+pub(crate) fn list_frames(
+    windows: &Windows,
+    spacing: &Spacing,
+    most: u64,
+    frames: &mut Vec<u64>,
+) -> Result<(), AllocError> {
+    let last = part(LONGEST, spacing.unit).min(windows.fastest.saturating_mul(LABEL_ENTRIES));
+    for frame in windows.slowest..last.saturating_add(1) {
+        if is_valid(frame, &windows.groups, spacing, most) {
+            frames.push(frame)?;
+            if frames.len() == MOST_FRAMES {
+                return Ok(());
+            }
+        }
+    }
+    Ok(())
+}
+
+/// Whether there is any such frame.
+pub(crate) fn is_any(windows: &Windows, spacing: &Spacing, most: u64) -> bool {
+    let last = part(LONGEST, spacing.unit).min(windows.fastest.saturating_mul(LABEL_ENTRIES));
+    for frame in windows.slowest..last.saturating_add(1) {
+        if is_valid(frame, &windows.groups, spacing, most) {
+            return true;
+        }
+    }
+    false
+}

@@ -1,0 +1,52 @@
+//! What stands in the way of tables.
+use dc_design_rows::{Fact, Lines};
+use std::alloc::Global;
+
+/// What stands in the way of tables with ticks of one length: the lines of the first stage that has any.
+#[derive(Drop)]
+pub struct Obstacles {
+    /// The length of a tick, in microseconds.
+    pub tick: u64,
+    /// The stage, 1 to 4: ticks, ages, buses, or outputs with their labels and routers.
+    pub stage: u64,
+    /// A line for each, the first of them.
+    pub lines: Lines,
+}
+
+/// Why there is no plan.
+#[derive(Drop)]
+pub enum Unplanned {
+    /// Something stands in the way.
+    Obstacles(Obstacles),
+    /// Memory was refused.
+    NoMemory,
+}
+
+impl Obstacles {
+    /// Nothing in the way so far.
+    pub fn new(alloc: Global, tick: u64) -> Obstacles {
+        Obstacles {
+            tick,
+            stage: 1,
+            lines: Lines::new(alloc),
+        }
+    }
+
+    /// Whether something is.
+    pub fn is_any(&self) -> bool {
+        self.lines.count() > 0
+    }
+
+    /// A refusal of tables that were printed, in these words, as an obstacle of the last stage.
+    pub fn judged(alloc: Global, tick: u32, words: &str) -> Obstacles {
+        let mut obstacles = Obstacles::new(alloc, u64::from(tick));
+        obstacles.stage = 4;
+        obstacles.lines.begin("");
+        obstacles
+            .lines
+            .say("tick {}: ", &[Fact::Number(u64::from(tick))]);
+        obstacles.lines.text(words);
+        obstacles.lines.end();
+        obstacles
+    }
+}

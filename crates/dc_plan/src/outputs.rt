@@ -1,0 +1,233 @@
+//! Stage 4: the frame and the offsets of an output.
+use crate::choices::choose;
+use crate::counts::{Kind, Loads, Rhythm};
+use crate::filling::{Filling, fill_frame};
+use crate::frames::list_frames;
+use crate::knobs::Knobs;
+use crate::windows::{Spacing, Windows};
+use dc_design_rows::{Document, Output};
+use std::alloc::{AllocError, Global};
+
+/// So many frames are filled, each in so many orders.
+#[derive(Clone, Copy)]
+struct Effort {
+    frames: usize,
+    orders: usize,
+}
+
+/// A few frames first, then more.
+static EFFORTS: [Effort; 2] = [
+    Effort {
+        frames: 4,
+        orders: 6,
+    },
+    Effort {
+        frames: 16,
+        orders: 16,
+    },
+];
+
+/// The mean gap of a label lies so many sixteenths of its window below the greatest: the middle first.
+static SHARES: [u64; 5] = [8, 6, 4, 2, 0];
+
+/// An even rhythm first, then any, then the shortest frame.
+static KINDS: [Kind; 3] = [Kind::Even, Kind::Any, Kind::Short];
+
+/// An output that is looked at.
+#[derive(Clone, Copy)]
+pub(crate) struct Scene<'a> {
+    pub(crate) alloc: Global,
+    pub(crate) document: &'a Document,
+    pub(crate) output: &'a Output,
+    pub(crate) knobs: &'a Knobs,
+    /// So many ticks lie between two sends at least.
+    pub(crate) gap: u64,
+}
+
+/// Who found no place last.
+#[derive(Clone, Copy)]
+pub(crate) struct Lost {
+    /// The number of the label among those of the output.
+    pub(crate) label: usize,
+    /// The length of the frame, in ticks.
+    pub(crate) frame: u64,
+}
+
+/// What was found, and who found no place before.
+#[derive(Drop)]
+pub(crate) struct Search {
+    pub(crate) filling: Filling,
+    pub(crate) lost: Option<Lost>,
+}
+
+/// A frame that was filled.
+#[derive(Clone, Copy)]
+pub(crate) struct Filled {
+    /// Its length, in units.
+    pub(crate) frame: u64,
+    /// How its entries lie.
+    pub(crate) spacing: Spacing,
+}
+
+/// What is tried for one spacing.
+#[derive(Clone, Copy)]
+struct Attempt<'a> {
+    alloc: Global,
+    windows: &'a Windows,
+    frames: &'a [u64],
+    spacing: &'a Spacing,
+    effort: &'a Effort,
+}
+
+/// The spacing of this number: sends that may be late by a gap first, then such as must leave on time; entries in units
+/// of these first, then anywhere.
+pub(crate) fn spacing_at(gap: u64, number: usize) -> Option<Spacing> {
+    let within = if number < 2 {
+        gap.saturating_mul(2)
+    } else {
+        gap
+    };
+    let is_whole = number % 2 == 0;
+    if number >= 4 || (!is_whole && within == 1) {
+        return None;
+    }
+    Some(Spacing {
+        unit: if is_whole { within } else { 1 },
+        within,
+        gap,
+    })
+}
+
+/// The loads of this number: with room on the wire first.
+fn loads_at(knobs: &Knobs, number: usize) -> Option<Loads> {
+    let used = knobs.used();
+    match number {
+        0 => Some(Loads {
+            over: 0,
+            most: used,
+        }),
+        1 if !knobs.is_hard => Some(Loads {
+            over: used,
+            most: 100,
+        }),
+        _ => None,
+    }
+}
+
+/// Fills the best frames of a rhythm; what is left is the first that is filled, in units.
+fn fill_choices(
+    attempt: &Attempt<'_>,
+    loads: &Loads,
+    rhythm: &Rhythm,
+    search: &mut Search,
+) -> Result<Option<u64>, AllocError> {
+    let mut choices = Vec::new(attempt.alloc);
+    let groups = &attempt.windows.groups;
+    choose(
+        attempt.frames,
+        groups,
+        attempt.spacing,
+        loads,
+        rhythm,
+        attempt.effort.frames,
+        &mut choices,
+    )?;
+    for choice in &choices {
+        let lost = fill_frame(
+            attempt.alloc,
+            choice.frame,
+            attempt.windows,
+            rhythm,
+            attempt.spacing.apart(),
+            attempt.effort.orders,
+            &mut search.filling,
+        )?;
+        let Some(label) = lost else {
+            return Ok(Some(choice.frame));
+        };
+        search.lost = Some(Lost {
+            label,
+            frame: choice.frame.saturating_mul(attempt.spacing.unit),
+        });
+    }
+    Ok(None)
+}
+
+/// Fills frames with mean gaps in the middle of their windows first, and an even rhythm.
+fn fill_rhythms(
+    attempt: &Attempt<'_>,
+    loads: &Loads,
+    search: &mut Search,
+) -> Result<Option<u64>, AllocError> {
+    for share in &SHARES {
+        for kind in &KINDS {
+            let rhythm = Rhythm::of(*kind, *share, attempt.windows);
+            if let Some(frame) = fill_choices(attempt, loads, &rhythm, search)? {
+                return Ok(Some(frame));
+            }
+        }
+    }
+    Ok(None)
+}
+
+/// Fills frames with room on the wire first.
+fn fill_loads(
+    attempt: &Attempt<'_>,
+    knobs: &Knobs,
+    search: &mut Search,
+) -> Result<Option<u64>, AllocError> {
+    for number in 0..2usize {
+        if let Some(loads) = loads_at(knobs, number) {
+            if let Some(frame) = fill_rhythms(attempt, &loads, search)? {
+                return Ok(Some(frame));
+            }
+        }
+    }
+    Ok(None)
+}
+
+/// Fills frames for one spacing.
+fn fill_spacing(
+    scene: &Scene<'_>,
+    spacing: &Spacing,
+    effort: &Effort,
+    search: &mut Search,
+) -> Result<Option<u64>, AllocError> {
+    let windows = Windows::of(
+        scene.alloc,
+        scene.document,
+        scene.output,
+        scene.knobs,
+        spacing,
+    )?;
+    if windows.is_some_empty() {
+        return Ok(None);
+    }
+    let mut frames = Vec::new(scene.alloc);
+    list_frames(&windows, spacing, scene.knobs.share, &mut frames)?;
+    let attempt = Attempt {
+        alloc: scene.alloc,
+        windows: &windows,
+        frames: &frames,
+        spacing,
+        effort,
+    };
+    fill_loads(&attempt, scene.knobs, search)
+}
+
+/// Fills frames, each spacing in turn, with little effort and then with more.
+pub(crate) fn fill_output(
+    scene: &Scene<'_>,
+    search: &mut Search,
+) -> Result<Option<Filled>, AllocError> {
+    for effort in &EFFORTS {
+        for number in 0..4usize {
+            if let Some(spacing) = spacing_at(scene.gap, number) {
+                if let Some(frame) = fill_spacing(scene, &spacing, effort, search)? {
+                    return Ok(Some(Filled { frame, spacing }));
+                }
+            }
+        }
+    }
+    Ok(None)
+}

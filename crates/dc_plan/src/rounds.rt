@@ -1,0 +1,102 @@
+//! The visits of a router in turn.
+use crate::numbers::up;
+use crate::planned::BusPlan;
+use dc_document::{MOST_STEPS, MOST_VISITS};
+use std::alloc::AllocError;
+
+/// The most steps in a tick.
+const MOST: u64 = MOST_STEPS as u64;
+
+/// The most visits of a round.
+const VISITS: u64 = MOST_VISITS as u64;
+
+/// So many steps in each so many ticks, and the most in one.
+#[derive(Clone, Copy)]
+pub(crate) struct Round {
+    pub(crate) steps: u64,
+    pub(crate) within: u64,
+    pub(crate) most: u64,
+}
+
+/// A round of so many steps: at most twice what it must make in a tick, so that a late router catches up.
+fn round_of(steps: u64, within: u64) -> Round {
+    Round {
+        steps,
+        within,
+        most: up(steps, within).saturating_mul(2).min(MOST),
+    }
+}
+
+/// How many visits a round has that is made so many times.
+fn visits_in(buses: &[BusPlan], group: &[usize], rounds: u64) -> u64 {
+    let mut visits = 0u64;
+    for number in group {
+        if let Some(bus) = buses.get(*number) {
+            visits = visits.saturating_add(up(bus.steps, rounds));
+        }
+    }
+    visits
+}
+
+/// How many times a round is made, the least with which its visits have room.
+fn rounds_of(buses: &[BusPlan], group: &[usize]) -> u64 {
+    for rounds in 1..MOST {
+        if visits_in(buses, group, rounds) <= VISITS {
+            return rounds;
+        }
+    }
+    MOST
+}
+
+/// The least number of ticks of the buses of a router.
+pub(crate) fn shortest_within(buses: &[BusPlan], group: &[usize]) -> u64 {
+    let mut within = u64::MAX;
+    for number in group {
+        if let Some(bus) = buses.get(*number) {
+            within = within.min(bus.within);
+        }
+    }
+    within
+}
+
+/// Deals the visits of a round out, one of each bus in turn until all are dealt.
+fn deal(
+    buses: &[BusPlan],
+    group: &[usize],
+    rounds: u64,
+    visits: &mut Vec<usize>,
+) -> Result<(), AllocError> {
+    for turn in 0..VISITS {
+        for number in group {
+            if let Some(bus) = buses.get(*number) {
+                if turn < up(bus.steps, rounds) {
+                    visits.push(*number)?;
+                }
+            }
+        }
+    }
+    Ok(())
+}
+
+/// The round of a router that visits these buses, whose visits are added to the others; nothing where they have no room.
+pub(crate) fn round_for(
+    buses: &[BusPlan],
+    group: &[usize],
+    visits: &mut Vec<usize>,
+) -> Result<Option<Round>, AllocError> {
+    if let [number] = group {
+        visits.push(*number)?;
+        return Ok(match buses.get(*number) {
+            Some(bus) => Some(round_of(bus.steps, bus.within)),
+            None => None,
+        });
+    }
+    let rounds = rounds_of(buses, group);
+    let count = visits_in(buses, group, rounds);
+    let steps = rounds.saturating_mul(count);
+    if steps > MOST || count > VISITS {
+        return Ok(None);
+    }
+    deal(buses, group, rounds, visits)?;
+    Ok(Some(round_of(steps, shortest_within(buses, group))))
+}

@@ -1,0 +1,300 @@
+//! Why an output has no frame.
+use crate::counts::{ENTRIES, LABEL_ENTRIES};
+use crate::frames::LONGEST;
+use crate::numbers::{part, up};
+use crate::obstacles::Obstacles;
+use crate::outputs::{Lost, Scene};
+use crate::windows::{Window, Windows};
+use dc_design_rows::{Fact, Label};
+use dc_document::Speed;
+
+/// So many words, in billionths of one.
+const WORD: u64 = 1_000_000_000;
+
+/// The label of this number among those of an output.
+fn label_at(scene: &Scene<'_>, number: usize) -> Option<Label> {
+    let place = scene.output.labels.first.saturating_add(number);
+    let label = scene.document.on_output.get(place).copied()?;
+    scene.document.labels.get(label).copied()
+}
+
+/// How many labels an output has.
+fn label_count(scene: &Scene<'_>) -> u64 {
+    let labels = scene.output.labels;
+    labels.end.saturating_sub(labels.first) as u64
+}
+
+/// What helps an output of low speed.
+fn speed_word(scene: &Scene<'_>, word: &'static str) -> Fact {
+    Fact::Word(match scene.output.speed {
+        Speed::Low => word,
+        Speed::High => "",
+    })
+}
+
+/// Begins a line on an output.
+fn begin(scene: &Scene<'_>, obstacles: &mut Obstacles) {
+    obstacles.lines.begin("");
+    obstacles
+        .lines
+        .say("output {}: ", &[Fact::Name(scene.output.name)]);
+}
+
+/// Names a label by its octal number and its row.
+fn say_label(scene: &Scene<'_>, number: usize, obstacles: &mut Obstacles) {
+    if let Some(label) = label_at(scene, number) {
+        obstacles.lines.say(
+            "label {} (outputs row {})",
+            &[Fact::Octal(label.label), Fact::Number(label.row)],
+        );
+    }
+}
+
+/// Tells a label whose gaps leave nothing beside the waiting of its sends.
+fn tell_window(scene: &Scene<'_>, label: &Label, min: u64, max: u64, obstacles: &mut Obstacles) {
+    let (tick, gap) = (scene.knobs.tick, scene.gap);
+    let low = up(min, tick).saturating_add(1);
+    let high = part(max, tick);
+    let wanted = low.saturating_add(gap.saturating_mul(2)).saturating_add(1);
+    obstacles.lines.begin("");
+    obstacles.lines.say(
+        "outputs row {} column max: {} to {} us are {} to {} ticks of {} us, ",
+        &[
+            Fact::Number(label.row),
+            Fact::Number(min),
+            Fact::Number(max),
+            Fact::Number(low),
+            Fact::Less(high, 1),
+            Fact::Number(tick),
+        ],
+    );
+    obstacles.lines.line(
+        "and a send that waits up to {} leaves gaps of {} to {}: none (T12, C08, C09); a max of {} us{}{}",
+        &[
+            Fact::Number(gap),
+            Fact::Number(low.saturating_add(gap)),
+            Fact::Less(high, gap.saturating_add(1)),
+            Fact::Number(wanted.saturating_mul(tick)),
+            speed_word(scene, ", or high speed"),
+            Fact::Word(scene.knobs.shorter),
+        ],
+    );
+}
+
+/// Tells the first label whose gaps leave nothing beside the waiting of its sends; whether there is one.
+pub(crate) fn is_window_told(scene: &Scene<'_>, obstacles: &mut Obstacles) -> bool {
+    let (tick, gap) = (scene.knobs.tick, scene.gap);
+    for number in 0..label_count(scene) {
+        let Some(label) = label_at(scene, number as usize) else {
+            continue;
+        };
+        let Some(parameter) = scene.document.parameter(label.parameter) else {
+            continue;
+        };
+        let low = up(parameter.min, tick).saturating_add(1);
+        let wanted = low.saturating_add(gap.saturating_mul(2)).saturating_add(1);
+        if wanted > part(parameter.max, tick) {
+            tell_window(scene, &label, parameter.min, parameter.max, obstacles);
+            return true;
+        }
+    }
+    false
+}
+
+/// Tells that the labels of an output want more of the wire than there is.
+fn tell_wire(scene: &Scene<'_>, words: u64, obstacles: &mut Obstacles) {
+    let share = scene.knobs.share;
+    begin(scene, obstacles);
+    obstacles.lines.say(
+        "its {} labels want {} % of the sends, {} in 1000 ticks, and {} are there{} (F1, T24); ",
+        &[
+            Fact::Number(label_count(scene)),
+            Fact::Number(up(words.saturating_mul(scene.gap), WORD / 100)),
+            Fact::Number(up(words, WORD / 1_000)),
+            Fact::Number(part(share.saturating_mul(10), scene.gap)),
+            Fact::Word(if share < 100 {
+                " with the headroom"
+            } else {
+                ""
+            }),
+        ],
+    );
+    obstacles.lines.line(
+        "longer intervals, {}{}or another output for some{}",
+        &[
+            speed_word(scene, "high speed, "),
+            Fact::Word(if scene.knobs.is_hard {
+                "less headroom, "
+            } else {
+                ""
+            }),
+            Fact::Word(scene.knobs.shorter),
+        ],
+    );
+}
+
+/// Which labels of an output decide about its frames.
+#[derive(Clone, Copy)]
+struct Deciding {
+    /// The first one with the greatest least gap.
+    slow: usize,
+    /// The first one with the least greatest gap.
+    fast: usize,
+    /// The first one with the fewest gaps.
+    narrow: usize,
+}
+
+/// Which labels decide.
+fn deciding_of(windows: &[Window]) -> Deciding {
+    let mut found = Deciding {
+        slow: 0,
+        fast: 0,
+        narrow: 0,
+    };
+    let (mut slow, mut fast, mut narrow) = (0u64, u64::MAX, u64::MAX);
+    for (number, window) in windows.iter().enumerate() {
+        if window.low > slow {
+            slow = window.low;
+            found.slow = number;
+        }
+        if window.high < fast {
+            fast = window.high;
+            found.fast = number;
+        }
+        if window.width() < narrow {
+            narrow = window.width();
+            found.narrow = number;
+        }
+    }
+    found
+}
+
+/// How many words a tick the labels want at least, in billionths.
+fn words_of(windows: &[Window]) -> u64 {
+    let mut words = 0u64;
+    for window in windows {
+        words = words.saturating_add(part(WORD, window.high));
+    }
+    words
+}
+
+/// How many entries the labels want at least in a frame of so many ticks.
+fn entries_in(windows: &[Window], frame: u64) -> u64 {
+    let mut entries = 0u64;
+    for window in windows {
+        entries = entries.saturating_add(up(frame, window.high));
+    }
+    entries
+}
+
+/// Tells that one label wants too many entries beside a slow one.
+fn tell_fast(
+    scene: &Scene<'_>,
+    found: &Deciding,
+    slowest: u64,
+    fastest: u64,
+    obstacles: &mut Obstacles,
+) {
+    begin(scene, obstacles);
+    say_label(scene, found.slow, obstacles);
+    obstacles.lines.say(
+        " lies at least {} ticks apart, and in a frame of so many ",
+        &[Fact::Number(slowest)],
+    );
+    say_label(scene, found.fast, obstacles);
+    obstacles.lines.line(
+        " wants {} entries, at most {} (T08); a lesser min of the slow one, or another output for one of them",
+        &[
+            Fact::Number(up(slowest, fastest)),
+            Fact::Number(LABEL_ENTRIES),
+        ],
+    );
+}
+
+/// Tells that all labels together want too many entries beside a slow one.
+fn tell_entries(
+    scene: &Scene<'_>,
+    found: &Deciding,
+    slowest: u64,
+    entries: u64,
+    obstacles: &mut Obstacles,
+) {
+    begin(scene, obstacles);
+    say_label(scene, found.slow, obstacles);
+    obstacles.lines.say(
+        " lies at least {} ticks apart, and in a frame of so many all labels want {} entries, at most {} (T08); ",
+        &[
+            Fact::Number(slowest),
+            Fact::Number(entries),
+            Fact::Number(ENTRIES),
+        ],
+    );
+    obstacles.lines.line(
+        "a lesser min of the slow one, or another output for it or for fast ones",
+        &[],
+    );
+}
+
+/// Tells that no frame gives every label a whole number of gaps.
+fn tell_frames(scene: &Scene<'_>, found: &Deciding, windows: &[Window], obstacles: &mut Obstacles) {
+    begin(scene, obstacles);
+    obstacles.lines.say(
+        "no frame up to {} ticks gives every label a whole number of gaps (",
+        &[Fact::Number(LONGEST)],
+    );
+    say_label(scene, found.narrow, obstacles);
+    if let Some(window) = windows.get(found.narrow) {
+        obstacles.lines.say(
+            ": {} to {} ticks) ",
+            &[Fact::Number(window.low), Fact::Number(window.high)],
+        );
+    }
+    obstacles.lines.line(
+        "within {} entries and the wire (C08, C09, T08); a wider interval for it, or a lesser min of the slow ones{}",
+        &[Fact::Number(ENTRIES), Fact::Word(scene.knobs.shorter)],
+    );
+}
+
+/// Tells why no frame has room for the least numbers of entries: the first necessary condition that fails.
+pub(crate) fn tell_no_frame(scene: &Scene<'_>, windows: &Windows, obstacles: &mut Obstacles) {
+    let words = words_of(&windows.of_labels);
+    let share = (WORD / 100).saturating_mul(scene.knobs.share);
+    if words.saturating_mul(scene.gap) >= share {
+        return tell_wire(scene, words, obstacles);
+    }
+    let found = deciding_of(&windows.of_labels);
+    let (slowest, fastest) = (windows.slowest, windows.fastest);
+    if slowest > fastest.saturating_mul(LABEL_ENTRIES) {
+        return tell_fast(scene, &found, slowest, fastest, obstacles);
+    }
+    let entries = entries_in(&windows.of_labels, slowest);
+    if entries > ENTRIES {
+        return tell_entries(scene, &found, slowest, entries, obstacles);
+    }
+    tell_frames(scene, &found, &windows.of_labels, obstacles)
+}
+
+/// Tells that no place was found for a label, or that no frame was filled at all. It is no proof that there is none.
+pub(crate) fn tell_no_place(scene: &Scene<'_>, lost: Option<Lost>, obstacles: &mut Obstacles) {
+    begin(scene, obstacles);
+    let Some(lost) = lost else {
+        obstacles.lines.say(
+            "with sends {} ticks apart no frame was found that gives every label its number of entries (C08, C09); ",
+            &[Fact::Number(scene.gap)],
+        );
+        return obstacles.lines.line(
+            "this is no proof that there is none: a wider interval for the narrowest{}",
+            &[Fact::Word(scene.knobs.shorter)],
+        );
+    };
+    obstacles.lines.say("no place was found for ", &[]);
+    say_label(scene, lost.label, obstacles);
+    obstacles.lines.say(
+        " beside the others, at last in a frame of {} ticks (C08, C09, T21); ",
+        &[Fact::Number(lost.frame)],
+    );
+    obstacles.lines.line(
+        "this is no proof that there is none: a wider interval for it, or another output for some labels{}",
+        &[Fact::Word(scene.knobs.shorter)],
+    );
+}

@@ -1,0 +1,91 @@
+//! The rows of the inputs that have their streams.
+ghost use Rattle.std.specs.Prelude.{MatchOption, not, ◌≡◌, ◌&&◌, nat_le, position, slice_get};
+ghost use Rattle.std.specs.Str.{bytes_eq};
+ghost use Rattle.dc_dict.specs.Rows.{row_of};
+ghost use Rattle.std.specs.List.{All};
+ghost use Rattle.dc_rows_kept.specs.KeepsRows.{HasStream, IsFirstWithout};
+ghost use Rattle.dc_rows_kept.specs.Tests.{has_stream, is_bus_of, is_stream_of, keeps_input, lets_come, passes_if_some, some_passes};
+
+use crate::same::{is_at_most, is_called, parameter_of};
+use dc_cell::{InputRow, Inputs};
+use dc_dict::Parameter;
+use dc_document::{BusPart, Parts, StreamPart};
+
+/// Whether a stream is that of a row, on its bus.
+fn is_stream_of(row: &InputRow, stream: &StreamPart, bus: &BusPart) -> bool
+    ensures { result ≡ is_stream_of row.now stream.now bus.now }
+{
+    bus.name == row.bus
+        && stream.label == row.label
+        && stream.sdi == row.sdi
+        && is_called(&stream.name, &row.name)
+}
+
+/// Whether a bus is as a row says.
+fn is_bus_of(row: &InputRow, bus: &BusPart) -> bool
+    ensures { result ≡ is_bus_of row.now bus.now }
+{
+    bus.speed == row.speed && (!row.police || bus.police) && is_at_most(bus.queue, row.queue)
+}
+
+/// Whether a stream of this parameter lets all words come that a row lets come.
+fn lets_come(row: &InputRow, stream: &StreamPart, parameter: &Parameter) -> bool
+    ensures { result ≡ lets_come row.now stream.now parameter.now }
+{
+    stream.equipment == row.equipment
+        && parameter.format == row.format
+        && parameter.min_us <= row.min_us
+        && row.max_us <= parameter.max_us
+        && row.jitter_us <= stream.jitter_us
+}
+
+/// Whether the bus of a stream is that of a row, and the stream the row's on it.
+fn is_on_bus(parts: &Parts, row: &InputRow, stream: &StreamPart) -> bool
+    ensures { result ≡ some_passes (λ b. is_stream_of row.now stream.now b && is_bus_of row.now b) (slice_get parts.now.buses stream.now.bus) }
+{
+    match parts.buses().get(stream.bus) {
+        Some(bus) => is_stream_of(row, stream, bus) && is_bus_of(row, bus),
+        None => false,
+    }
+}
+
+/// Whether the parameter of a stream is there, and lets all words come.
+fn is_let_come(parts: &Parts, row: &InputRow, stream: &StreamPart) -> bool
+    ensures { result ≡ some_passes (lets_come row.now stream.now) (row_of parts.now.parameters stream.now.label stream.now.equipment) }
+{
+    match parameter_of(parts, stream.label, stream.equipment) {
+        Some(parameter) => lets_come(row, stream, parameter),
+        None => false,
+    }
+}
+
+/// Whether a stream keeps a row.
+fn keeps_input(parts: &Parts, row: &InputRow, stream: &StreamPart) -> bool
+    ensures { result ≡ keeps_input parts.now row.now stream.now }
+{
+    is_on_bus(parts, row, stream) && is_let_come(parts, row, stream)
+}
+
+/// Whether a row has its stream.
+fn has_stream(parts: &Parts, row: &InputRow) -> bool
+    ensures { result ≡ has_stream parts.now row.now }
+{
+    parts
+        .streams()
+        .iter()
+        .any(|stream| keeps_input(parts, row, stream))
+}
+
+/// The place of the first row that has no stream.
+fn place_without(parts: &Parts, sheet: &Inputs) -> Option<usize>
+    ensures { result ≡ position (λ row. not (has_stream parts.now row)) sheet.now.rows.items }
+{
+    sheet.rows.iter().position(|row| !has_stream(parts, row))
+}
+
+/// The first row that has no stream.
+pub(crate) fn first_unkept_input(parts: &Parts, sheet: &Inputs) -> Option<usize>
+    ensures { MatchOption result (All (HasStream parts.now) sheet.now.rows.items) (λ k. IsFirstWithout (HasStream parts.now) sheet.now.rows.items k) }
+{
+    place_without(parts, sheet)
+}

@@ -1,0 +1,39 @@
+//! What rows of sheets and parts of a document are compared by.
+ghost use Rattle.std.specs.Prelude.{◌≡◌, nat_le, option_copied};
+ghost use Rattle.std.specs.Str.{bytes_eq};
+ghost use Rattle.dc_dict.specs.Rows.{row_of};
+ghost use Rattle.dc_rows_kept.specs.Tests.{passes_if_some};
+
+use dc_dict::{Equipment, Parameter};
+use dc_document::{Name, Parts};
+use dc_word::Label;
+
+/// Whether this is the name that is wanted, where one is.
+pub(crate) fn is_called(name: &Name, wanted: &Option<Name>) -> bool
+    ensures { result ≡ passes_if_some (bytes_eq name.now) wanted.now }
+{
+    match wanted {
+        Some(wanted) => name == wanted,
+        None => true,
+    }
+}
+
+/// Whether a number is at most this, where this is said.
+pub(crate) fn is_at_most(number: u32, most: Option<u32>) -> bool
+    ensures { result ≡ passes_if_some (nat_le number) most }
+{
+    match most {
+        Some(most) => number <= most,
+        None => true,
+    }
+}
+
+/// The parameter of a label and an equipment code.
+pub(crate) fn parameter_of(parts: &Parts, label: Label, equipment: Equipment) -> Option<&Parameter>
+    ensures { option_copied result ≡ row_of parts.now.parameters label equipment }
+{
+    parts
+        .parameters()
+        .iter()
+        .find(|row| label == row.label && equipment == row.equipment)
+}

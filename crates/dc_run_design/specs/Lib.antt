@@ -1,0 +1,2 @@
+-- What `design` answers.
+pub mod Design

@@ -1,0 +1,7 @@
+use Rattle.std.proofs.Common.{map, ap}
+use Rattle.csv.specs.Records.{fields_of}
+use Rattle.dc_sheet.proofs.Wholes.{are-outputs}
+use Rattle.dc_sheet.proofs.outputs.read_outputs.Goals as goal
+
+pub returns : goal.returns
+returns c = record { rows = are-outputs c.args.text.now c.separator-commas.result (map fields_of c.in_ok-records.records.items) (map fields_of c.deref.result.now) c.output_sheet.result c.separator-commas.ensures (ap (map fields_of) c.deref.ensures.value) c.in_ok-records.ensures c.output_sheet.ensures }

@@ -1,0 +1,386 @@
+//! The titles of a sheet, and the faults of its rows in their order.
+
+use crate::fault::{Fault, FaultKind, Faults, Sheet, SheetError};
+use crate::places::cell;
+use crate::sheet::{are_empty_from, is_passed};
+use csv::ByteRecord;
+use dc_cell::{
+    CellFault, Column, MOST_UNREAD, Shown, TimeUnit, equipment_cell, format_cell, input_sdi_cell,
+    is_title, key_of, label_cell, name_cell, name_if_any_cell, output_sdi_cell, police_cell,
+    push_names, queue_cell, speed_cell, time_cell, unit_of,
+};
+use dc_document::Name;
+use std::alloc::{AllocError, Global};
+
+/// The columns of the inputs, those that are wanted first.
+static INPUT_COLUMNS: [Column; 13] = [
+    Column::Bus,
+    Column::Speed,
+    Column::Label,
+    Column::Equipment,
+    Column::Format,
+    Column::Min,
+    Column::Max,
+    Column::Sdi,
+    Column::Jitter,
+    Column::Name,
+    Column::Queue,
+    Column::Police,
+    Column::Router,
+];
+
+/// The columns of the outputs, those that are wanted first.
+static OUTPUT_COLUMNS: [Column; 12] = [
+    Column::Output,
+    Column::Speed,
+    Column::Label,
+    Column::Equipment,
+    Column::Sources,
+    Column::Min,
+    Column::Max,
+    Column::Sdi,
+    Column::MaxAge,
+    Column::Timeout,
+    Column::Name,
+    Column::Format,
+];
+
+/// So many columns of each sheet are wanted.
+const WANTED: usize = 7;
+
+/// A title that is read.
+#[derive(Clone, Copy, Debug)]
+pub(crate) struct ReadTitle {
+    place: usize,
+    column: Column,
+    unit: TimeUnit,
+}
+
+/// What the titles of a sheet say.
+#[derive(Drop)]
+pub(crate) struct Heading {
+    /// Those that are read, from the left.
+    pub(crate) read: Vec<ReadTitle>,
+    /// The first of those that are not.
+    pub(crate) unread: Vec<Shown>,
+}
+
+/// What is asked of the cells of a row.
+#[derive(Clone, Copy)]
+struct Asked<'a> {
+    sheet: Sheet,
+    read: &'a [ReadTitle],
+    columns: usize,
+    commas: bool,
+}
+
+/// The columns of a sheet.
+fn columns_of(sheet: Sheet) -> &'static [Column] {
+    match sheet {
+        Sheet::Inputs => &INPUT_COLUMNS,
+        Sheet::Outputs => &OUTPUT_COLUMNS,
+    }
+}
+
+/// Whether a column is one of these.
+fn is_among(column: Column, columns: &[Column]) -> bool {
+    columns.iter().any(|other| *other == column)
+}
+
+/// The column of a sheet that a title is of.
+fn column_of(sheet: Sheet, key: &[u8]) -> Option<Column> {
+    for column in columns_of(sheet) {
+        if is_title(*column, key) {
+            return Some(*column);
+        }
+    }
+    None
+}
+
+/// Adds a fault of the header.
+fn push_header(faults: &mut Faults, sheet: Sheet, kind: FaultKind) -> Result<(), AllocError> {
+    faults.push(Fault {
+        sheet,
+        row: 1,
+        kind,
+    })
+}
+
+/// Reads the titles from the left.
+fn read_titles(
+    alloc: Global,
+    sheet: Sheet,
+    header: &ByteRecord,
+    faults: &mut Faults,
+) -> Result<(Heading, Vec<Column>), AllocError> {
+    let mut read: Vec<ReadTitle> = Vec::new(alloc);
+    let mut unread: Vec<Shown> = Vec::new(alloc);
+    let mut seen: Vec<Column> = Vec::new(alloc);
+    for place in 0..header.len() {
+        let title = cell(header, Some(place));
+        let key = key_of(alloc, title)?;
+        if let Some(column) = column_of(sheet, &key) {
+            let unit = unit_of(&key);
+            read.push(ReadTitle {
+                place,
+                column,
+                unit,
+            })?;
+            if !is_among(column, &seen) {
+                seen.push(column)?;
+            } else if column != Column::Sources {
+                push_header(faults, sheet, FaultKind::Twice(column))?;
+            }
+        } else if !title.is_empty() && unread.len() < MOST_UNREAD {
+            unread.push(Shown::new(title))?;
+        }
+    }
+    Ok((Heading { read, unread }, seen))
+}
+
+/// Adds a fault for each column that is wanted and not among these.
+fn tell_absent(faults: &mut Faults, sheet: Sheet, seen: &[Column]) -> Result<(), AllocError> {
+    for column in columns_of(sheet).iter().take(WANTED) {
+        if !is_among(*column, seen) {
+            push_header(faults, sheet, FaultKind::Absent(*column))?;
+        }
+    }
+    Ok(())
+}
+
+/// That a sheet has no header.
+pub(crate) fn header_fault(alloc: Global, sheet: Sheet) -> SheetError {
+    let mut faults = Faults::new(alloc);
+    match push_header(&mut faults, sheet, FaultKind::NoHeader) {
+        Ok(()) => SheetError::Faults(faults),
+        Err(_) => SheetError::Memory,
+    }
+}
+
+/// Reads the header, and adds its faults.
+fn read_heading(
+    alloc: Global,
+    sheet: Sheet,
+    header: &ByteRecord,
+    faults: &mut Faults,
+) -> Result<Heading, AllocError> {
+    let (heading, seen) = read_titles(alloc, sheet, header, faults)?;
+    tell_absent(faults, sheet, &seen)?;
+    Ok(heading)
+}
+
+/// What the titles of a sheet say, or the faults of its header.
+pub(crate) fn titles_of(
+    alloc: Global,
+    sheet: Sheet,
+    header: &ByteRecord,
+) -> Result<Heading, SheetError> {
+    if are_empty_from(header, 0) {
+        return Err(header_fault(alloc, sheet));
+    }
+    let mut faults = Faults::new(alloc);
+    match read_heading(alloc, sheet, header, &mut faults) {
+        Ok(heading) => {
+            if faults.is_empty() {
+                Ok(heading)
+            } else {
+                Err(SheetError::Faults(faults))
+            }
+        }
+        Err(_) => Err(SheetError::Memory),
+    }
+}
+
+/// Why a time that may be empty is not read.
+fn time_fault(text: &[u8], unit: TimeUnit, commas: bool, least: u32) -> Option<CellFault> {
+    if text.is_empty() {
+        return None;
+    }
+    time_cell(text, unit, commas, least).err()
+}
+
+/// Why a format is not read.
+fn format_fault(text: &[u8], sheet: Sheet) -> Option<CellFault> {
+    match sheet {
+        Sheet::Outputs if text.is_empty() => None,
+        _ => format_cell(text).err(),
+    }
+}
+
+/// Why an SDI is not read.
+fn sdi_fault(text: &[u8], sheet: Sheet) -> Option<CellFault> {
+    match sheet {
+        Sheet::Inputs => input_sdi_cell(text).err(),
+        Sheet::Outputs => output_sdi_cell(text).err(),
+    }
+}
+
+/// Why sources are not read.
+fn sources_fault(alloc: Global, text: &[u8]) -> Result<Option<CellFault>, AllocError> {
+    let mut names: Vec<Name> = Vec::new(alloc);
+    if push_names(alloc, text, &mut names)? {
+        Ok(None)
+    } else {
+        Ok(Some(CellFault::NotName))
+    }
+}
+
+/// Why the length of a queue is not read.
+fn queue_fault(text: &[u8]) -> Option<CellFault> {
+    if text.is_empty() {
+        None
+    } else {
+        queue_cell(text).err()
+    }
+}
+
+/// Why a cell that holds one value is not read.
+fn value_fault(text: &[u8], title: &ReadTitle, sheet: Sheet, commas: bool) -> Option<CellFault> {
+    match title.column {
+        Column::Bus | Column::Output => name_cell(text).err(),
+        Column::Router | Column::Name => name_if_any_cell(text).err(),
+        Column::Speed => speed_cell(text).err(),
+        Column::Label => label_cell(text).err(),
+        Column::Equipment => equipment_cell(text).err(),
+        Column::Format => format_fault(text, sheet),
+        Column::Min | Column::Max => time_cell(text, title.unit, commas, 1).err(),
+        Column::Jitter => time_fault(text, title.unit, commas, 0),
+        Column::MaxAge | Column::Timeout => time_fault(text, title.unit, commas, 1),
+        Column::Sdi => sdi_fault(text, sheet),
+        Column::Police => police_cell(text).err(),
+        Column::Queue => queue_fault(text),
+        Column::Sources => None,
+    }
+}
+
+/// Why a cell is not read.
+fn cell_fault(
+    alloc: Global,
+    text: &[u8],
+    title: &ReadTitle,
+    asked: Asked<'_>,
+) -> Result<Option<CellFault>, AllocError> {
+    match title.column {
+        Column::Sources => sources_fault(alloc, text),
+        _ => Ok(value_fault(text, title, asked.sheet, asked.commas)),
+    }
+}
+
+/// The microseconds of a column of times whose cell is read.
+fn time_of(line: &ByteRecord, asked: Asked<'_>, column: Column) -> Option<u32> {
+    for title in asked.read {
+        if title.column == column {
+            return time_cell(cell(line, Some(title.place)), title.unit, asked.commas, 1).ok();
+        }
+    }
+    None
+}
+
+/// Adds that a least interval is over the greatest, where it is.
+fn tell_reversed(
+    faults: &mut Faults,
+    line: &ByteRecord,
+    row: u32,
+    asked: Asked<'_>,
+) -> Result<(), AllocError> {
+    let min = time_of(line, asked, Column::Min);
+    let max = time_of(line, asked, Column::Max);
+    if let (Some(min_us), Some(max_us)) = (min, max) {
+        if min_us > max_us {
+            let kind = FaultKind::Reversed { min_us, max_us };
+            let sheet = asked.sheet;
+            faults.push(Fault { sheet, row, kind })?;
+        }
+    }
+    Ok(())
+}
+
+/// Adds the faults of the cells of a record from the left, and says whether there are some.
+fn tell_cells(
+    alloc: Global,
+    faults: &mut Faults,
+    line: &ByteRecord,
+    row: u32,
+    asked: Asked<'_>,
+) -> Result<bool, AllocError> {
+    let mut some = false;
+    for title in asked.read {
+        let text = cell(line, Some(title.place));
+        if let Some(fault) = cell_fault(alloc, text, title, asked)? {
+            let column = title.column;
+            let shown = Shown::new(text);
+            let kind = FaultKind::Cell {
+                column,
+                shown,
+                fault,
+            };
+            let sheet = asked.sheet;
+            faults.push(Fault { sheet, row, kind })?;
+            some = true;
+        }
+    }
+    Ok(some)
+}
+
+/// Adds the faults of a record.
+fn tell_record(
+    alloc: Global,
+    faults: &mut Faults,
+    line: &ByteRecord,
+    row: u32,
+    asked: Asked<'_>,
+) -> Result<(), AllocError> {
+    if is_passed(line) {
+        return Ok(());
+    }
+    if !are_empty_from(line, asked.columns) {
+        let kind = FaultKind::Past {
+            cells: line.len(),
+            columns: asked.columns,
+        };
+        let sheet = asked.sheet;
+        return faults.push(Fault { sheet, row, kind });
+    }
+    if !tell_cells(alloc, faults, line, row, asked)? {
+        tell_reversed(faults, line, row, asked)?;
+    }
+    Ok(())
+}
+
+/// Adds the faults of all records behind the header.
+fn tell_records(
+    alloc: Global,
+    faults: &mut Faults,
+    records: &[ByteRecord],
+    asked: Asked<'_>,
+) -> Result<(), AllocError> {
+    for i in 0..records.len() {
+        let Ok(row) = u32::try_from(i + 2) else {
+            return Err(AllocError);
+        };
+        tell_record(alloc, faults, &records[i], row, asked)?;
+    }
+    Ok(())
+}
+
+/// The faults of the records behind the header.
+pub(crate) fn row_faults(
+    alloc: Global,
+    sheet: Sheet,
+    records: &[ByteRecord],
+    columns: usize,
+    read: &[ReadTitle],
+    commas: bool,
+) -> SheetError {
+    let mut faults = Faults::new(alloc);
+    let asked = Asked {
+        sheet,
+        read,
+        columns,
+        commas,
+    };
+    match tell_records(alloc, &mut faults, records, asked) {
+        Ok(()) => SheetError::Faults(faults),
+        Err(_) => SheetError::Memory,
+    }
+}
