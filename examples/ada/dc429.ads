@@ -111,6 +111,26 @@ package Dc429 is
       Why           : out Fault) return C_bool
    with Import, Convention => C, External_Name => "dc429_find";
 
+   function Margins
+     (Tables             : System.Address;
+      Tables_Length      : size_t;
+      Certificate        : System.Address;
+      Certificate_Length : size_t;
+      Text               : System.Address;
+      Room               : size_t;
+      Length             : out size_t;
+      Why                : out Fault) return C_bool
+   with Import, Convention => C, External_Name => "dc429_margins";
+
+   function Least_Margins
+     (Tables        : System.Address;
+      Tables_Length : size_t;
+      Text          : System.Address;
+      Room          : size_t;
+      Length        : out size_t;
+      Why           : out Fault) return C_bool
+   with Import, Convention => C, External_Name => "dc429_least_margins";
+
    procedure Close (E : in out Engine)
    with Import, Convention => C, External_Name => "dc429_close";
 

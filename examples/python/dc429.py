@@ -19,7 +19,7 @@ from pathlib import Path
 from typing import NamedTuple
 
 __all__ = ["Engine", "Fault", "Fields", "Format", "Kind", "List", "NotFound", "NotOpened", "Refused", "Reply", "WordStatus", "check",
-           "decode", "find"]
+           "decode", "find", "margins"]
 
 
 # ---- what the header has
@@ -102,6 +102,8 @@ _CALLS = {
     "open": ([_AT(_Engine), _TEXT, _SIZE, _TEXT, _SIZE, _AT(_Fault)], ctypes.c_bool),
     "check": ([_TEXT, _SIZE, _TEXT, _SIZE, _AT(_Fault)], ctypes.c_bool),
     "find": ([_TEXT, _SIZE, _TEXT, _SIZE, _AT(_SIZE), _AT(_Fault)], ctypes.c_bool),
+    "margins": ([_TEXT, _SIZE, _TEXT, _SIZE, _TEXT, _SIZE, _AT(_SIZE), _AT(_Fault)], ctypes.c_bool),
+    "least_margins": ([_TEXT, _SIZE, _TEXT, _SIZE, _AT(_SIZE), _AT(_Fault)], ctypes.c_bool),
     "close": ([_AT(_Engine)], None),
     "arrive": ([_AT(_Engine), _SIZE, _U32, _AT(_Reply)], _U32),
     "route": ([_AT(_Engine), _SIZE, _AT(_Reply)], _U32),
@@ -206,16 +208,34 @@ def check(tables, certificate):
     return None if accepted else _fault_of(fault)
 
 
-def find(tables):
-    """The least certificate of tables, both bytes."""
+def _written(call, *texts):
+    """Whether a call that writes a text into a room answers yes, that text, and the fault: with more room where it wants more."""
     fault, length, room = _Fault(), ctypes.c_size_t(), 65536
+    given = [it for text in texts for it in (text, len(text))]
     while True:
         text = ctypes.create_string_buffer(room)
-        if not _LIB.dc429_find(tables, len(tables), text, room, length, fault):
-            raise NotFound(_fault_of(fault))
+        answer = call(*given, text, room, length, fault)
         if length.value <= room:
-            return text.raw[:length.value]
+            return answer, text.raw[:length.value], fault
         room = length.value
+
+
+def find(tables):
+    """The least certificate of tables, both bytes."""
+    found, text, fault = _written(_LIB.dc429_find, tables)
+    if not found:
+        raise NotFound(_fault_of(fault))
+    return text
+
+
+def margins(tables, certificate=None):
+    """What dc429 margins prints of a certificate for tables, all bytes, and None; where it is not accepted, the Fault in its place.
+    Without a certificate the same of the least one, and where there is none why."""
+    if certificate is None:
+        accepted, text, fault = _written(_LIB.dc429_least_margins, tables)
+    else:
+        accepted, text, fault = _written(_LIB.dc429_margins, tables, certificate)
+    return text, None if accepted else _fault_of(fault)
 
 
 def decode(word, format):
