@@ -6,7 +6,7 @@ RT := rt
 # How many crates are proved side by side by `make build`: one a processor, at most four. Each takes 1 to 4 GB.
 JOBS := $(shell n=$$(nproc 2>/dev/null || echo 1); [ "$$n" -lt 4 ] || n=4; echo $$n)
 
-.PHONY: run quick build lib install uninstall deb test trials rows edits edits-apply
+.PHONY: run quick build lib install uninstall deb test trials rows edits edits-apply assessment
 
 # Decodes one word, with no proof: about a minute from a fresh clone.
 run:
@@ -66,7 +66,7 @@ test:
 # The built program on the rows of rows/, on texts and captures by chance and of the largest sizes, on the commands of
 # docs/recordings.md and of the tutorial, at its edges, under refused memory and failing devices; the library for C beside it; what
 # is installed and packed, in a folder of its own: some minutes, no proof where the library is built.
-trials: $(addprefix try-,rows explained chance timed recordings recorded crowds largest audits edges hostile pages refused embed tutorial installed)
+trials: $(addprefix try-,rows explained chance timed recordings recorded designs crowds largest audits edges hostile pages refused embed tutorial installed)
 
 try-%:
 	@scripts/$*
@@ -96,3 +96,8 @@ edits:
 # Whether each edit, in the gate and outside, still applies: a second, no proof.
 edits-apply:
 	@scripts/edits_apply.py $(CRATE)
+
+# What an assessor compares, in build/assessment/index.txt: sums of what is built, functions proved, last lines of the last gate. With
+# AGAIN=1 the program is built once more from a fresh clone, and its sum stands beside the first.
+assessment:
+	@scripts/assessment $(if $(AGAIN),--again)

@@ -301,6 +301,37 @@ class History:
             return 3
         return None if self.keeps_intervals(at) else 4
 
+    # ---- how near the run came to its bounds
+
+    def tick_of(self, counts, number):
+        """The tick of the event by which more than so many are counted; of the end, where there are no more."""
+        return self.ticks[bisect_right(counts, number) - 1]
+
+    def backlog(self, bus):
+        """The most words that waited at a place."""
+        queue = self.queues[bus]
+        return max(entered - taken for entered, taken in zip(queue.entered, queue.taken))
+
+    def wait(self, bus):
+        """The most ticks from the coming of an entered word to its visit; to the end, where it still waits."""
+        queue = self.queues[bus]
+        return max((self.tick_of(queue.taken, number) - self.tick_of(queue.come, number) for number in range(queue.entered[-1])), default=0)
+
+    def late(self, output):
+        """The most ticks from the due tick of an entry to its sending; to the end, where it is due and was not sent."""
+        row, late = self.tables.outputs[output], 0
+        for number in range(self.ticks[-1] + 1):
+            due = number // len(row.entries) * row.frame + row.entries[number % len(row.entries)][0]
+            if due > self.ticks[-1]:
+                return late
+            late = max(late, self.tick_of(self.sent[output], number) - due)
+        return late
+
+    def age(self, label, at):
+        """How many ticks before this emission of the label the word came that it copies, None where it copies none."""
+        choice = self.chosen(label, at + 1)
+        return self.ticks[at] - self.tick_of(self.queues[self.tables.streams[choice[0]].bus].come, choice[1]) if choice else None
+
     def hastened(self):
         """The place of the first word with which some ticks hold more than a source or a wire may send, on buses not policed."""
         tables, of_streams, of_buses = self.tables, [[] for _ in self.tables.streams], [[] for _ in self.tables.buses]
@@ -398,3 +429,26 @@ def audit(tables, certificate, run):
     return [f"budgets fail at {breach[0]}" if breach else "budgets hold",
             f"sources fail at {hastened}" if hastened else "sources hold",
             f"claim {broken[0]} fails at {broken[1]}" if broken else "claims hold"]
+
+
+def beside(number, bound):
+    """What was observed, beside its bound."""
+    return f"{'-' if number is None else number} of {bound}"
+
+
+def observe(tables, certificate, run):
+    """How near a run came to its bounds: a line for each input, each output and each label."""
+    history, lines = History(tables, run), []
+    for bus, (row, claim) in enumerate(zip(tables.buses, certificate["inputs"])):
+        backlog, wait = beside(history.backlog(bus), claim["backlog"]), beside(history.wait(bus), claim["delay"])
+        lines.append(f"input {row.name} backlog {backlog} wait {wait}")
+    for output, (row, claim) in enumerate(zip(tables.outputs, certificate["outputs"])):
+        lines.append(f"output {row.name} late {beside(history.late(output), claim['delay'])}")
+    for label, (row, claim) in enumerate(zip(tables.labels, certificate["labels"])):
+        ages, ticks = [history.age(label, at) for at in history.emitted[label]], [history.ticks[at] for at in history.emitted[label]]
+        least = min((after - tick for tick, after in zip(ticks, ticks[1:])), default=None)
+        greatest = max(after - tick for tick, after in zip([0, *ticks], [*ticks, history.ticks[-1]]))
+        age = max((age for age in ages if age is not None), default=None)
+        lines.append(f"label {row.name} sent {len(ages)} fallback {ages.count(None)} age {beside(age, claim['age'])}"
+                     f" least {beside(least, row.minimum)} greatest {beside(greatest, row.maximum)}")
+    return lines

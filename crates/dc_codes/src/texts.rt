@@ -294,7 +294,7 @@ const TRACE: &str = "\
 E1
 a line has over 64 bytes, or the trace passes its limit
 65 letters `A`: E1 at line 1
-one event a line; a shorter trace: 1,073,741,824 bytes for `replay`, and 100,000 events for `audit`
+one event a line; a shorter trace: 1,073,741,824 bytes for `replay`, and 100,000 events for `audit`; or `--long`
 
 E2
 the first field is not A, R, S or T (an empty line too)
@@ -392,7 +392,7 @@ more steps before the Tick, or smaller `steps` or a greater `within`
 
 ticks
 the tick would pass 2^40; reported before `owed`
-none that fits in a trace of 1,073,741,824 bytes
+none that fits in a trace of 1,099,511,627,776 bytes
 a shorter trace";
 
 /// Of the lines of `audit`.

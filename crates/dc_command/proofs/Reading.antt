@@ -5,7 +5,7 @@ use Rattle.clap.specs.declared.parser.matches.Found.{Found}
 use Rattle.clap.proofs.WalkLemmas.{first_value-rows, one_text-rows}
 use Rattle.dc_codes.specs.Codes.{asks_for, names}
 use Rattle.dc_codes.specs.declared.code.Code.{Code}
-use Rattle.dc_command.specs.Asked.{AreGiven, BeginIs, CodesAre, DriftIs, IsSet, TicksAre, WhenIs, when_name}
+use Rattle.dc_command.specs.Asked.{AreGiven, BeginIs, CodesAre, DriftIs, HeadroomIs, IsSet, TickIs, TicksAre, WhenIs, when_name}
 use Rattle.dc_command.specs.declared.explained.When.{When}
 
 -- a text that is given
@@ -23,6 +23,14 @@ drift_given f id drift given = subst (λ o. DriftIs o drift) (first_value-rows f
 -- the begin of tick 0
 pub begin_given : (f : Found) (id : Text) (begin : Option ℕ) → BeginIs (first_value f id) begin → BeginIs (first_of id (rows_of f)) begin
 begin_given f id begin given = subst (λ o. BeginIs o begin) (first_value-rows f id) given
+
+-- the length of a tick
+pub tick_given : (f : Found) (id : Text) (tick : Option ℕ) → TickIs (first_value f id) tick → TickIs (first_of id (rows_of f)) tick
+tick_given f id tick given = subst (λ o. TickIs o tick) (first_value-rows f id) given
+
+-- the headroom
+pub headroom_given : (f : Found) (id : Text) (headroom : Option ℕ) → HeadroomIs (first_value f id) headroom → HeadroomIs (first_of id (rows_of f)) headroom
+headroom_given f id headroom given = subst (λ o. HeadroomIs o headroom) (first_value-rows f id) given
 
 -- the number of ticks
 pub ticks_given : (f : Found) (id : Text) (ticks : ℕ) → TicksAre (first_value f id) ticks → TicksAre (first_of id (rows_of f)) ticks

@@ -10,10 +10,10 @@ use Rattle.dc_word.specs.declared.format.Format.{Format}
 use Rattle.dc_word.specs.declared.format.Format.TheVariants.{Bnr, Bcd, Disc}
 use Rattle.dc_command.specs.Program.{program_app}
 use Rattle.dc_command.specs.declared.asked.Order.{Order}
-use Rattle.dc_command.specs.declared.asked.Order.TheVariants.{Decode, Check, Find, Report, Margins, Survey, Trace, Replay, Audit, Bench, Explain}
+use Rattle.dc_command.specs.declared.asked.Order.TheVariants.{Decode, Check, Find, Report, Margins, Survey, Trace, Replay, Audit, Observe, Bench, Design, Explain}
 use Rattle.dc_command.specs.declared.explained.When.{When}
 use Rattle.dc_command.specs.declared.explained.When.TheVariants.{Always, Never, Auto}
-use Rattle.dc_command.specs.declared.limits.TheConstants.{LAST_BEGIN, MOST_DRIFT, MOST_TICKS, MOST_WORKERS, USUAL_TICKS}
+use Rattle.dc_command.specs.declared.limits.TheConstants.{LAST_BEGIN, LONGEST_TICK, MOST_DRIFT, MOST_HEADROOM, MOST_TICKS, MOST_WORKERS, SHORTEST_TICK, USUAL_TICKS}
 
 -- the text is this number of workers, in decimal
 abbrev pub IsCount : List ℕ → ℕ → Type 0
@@ -67,6 +67,32 @@ abbrev pub BeginIs : Option (List ℕ) → Option ℕ → Type 0
 BeginIs None begin = begin ≡ None
 BeginIs (Some text) begin = (n : ℕ) × (begin ≡ Some n) × IsBegin text n
 
+-- the text is this length of a tick in microseconds, in decimal
+abbrev pub IsTick : List ℕ → ℕ → Type 0
+IsTick text n = IsNumeral 10 (without_leading_plus text) × (digits_value 10 (without_leading_plus text) ≡ n) × (SHORTEST_TICK ≤ n) × (n ≤ LONGEST_TICK)
+
+-- it is none of these
+abbrev pub IsNoTick : List ℕ → Type 0
+IsNoTick text = (n : ℕ) → IsTick text n → ⊥
+
+-- the length of a tick that is said by a text, or none where there is no text
+abbrev pub TickIs : Option (List ℕ) → Option ℕ → Type 0
+TickIs None tick = tick ≡ None
+TickIs (Some text) tick = (n : ℕ) × (tick ≡ Some n) × IsTick text n
+
+-- the text is this headroom in percent, in decimal
+abbrev pub IsHeadroom : List ℕ → ℕ → Type 0
+IsHeadroom text n = IsNumeral 10 (without_leading_plus text) × (digits_value 10 (without_leading_plus text) ≡ n) × (n ≤ MOST_HEADROOM)
+
+-- it is none of these
+abbrev pub IsNoHeadroom : List ℕ → Type 0
+IsNoHeadroom text = (n : ℕ) → IsHeadroom text n → ⊥
+
+-- the headroom that is said by a text, or none where there is no text
+abbrev pub HeadroomIs : Option (List ℕ) → Option ℕ → Type 0
+HeadroomIs None headroom = headroom ≡ None
+HeadroomIs (Some text) headroom = (n : ℕ) × (headroom ≡ Some n) × IsHeadroom text n
+
 -- a format, as it is written after `decode`
 abbrev pub format_name : Format → List ℕ
 format_name Bnr = codes "bnr"
@@ -100,13 +126,21 @@ AsksBy name rows (Margins tables certificate microseconds drift) =
 AsksBy name rows (Survey tables) = (name ≡ codes "survey") × (first_of (codes "TABLES") rows ≡ Some tables.now)
 AsksBy name rows (Trace tables from) =
     (name ≡ codes "trace") × (first_of (codes "TABLES") rows ≡ Some tables.now) × BeginIs (first_of (codes "from") rows) from
-AsksBy name rows (Replay tables all) =
+AsksBy name rows (Replay tables all long) =
     (name ≡ codes "replay") × (first_of (codes "TABLES") rows ≡ Some tables.now) × IsSet (one_of (codes "all") rows) all
-AsksBy name rows (Audit tables certificate) =
+    × IsSet (one_of (codes "long") rows) long
+AsksBy name rows (Audit tables certificate long) =
     (name ≡ codes "audit") × (first_of (codes "TABLES") rows ≡ Some tables.now) × (first_of (codes "CERT") rows ≡ Some certificate.now)
+    × IsSet (one_of (codes "long") rows) long
+AsksBy name rows (Observe tables certificate) =
+    (name ≡ codes "observe") × (first_of (codes "TABLES") rows ≡ Some tables.now) × (first_of (codes "CERT") rows ≡ Some certificate.now)
 AsksBy name rows (Bench tables certificate ticks marks) =
     (name ≡ codes "bench") × (first_of (codes "TABLES") rows ≡ Some tables.now) × (first_of (codes "CERT") rows ≡ Some certificate.now)
     × TicksAre (first_of (codes "ticks") rows) ticks × IsSet (one_of (codes "marks") rows) marks
+AsksBy name rows (Design inputs outputs tick headroom police certificate) =
+    (name ≡ codes "design") × (first_of (codes "INPUTS") rows ≡ Some inputs.now) × (first_of (codes "OUTPUTS") rows ≡ Some outputs.now)
+    × TickIs (first_of (codes "tick") rows) tick × HeadroomIs (first_of (codes "headroom") rows) headroom × IsSet (one_of (codes "police") rows) police
+    × (option_map (λ s. s.now) certificate ≡ first_of (codes "certificate") rows)
 AsksBy name rows (Explain code) = (name ≡ codes "explain") × CodesAre (first_of (codes "CODE") rows) (one_of (codes "all") rows) code
 
 -- what a command and its matches ask
@@ -145,4 +179,5 @@ IsInRange (Bench tables certificate ticks marks) = (1 ≤ ticks) × (ticks ≤ M
 IsInRange (Report tables certificate drift) = IfSome drift (λ n. n ≤ MOST_DRIFT)
 IsInRange (Margins tables certificate microseconds drift) = IfSome drift (λ n. n ≤ MOST_DRIFT)
 IsInRange (Trace tables from) = IfSome from (λ n. n ≤ LAST_BEGIN)
+IsInRange (Design inputs outputs tick headroom police certificate) = IfSome tick (λ n. (SHORTEST_TICK ≤ n) × (n ≤ LONGEST_TICK)) × IfSome headroom (λ n. n ≤ MOST_HEADROOM)
 IsInRange _ = Unit {0}

@@ -1,7 +1,7 @@
 -- Which orders read standard input once at most.
-use Rattle.std.specs.Prelude.{◌≡◌, ℕ, List, Some, codes}
+use Rattle.std.specs.Prelude.{◌≡◌, ℕ, List, Some, IfSome, codes}
 use Rattle.dc_command.specs.declared.asked.Order.{Order}
-use Rattle.dc_command.specs.declared.asked.Order.TheVariants.{Check, Report, Margins, Survey, Trace, Replay, Audit, Bench}
+use Rattle.dc_command.specs.declared.asked.Order.TheVariants.{Check, Report, Margins, Survey, Trace, Replay, Audit, Observe, Bench, Design}
 
 -- the path names a file, and not standard input
 abbrev pub IsNotInput : List ℕ → Type 0
@@ -18,7 +18,9 @@ HasOneInput (Report tables (Some certificate) drift) = AreNotBothInput tables.no
 HasOneInput (Margins tables (Some certificate) microseconds drift) = AreNotBothInput tables.now certificate.now
 HasOneInput (Survey tables) = IsNotInput tables.now
 HasOneInput (Trace tables from) = IsNotInput tables.now
-HasOneInput (Replay tables all) = IsNotInput tables.now
-HasOneInput (Audit tables certificate) = IsNotInput tables.now × IsNotInput certificate.now
+HasOneInput (Replay tables all long) = IsNotInput tables.now
+HasOneInput (Audit tables certificate long) = IsNotInput tables.now × IsNotInput certificate.now
+HasOneInput (Observe tables certificate) = IsNotInput tables.now × IsNotInput certificate.now
 HasOneInput (Bench tables certificate ticks marks) = AreNotBothInput tables.now certificate.now
+HasOneInput (Design inputs outputs tick headroom police certificate) = AreNotBothInput inputs.now outputs.now × IfSome certificate (λ c. IsNotInput c.now)
 HasOneInput _ = Unit {0}

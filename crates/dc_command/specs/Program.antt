@@ -7,7 +7,7 @@ use Rattle.clap.specs.declared.builder.command.Command.TheViews.{out-Command}
 use Rattle.clap.specs.declared.builder.action.ArgAction.TheVariants.{SetTrue}
 use Rattle.clap.specs.declared.builder.value_parser.ValueParser.{ValueParser}
 use Rattle.clap.specs.declared.builder.value_parser.ValueParser.TheVariants as vp
-use Rattle.dc_command.specs.declared.limits.TheConstants.{LAST_BEGIN, MOST_DRIFT, MOST_TICKS, MOST_WORKERS}
+use Rattle.dc_command.specs.declared.limits.TheConstants.{LAST_BEGIN, LONGEST_TICK, MOST_DRIFT, MOST_HEADROOM, MOST_TICKS, MOST_WORKERS, SHORTEST_TICK}
 
 -- a file that is wanted
 abbrev pub file_rule : Text → Rule
@@ -45,6 +45,26 @@ drift_rule = record (new_rule (codes "drift")) {
 abbrev pub from_rule : Rule
 from_rule = record (new_rule (codes "from")) { long = Some (codes "from"); value_names = 1; parser = Some (vp.Unsigned 0 LAST_BEGIN) }
 
+-- `--tick`
+abbrev pub tick_rule : Rule
+tick_rule = record (new_rule (codes "tick")) {
+  long = Some (codes "tick");
+  value_names = 1;
+  parser = Some (vp.Signed (pos SHORTEST_TICK) (pos LONGEST_TICK));
+}
+
+-- `--headroom`
+abbrev pub headroom_rule : Rule
+headroom_rule = record (new_rule (codes "headroom")) {
+  long = Some (codes "headroom");
+  value_names = 1;
+  parser = Some (vp.Signed (pos 0) (pos MOST_HEADROOM));
+}
+
+-- `--certificate`
+abbrev pub certificate_rule : Rule
+certificate_rule = record (new_rule (codes "certificate")) { long = Some (codes "certificate"); value_names = 1 }
+
 -- a flag
 abbrev pub flag_rule : Text → Rule
 flag_rule id = record (new_rule id) { long = Some id; action = Some SetTrue }
@@ -60,6 +80,10 @@ marks_rule = flag_rule (codes "marks")
 -- `--us`
 abbrev pub us_rule : Rule
 us_rule = flag_rule (codes "us")
+
+-- `--long`
+abbrev pub long_rule : Rule
+long_rule = flag_rule (codes "long")
 
 -- `--explain`
 abbrev pub explain_rule : Rule
@@ -105,9 +129,21 @@ margins_app = with_rule (with_rule (optional_app (codes "margins")) us_rule) dri
 abbrev pub trace_app : App
 trace_app = with_rule (tables_app (codes "trace")) from_rule
 
--- `replay`, which reads tables and may print all replies
+-- `replay`, which reads tables, may print all replies and may take a long trace
 abbrev pub replay_app : App
-replay_app = with_rule (tables_app (codes "replay")) all_rule
+replay_app = with_rule (with_rule (tables_app (codes "replay")) all_rule) long_rule
+
+-- `audit`, which may take a long run
+abbrev pub audit_app : App
+audit_app = with_rule (certificate_app (codes "audit")) long_rule
+
+-- a command that reads two sheets
+abbrev pub sheets_app : App
+sheets_app = with_rule (explaining_app (codes "design") (file_rule (codes "INPUTS"))) (file_rule (codes "OUTPUTS"))
+
+-- `design`, which may be told a tick, a headroom, to police, and a file for the certificate
+abbrev pub design_app : App
+design_app = with_rule (with_rule (with_rule (with_rule sheets_app tick_rule) headroom_rule) (flag_rule (codes "police"))) certificate_rule
 
 -- `explain`, which may be told a code, or to tell all
 abbrev pub explain_app : App
@@ -120,9 +156,9 @@ bare_app = on_top (λ s. record s { has_version = true; subcommand_required = tr
 -- the program, whose formats are read by this parser
 abbrev pub program_app : ValueParser → App
 program_app formats =
-    with_subcommand (with_subcommand (with_subcommand (with_subcommand (with_subcommand (with_subcommand (with_subcommand (with_subcommand (with_subcommand (with_subcommand (with_subcommand
-    bare_app (decode_app formats).top) check_app.top) (tables_app (codes "find")).top) (tables_app (codes "survey")).top) trace_app.top) replay_app.top) (certificate_app (codes "audit")).top) bench_app.top)
-    report_app.top) margins_app.top) explain_app.top
+    with_subcommand (with_subcommand (with_subcommand (with_subcommand (with_subcommand (with_subcommand (with_subcommand (with_subcommand (with_subcommand (with_subcommand (with_subcommand (with_subcommand (with_subcommand
+    bare_app (decode_app formats).top) check_app.top) (tables_app (codes "find")).top) (tables_app (codes "survey")).top) trace_app.top) replay_app.top) audit_app.top) (certificate_app (codes "observe")).top) bench_app.top)
+    report_app.top) margins_app.top) design_app.top) explain_app.top
 
 -- clap reads this of a command, none of whose arguments is global
 abbrev pub IsRead : App → Command → Type 0

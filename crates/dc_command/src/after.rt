@@ -92,10 +92,23 @@ Exit status:
 pub(crate) const AFTER_AUDIT: &str = "Example: dc429 audit tables.toml certificate.json < run.trace
 
 The trace comes from standard input, the tables and the certificate from files.
+Silence is always allowed: of the sources only minimums are tested, so an empty trace keeps all.
 
 Exit status:
   0  budgets, sources and claims hold
   1  one of them fails, or the certificate is refused
+  2  a text that can't be read, or a wrong command line
+  3  a file, a device or memory was not to be had";
+
+/// Behind the options of `observe`.
+pub(crate) const AFTER_OBSERVE: &str =
+    "Example: dc429 observe tables.toml certificate.json < run.trace
+
+The trace comes from standard input, the tables and the certificate from files.
+
+Exit status:
+  0  observed to the end, also where a number is past the one beside it
+  1  the certificate is refused
   2  a text that can't be read, or a wrong command line
   3  a file, a device or memory was not to be had";
 
@@ -109,6 +122,17 @@ Exit status:
   1  one of them fails, or the certificate is refused
   2  a text that can't be read, or a wrong command line
   3  a file, a device, memory or a thread was not to be had";
+
+/// Behind the options of `design`.
+pub(crate) const AFTER_DESIGN: &str = "Example: dc429 design inputs.csv outputs.csv > tables.toml
+
+A file named - is standard input, which only one of the two sheets can be; one of that name is ./-
+
+Exit status:
+  0  designed: the tables are certified, and keep the rows of both sheets
+  1  refused: what stands in the way, by rows and columns
+  2  a cell or rows that can't be, or a wrong command line
+  3  a file, a device or memory was not to be had";
 
 /// Behind the options of `explain`.
 pub(crate) const AFTER_EXPLAIN: &str = "Example: dc429 explain C06

@@ -2,13 +2,16 @@
 ghost use Rattle.std.specs.Prelude.{codes, map, IfOk, IfSome, MatchResult};
 ghost use Rattle.std.specs.String.{string_bytes};
 ghost use Rattle.clap.specs.Words.{first_value, found_of, rows_of, subcommand_rows_of};
-ghost use Rattle.dc_command.specs.Asked.{AreGiven, Asks, AsksBy, AsksIn, BeginIs, Explains, ExplainsIn, DriftIs, IsBegin, IsCount, IsDrift, IsInRange, IsNoBegin, IsNoCount, IsNoDrift, IsNoTickCount, IsTickCount, TicksAre};
+ghost use Rattle.dc_command.specs.Asked.{AreGiven, Asks, AsksBy, AsksIn, BeginIs, Explains, ExplainsIn, DriftIs, HeadroomIs, IsBegin, IsCount, IsDrift, IsHeadroom, IsInRange, IsNoBegin, IsNoCount, IsNoDrift, IsNoHeadroom, IsNoTick, IsNoTickCount, IsTick, IsTickCount, TickIs, TicksAre};
 ghost use Rattle.dc_command.specs.Inputs.{HasOneInput};
 
 use crate::explained::{When, when_in};
 use crate::inputs::refuse_second_input;
 use crate::known::program;
-use crate::limits::{LAST_BEGIN, MOST_DRIFT, MOST_TICKS, MOST_WORKERS, USUAL_TICKS};
+use crate::limits::{
+    LAST_BEGIN, LONGEST_TICK, MOST_DRIFT, MOST_HEADROOM, MOST_TICKS, MOST_WORKERS, SHORTEST_TICK,
+    USUAL_TICKS,
+};
 use clap::error::ErrorKind;
 use clap::{ArgMatches, Error};
 use dc_codes::Code;
@@ -72,9 +75,20 @@ pub enum Order<'a> {
         tables: &'a str,
         /// Whether every reply is printed.
         all: bool,
+        /// Whether the trace may be long.
+        long: bool,
     },
     /// Audit the trace on standard input against the certificate in a file, for the tables in another.
     Audit {
+        /// The path of the tables.
+        tables: &'a str,
+        /// The path of the certificate.
+        certificate: &'a str,
+        /// Whether the run may be long.
+        long: bool,
+    },
+    /// Observe the run of the trace on standard input beside the certificate in a file, for the tables in another.
+    Observe {
         /// The path of the tables.
         tables: &'a str,
         /// The path of the certificate.
@@ -90,6 +104,22 @@ pub enum Order<'a> {
         ticks: u16,
         /// Whether the greatest backlog of each bus is told.
         marks: bool,
+    },
+    /// Design tables for the two sheets of an interface document.
+    Design {
+        /// The path of the sheet of the inputs.
+        inputs: &'a str,
+        /// The path of the sheet of the outputs.
+        outputs: &'a str,
+        /// The length of a tick in microseconds, [`SHORTEST_TICK`](crate::SHORTEST_TICK) to
+        /// [`LONGEST_TICK`](crate::LONGEST_TICK), where it is said.
+        tick: Option<u16>,
+        /// How much is to be left free, in percent, 0 to [`MOST_HEADROOM`](crate::MOST_HEADROOM), where it is said.
+        headroom: Option<u8>,
+        /// Whether every bus is to refuse early words.
+        police: bool,
+        /// The path of the file that is to be made for the certificate, where there is one.
+        certificate: Option<&'a str>,
     },
     /// Tell what a code means.
     Explain {
@@ -151,6 +181,26 @@ fn begin_of(text: &str) -> Result<u64, OutOfRange>
     }
 }
 
+/// The length of a tick that a text says, in microseconds.
+fn tick_of(text: &str) -> Result<u16, OutOfRange>
+    ensures { MatchResult result (λ n. IsTick text.now n) (λ _. IsNoTick text.now) }
+{
+    match text.parse::<u16>() {
+        Ok(tick) if SHORTEST_TICK <= tick && tick <= LONGEST_TICK => Ok(tick),
+        _ => Err(OutOfRange),
+    }
+}
+
+/// The headroom that a text says, in percent.
+fn headroom_of(text: &str) -> Result<u8, OutOfRange>
+    ensures { MatchResult result (λ n. IsHeadroom text.now n) (λ _. IsNoHeadroom text.now) }
+{
+    match text.parse::<u8>() {
+        Ok(headroom) if headroom <= MOST_HEADROOM => Ok(headroom),
+        _ => Err(OutOfRange),
+    }
+}
+
 /// The number of ticks that the matches of `bench` say, `USUAL_TICKS` where they say none.
 fn ticks_in(matches: &ArgMatches<'_>) -> Result<u16, OutOfRange>
     ensures { MatchResult result (TicksAre (first_value (found_of matches.now) (codes "ticks")))
@@ -198,6 +248,34 @@ fn begin_in(matches: &ArgMatches<'_>) -> Result<Option<u64>, OutOfRange>
     match matches.get_str("from") {
         Some(text) => match begin_of(text) {
             Ok(begin) => Ok(Some(begin)),
+            Err(out) => Err(out),
+        },
+        None => Ok(None),
+    }
+}
+
+/// The length of a tick that the matches of `design` say.
+fn tick_in(matches: &ArgMatches<'_>) -> Result<Option<u16>, OutOfRange>
+    ensures { MatchResult result (TickIs (first_value (found_of matches.now) (codes "tick")))
+        (λ _. IfSome (first_value (found_of matches.now) (codes "tick")) IsNoTick) }
+{
+    match matches.get_str("tick") {
+        Some(text) => match tick_of(text) {
+            Ok(tick) => Ok(Some(tick)),
+            Err(out) => Err(out),
+        },
+        None => Ok(None),
+    }
+}
+
+/// The headroom that the matches of `design` say.
+fn headroom_in(matches: &ArgMatches<'_>) -> Result<Option<u8>, OutOfRange>
+    ensures { MatchResult result (HeadroomIs (first_value (found_of matches.now) (codes "headroom")))
+        (λ _. IfSome (first_value (found_of matches.now) (codes "headroom")) IsNoHeadroom) }
+{
+    match matches.get_str("headroom") {
+        Some(text) => match headroom_of(text) {
+            Ok(headroom) => Ok(Some(headroom)),
             Err(out) => Err(out),
         },
         None => Ok(None),
@@ -299,7 +377,8 @@ fn replay_in<'a>(matches: &ArgMatches<'a>) -> Option<Order<'a>>
 {
     let tables = matches.get_str("TABLES")?;
     let all = matches.get_flag("all");
-    Some(Order::Replay { tables, all })
+    let long = matches.get_flag("long");
+    Some(Order::Replay { tables, all, long })
 }
 
 /// What the matches of `audit` ask.
@@ -308,7 +387,21 @@ fn audit_in<'a>(matches: &ArgMatches<'a>) -> Option<Order<'a>>
 {
     let tables = matches.get_str("TABLES")?;
     let certificate = matches.get_str("CERT")?;
+    let long = matches.get_flag("long");
     Some(Order::Audit {
+        tables,
+        certificate,
+        long,
+    })
+}
+
+/// What the matches of `observe` ask.
+fn observe_in<'a>(matches: &ArgMatches<'a>) -> Option<Order<'a>>
+    ensures { IfSome result (AsksBy (codes "observe") (rows_of (found_of matches.now))) }
+{
+    let tables = matches.get_str("TABLES")?;
+    let certificate = matches.get_str("CERT")?;
+    Some(Order::Observe {
         tables,
         certificate,
     })
@@ -328,6 +421,30 @@ fn bench_in<'a>(matches: &ArgMatches<'a>) -> Option<Order<'a>>
             ticks,
             marks,
         }),
+        Err(_) => None,
+    }
+}
+
+/// What the matches of `design` ask.
+fn design_in<'a>(matches: &ArgMatches<'a>) -> Option<Order<'a>>
+    ensures { IfSome result (AsksBy (codes "design") (rows_of (found_of matches.now))) }
+{
+    let inputs = matches.get_str("INPUTS")?;
+    let outputs = matches.get_str("OUTPUTS")?;
+    let certificate = matches.get_str("certificate");
+    let police = matches.get_flag("police");
+    match tick_in(matches) {
+        Ok(tick) => match headroom_in(matches) {
+            Ok(headroom) => Some(Order::Design {
+                inputs,
+                outputs,
+                tick,
+                headroom,
+                police,
+                certificate,
+            }),
+            Err(_) => None,
+        },
         Err(_) => None,
     }
 }
@@ -369,7 +486,9 @@ fn order_by<'a>(name: &str, matches: &ArgMatches<'a>) -> Option<Order<'a>>
         "trace" => trace_in(matches),
         "replay" => replay_in(matches),
         "audit" => audit_in(matches),
+        "observe" => observe_in(matches),
         "bench" => bench_in(matches),
+        "design" => design_in(matches),
         "explain" => explain_in(matches),
         _ => None,
     }

@@ -18,6 +18,12 @@ const TRACED: &str = "trace reads its capture from standard input: name its tabl
 const AUDITED: &str =
     "audit reads its trace from standard input: name its tables and its certificate by files";
 
+const OBSERVED: &str =
+    "observe reads its trace from standard input: name its tables and its certificate by files";
+
+const DESIGNED: &str =
+    "design writes its tables to standard output: name a file for the certificate";
+
 /// Refuses standard input as a file, in these words.
 fn refuse_input(path: &str, words: &'static str) -> Result<(), &'static str>
     ensures { MatchResult result (λ _. IsNotInput path.now) (λ _. path.now ≡ codes "-") }
@@ -73,14 +79,34 @@ pub(crate) fn refuse_second_input(order: &Order<'_>) -> Result<(), &'static str>
         Order::Audit {
             tables,
             certificate,
+            ..
         } => {
             refuse_input(tables, AUDITED)?;
             refuse_input(certificate, AUDITED)
+        }
+        Order::Observe {
+            tables,
+            certificate,
+        } => {
+            refuse_input(tables, OBSERVED)?;
+            refuse_input(certificate, OBSERVED)
         }
         Order::Bench {
             tables,
             certificate,
             ..
         } => refuse_both(tables, certificate),
+        Order::Design {
+            inputs,
+            outputs,
+            certificate,
+            ..
+        } => {
+            refuse_both(inputs, outputs)?;
+            match certificate {
+                Some(certificate) => refuse_input(certificate, DESIGNED),
+                None => Ok(()),
+            }
+        }
     }
 }

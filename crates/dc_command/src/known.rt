@@ -1,13 +1,15 @@
 //! The commands that there are, with their arguments and what is said of them.
 ghost use Rattle.std.specs.Prelude.{◌≡◌, false, codes, IfOk};
 ghost use Rattle.clap.specs.Words.{new_app, rule_of};
-ghost use Rattle.dc_command.specs.Program.{IsDecode, IsProgram, IsRead, bare_app, bench_app, certificate_app, check_app, drift_rule, explain_app, explain_rule, file_rule, flag_rule, from_rule, margins_app, optional_app, replay_app, report_app, tables_app, ticks_rule, trace_app};
+ghost use Rattle.dc_command.specs.Program.{IsDecode, IsProgram, IsRead, audit_app, bare_app, bench_app, certificate_app, certificate_rule, check_app, design_app, drift_rule, explain_app, explain_rule, file_rule, flag_rule, from_rule, headroom_rule, margins_app, optional_app, replay_app, report_app, sheets_app, tables_app, tick_rule, ticks_rule, trace_app};
 
 use crate::after::{
-    AFTER_AUDIT, AFTER_BENCH, AFTER_CHECK, AFTER_DECODE, AFTER_EXPLAIN, AFTER_FIND, AFTER_MARGINS,
-    AFTER_REPLAY, AFTER_REPORT, AFTER_SURVEY, AFTER_TRACE,
+    AFTER_AUDIT, AFTER_BENCH, AFTER_CHECK, AFTER_DECODE, AFTER_DESIGN, AFTER_EXPLAIN, AFTER_FIND,
+    AFTER_MARGINS, AFTER_OBSERVE, AFTER_REPLAY, AFTER_REPORT, AFTER_SURVEY, AFTER_TRACE,
 };
-use crate::limits::{LAST_BEGIN, MOST_DRIFT, MOST_TICKS, MOST_WORKERS};
+use crate::limits::{
+    LAST_BEGIN, LONGEST_TICK, MOST_DRIFT, MOST_HEADROOM, MOST_TICKS, MOST_WORKERS, SHORTEST_TICK,
+};
 use clap::builder::ValueParser;
 use clap::{Arg, ArgAction, Command, Error, value_parser};
 use std::alloc::Global;
@@ -236,24 +238,43 @@ fn replay<'a>(alloc: Global) -> Result<Command<'a>, Error>
         "all",
         "Prints every reply, and not only words that are sent or lost",
     );
+    let long = flag(alloc, "long", "Takes up to 1099511627776 bytes of trace");
     let replay = on_tables(
         alloc,
         "replay",
         "Replays the trace on standard input through the concentrator of the tables",
         AFTER_REPLAY,
     )?;
-    Ok(replay.arg(all)?)
+    Ok(replay.arg(all)?.arg(long)?)
 }
 
 /// The command `audit`.
 fn audit<'a>(alloc: Global) -> Result<Command<'a>, Error>
-    ensures { IfOk result (IsRead (certificate_app (codes "audit"))) }
+    ensures { IfOk result (IsRead audit_app) }
 {
-    on_certificate(
+    let long = flag(
+        alloc,
+        "long",
+        "Takes any number of events, and up to 1099511627776 bytes of trace",
+    );
+    let audit = on_certificate(
         alloc,
         "audit",
         "Audits the trace on standard input: its budgets, its sources, and the claims of a certificate",
         AFTER_AUDIT,
+    )?;
+    Ok(audit.arg(long)?)
+}
+
+/// The command `observe`.
+fn observe<'a>(alloc: Global) -> Result<Command<'a>, Error>
+    ensures { IfOk result (IsRead (certificate_app (codes "observe"))) }
+{
+    on_certificate(
+        alloc,
+        "observe",
+        "Tells how near the run of the trace on standard input came to the bounds of a certificate",
+        AFTER_OBSERVE,
     )
 }
 
@@ -285,6 +306,81 @@ fn bench<'a>(alloc: Global) -> Result<Command<'a>, Error>
         AFTER_BENCH,
     )?;
     Ok(bench.arg(ticks(alloc))?.arg(marks)?)
+}
+
+/// The option `--tick`.
+fn tick<'a>(alloc: Global) -> Arg<'a>
+    ensures rule { rule_of result ≡ tick_rule }
+    ensures local { result.global ≡ false }
+{
+    Arg::new(alloc, "tick")
+        .long("tick")
+        .value_name("US")
+        .help(
+            "Takes ticks of so many microseconds, 100 to 10000, where none is said the first of eight that does",
+        )
+        .value_parser(value_parser!(u16).range(i64::from(SHORTEST_TICK)..=i64::from(LONGEST_TICK)))
+}
+
+/// The option `--headroom`.
+fn headroom<'a>(alloc: Global) -> Arg<'a>
+    ensures rule { rule_of result ≡ headroom_rule }
+    ensures local { result.global ≡ false }
+{
+    Arg::new(alloc, "headroom")
+        .long("headroom")
+        .value_name("PERCENT")
+        .help(
+            "Leaves so much of each queue, router, output wire and age, 0 to 90, where none is said a quarter where it can",
+        )
+        .value_parser(value_parser!(u8).range(0..=i64::from(MOST_HEADROOM)))
+}
+
+/// The option `--certificate`.
+fn certificate<'a>(alloc: Global) -> Arg<'a>
+    ensures rule { rule_of result ≡ certificate_rule }
+    ensures local { result.global ≡ false }
+{
+    Arg::new(alloc, "certificate")
+        .long("certificate")
+        .value_name("FILE")
+        .help("Writes the certificate of the tables into this file, over what stands there")
+}
+
+/// The command `design` without its options.
+fn on_sheets<'a>(alloc: Global) -> Result<Command<'a>, Error>
+    ensures { IfOk result (IsRead sheets_app) }
+{
+    Ok(
+        named(
+            alloc,
+            "design",
+            "Designs tables for the two sheets of an interface document, and certifies them",
+            AFTER_DESIGN,
+        )
+        .arg(explained(alloc))?
+        .arg(file(alloc, "INPUTS", "The sheet of the inputs, in CSV"))?
+        .arg(file(alloc, "OUTPUTS", "The sheet of the outputs, in CSV"))?,
+    )
+}
+
+/// The command `design`.
+fn design<'a>(alloc: Global) -> Result<Command<'a>, Error>
+    ensures { IfOk result (IsRead design_app) }
+{
+    let police = flag(
+        alloc,
+        "police",
+        "Lets every bus refuse early words, so that nothing is asked of the sources",
+    );
+    let design = on_sheets(alloc)?;
+    Ok(
+        design
+            .arg(tick(alloc))?
+            .arg(headroom(alloc))?
+            .arg(police)?
+            .arg(certificate(alloc))?,
+    )
 }
 
 /// The command `explain`.
@@ -329,9 +425,11 @@ pub fn program<'a>(alloc: Global) -> Result<Command<'a>, Error>
             .subcommand(trace(alloc)?)?
             .subcommand(replay(alloc)?)?
             .subcommand(audit(alloc)?)?
+            .subcommand(observe(alloc)?)?
             .subcommand(bench(alloc)?)?
             .subcommand(report(alloc)?)?
             .subcommand(margins(alloc)?)?
+            .subcommand(design(alloc)?)?
             .subcommand(explain(alloc)?)?,
     )
 }

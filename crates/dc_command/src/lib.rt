@@ -10,4 +10,7 @@ mod limits;
 
 pub use asked::{Asked, Order, command};
 pub use explained::When;
-pub use limits::{LAST_BEGIN, MOST_DRIFT, MOST_TICKS, MOST_WORKERS, USUAL_TICKS};
+pub use limits::{
+    LAST_BEGIN, LONGEST_TICK, MOST_DRIFT, MOST_HEADROOM, MOST_TICKS, MOST_WORKERS, SHORTEST_TICK,
+    USUAL_TICKS,
+};

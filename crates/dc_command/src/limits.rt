@@ -15,3 +15,12 @@ pub const LAST_BEGIN: u64 = 9_007_199_254_740_992;
 
 /// The ticks of a bench where none are said.
 pub const USUAL_TICKS: u16 = 200;
+
+/// The shortest tick of a design, in microseconds: the shortest that tables may have.
+pub const SHORTEST_TICK: u16 = 100;
+
+/// The longest tick of a design, in microseconds: the longest that tables may have.
+pub const LONGEST_TICK: u16 = 10_000;
+
+/// The greatest headroom of a design, in percent.
+pub const MOST_HEADROOM: u8 = 90;

@@ -52,7 +52,7 @@ pub(crate) fn explain_line(
         return explain_plainly(alloc, kind, code);
     };
     match kind {
-        Kind::Trace => tell_event(alloc, &mut out, code, line, &tables),
+        Kind::Trace => tell_event(alloc, &mut out, code, line, ran.order, &tables),
         Kind::Step => tell_step(&mut out, answer, line, ran.input, &tables),
         _ => tell_failing(&mut out, answer, line, ran.input, &tables),
     }

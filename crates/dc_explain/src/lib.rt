@@ -5,6 +5,7 @@
 
 mod audits;
 mod capture;
+mod designed;
 mod devices;
 mod faults;
 mod judged;
@@ -12,6 +13,7 @@ mod lines;
 mod output;
 mod plain;
 mod ran;
+mod sources;
 mod steps;
 mod trace;
 mod words;

@@ -6,7 +6,7 @@ use dc_tell::{Explanation, place_at};
 pub(crate) const INPUT: &str = "<stdin>";
 
 /// A line that ends a tick.
-const TICK: &[u8] = b"T";
+pub(crate) const TICK: &[u8] = b"T";
 
 /// A line of standard input.
 #[derive(Clone, Copy)]
@@ -66,6 +66,28 @@ pub(crate) fn line_of(kept: &Kept, number: u64) -> Option<Line<'_>> {
 /// Whether a line is an event of this letter, with the blank behind it, and of this name.
 fn is_event(line: &[u8], letter: &[u8], name: &[u8]) -> bool {
     line.starts_with(letter) && line.get(letter.len()..).unwrap_or(b"") == name
+}
+
+/// In which tick the last event of this letter and name before a line stands, where it was kept.
+pub(crate) fn last_before(kept: &Kept, line: Line<'_>, letter: &str, name: &str) -> Option<u64> {
+    let text = kept.text.as_slice();
+    let mut number = kept.before.lines.saturating_add(1);
+    let mut now = kept.before.ticks;
+    let mut last = None;
+    let mut from = 0usize;
+    for (at, byte) in text.iter().enumerate() {
+        if *byte != b'\n' || number >= line.number {
+            continue;
+        }
+        let bytes = text.get(from..at).unwrap_or(b"");
+        if is_event(bytes, letter.as_bytes(), name.as_bytes()) {
+            last = Some(now);
+        }
+        now = now.saturating_add(u64::from(bytes == TICK));
+        number = number.saturating_add(1);
+        from = at.saturating_add(1);
+    }
+    last
 }
 
 /// How many lines before a line are an event of this letter and name, from a tick on, where all of these were kept.

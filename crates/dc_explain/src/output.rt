@@ -53,7 +53,7 @@ fn is_failing(line: &[u8]) -> bool {
 }
 
 /// Bytes of UTF-8 from the first that begins a letter on: those before it end one that was cut.
-fn whole_letters(bytes: &[u8]) -> &[u8] {
+pub(crate) fn whole_letters(bytes: &[u8]) -> &[u8] {
     for (from, byte) in bytes.iter().enumerate() {
         if *byte & 0xC0 != 0x80 {
             return bytes.get(from..).unwrap_or(b"");

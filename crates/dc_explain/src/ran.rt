@@ -1,5 +1,7 @@
 //! A run that has ended, and what there is to say of its end.
+use crate::audits::explain_empty;
 use crate::capture::explain_surveyed;
+use crate::designed::repeat_lines;
 use crate::devices::explain_failure;
 use crate::faults::explain_line;
 use crate::judged::{explain_refused, explain_unread};
@@ -71,11 +73,20 @@ impl<'a> Ran<'a> {
                 certificate,
                 ..
             }
+            | Order::Observe {
+                tables,
+                certificate,
+            }
             | Order::Bench {
                 tables,
                 certificate,
                 ..
             } => (told(tables), told(certificate)),
+            Order::Design {
+                inputs,
+                outputs,
+                ..
+            } => (told(inputs), told(outputs)),
         }
     }
 
@@ -132,6 +143,11 @@ fn explain_judged(alloc: Global, ran: &Ran<'_>, answer: Answer<'_>) -> Option<St
     }
 }
 
+/// Whether it was to design tables.
+fn is_design(ran: &Ran<'_>) -> bool {
+    matches!(ran.order, Order::Design { .. })
+}
+
 /// What there is to say of the end of a run: nothing where all is well, or where nobody reads what it wrote.
 fn explain(alloc: Global, ran: &Ran<'_>) -> Option<String> {
     if ran.is_unread() {
@@ -141,9 +157,10 @@ fn explain(alloc: Global, ran: &Ran<'_>) -> Option<String> {
         return None;
     };
     match ran.exit {
-        Exit::Done => None,
+        Exit::Done => explain_empty(alloc, ran),
         Exit::Failed if answer.verb == "failed" => explain_failure(alloc, ran, answer.code),
         Exit::Failed => explain_failure(alloc, ran, "device"),
+        Exit::Unreadable | Exit::Refused if is_design(ran) => repeat_lines(alloc, ran.output),
         Exit::Unreadable => explain_text(alloc, ran, answer),
         Exit::Refused => explain_judged(alloc, ran, answer),
     }

@@ -1,5 +1,5 @@
 //! Events that may not follow those before them.
-use crate::lines::{Line, events_since};
+use crate::lines::{Line, events_since, last_before};
 use crate::output::Answer;
 use crate::trace::field;
 use dc_document::Name;
@@ -52,7 +52,7 @@ fn tell_spent(out: &mut Explanation, line: Line<'_>, tables: &Tables, name: &Nam
 }
 
 /// Tells of an output that sent too soon.
-fn tell_early(out: &mut Explanation, line: Line<'_>, tables: &Tables, name: &Name) {
+fn tell_early(out: &mut Explanation, line: Line<'_>, kept: &Kept, tables: &Tables, name: &Name) {
     let Some(output) = output_of(tables, name) else {
         return;
     };
@@ -62,6 +62,13 @@ fn tell_early(out: &mut Explanation, line: Line<'_>, tables: &Tables, name: &Nam
         &[Text(name.as_str()), Number(line.tick), gap],
     );
     line.show(out, 0);
+    if let Some(last) = last_before(kept, line, "S ", name.as_str()) {
+        let next = last.saturating_add(u64::from(output.gap));
+        out.note(
+            "its last send is of tick {}: it may send again in tick {}",
+            &[Number(last), Number(next)],
+        );
+    }
     out.help("its wire takes one word in ", &[]);
     out.put(gap);
     out.say(": put the send behind more lines `T`", &[]);
@@ -215,7 +222,7 @@ pub(crate) fn tell_budget(
     if kind == b"R".as_slice() {
         tell_spent(out, line, tables, &name);
     } else {
-        tell_early(out, line, tables, &name);
+        tell_early(out, line, kept, tables, &name);
     }
     true
 }
@@ -233,7 +240,7 @@ pub(crate) fn tell_step(
     };
     match answer.code {
         "spent" => tell_spent(out, line, tables, &name),
-        "early" => tell_early(out, line, tables, &name),
+        "early" => tell_early(out, line, kept, tables, &name),
         _ => tell_owed(out, line, kept, tables, &name),
     }
 }

@@ -1,13 +1,20 @@
 //! Lines that are no event of a trace.
 use crate::lines::Line;
 use crate::words::{tell_long, tell_no_word, tell_unended, tell_unseen};
+use dc_command::Order;
 use dc_tables::Tables;
 use dc_tell::Value::{Bytes, Number, Several, Text};
 use dc_tell::{Explanation, Names, Value};
 use std::alloc::Global;
 
-/// How many events an audit reads.
+/// How many events an audit reads that is not asked for a long run.
 const MOST_EVENTS: u64 = 100_000;
+
+/// How many bytes a trace may have.
+const USUAL_TRACE: u64 = 1_073_741_824;
+
+/// The same where it may be long.
+const LONG_TRACE: u64 = 1_099_511_627_776;
 
 /// The field of this number, from 0, and behind how many bytes of the line it begins.
 pub(crate) fn field(line: &[u8], number: usize) -> (&[u8], usize) {
@@ -149,20 +156,30 @@ fn tell_name(alloc: Global, out: &mut Explanation, line: Line<'_>, tables: &Tabl
 }
 
 /// Tells why a line, or the text, is too long.
-fn tell_too_long(out: &mut Explanation, line: Line<'_>) {
+fn tell_too_long(out: &mut Explanation, line: Line<'_>, order: Order<'_>) {
     if line.bytes.len() > 64 {
         return tell_long(out, line, "event");
     }
-    if line.number > MOST_EVENTS {
+    let (is_long, most) = match order {
+        Order::Audit { long, .. } => (long, MOST_EVENTS),
+        Order::Replay { long, .. } => (long, u64::MAX),
+        Order::Observe { .. } => (true, u64::MAX),
+        _ => (false, u64::MAX),
+    };
+    if line.number > most && !is_long {
         out.say(
             "an audit reads {} events at most, and here is one more",
             &[Number(MOST_EVENTS)],
         );
     } else {
-        out.say("the trace has more than 1073741824 bytes", &[]);
+        let bytes = if is_long { LONG_TRACE } else { USUAL_TRACE };
+        out.say("the trace has more than {} bytes", &[Number(bytes)]);
     }
     line.show(out, 0);
     out.help("hand in a shorter trace", &[]);
+    if !is_long {
+        out.help("or let it be long, with `--long`", &[]);
+    }
 }
 
 /// Tells why a line of a trace is no event of these tables, by the code of its fault.
@@ -171,10 +188,11 @@ pub(crate) fn tell_event(
     out: &mut Explanation,
     code: &str,
     line: Line<'_>,
+    order: Order<'_>,
     tables: &Tables,
 ) {
     match code {
-        "E1" => tell_too_long(out, line),
+        "E1" => tell_too_long(out, line, order),
         "E6" => tell_unended(out, line),
         _ if tell_unseen(out, line) => {}
         "E2" => tell_kind(out, line),

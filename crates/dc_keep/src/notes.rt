@@ -12,8 +12,8 @@ const MOST_OF_FILE: usize = 4_194_304;
 /// How many bytes of the end of a stream are kept at least: more than an engine holds of one.
 const MOST_OF_STREAM: usize = 65_536;
 
-/// How many bytes of the end of what was written are kept at least.
-const MOST_OF_OUTPUT: usize = 1_024;
+/// How many bytes of the end of what was written are kept at least: fifty lines of what stands in the way of a design.
+const MOST_OF_OUTPUT: usize = 16_384;
 
 /// The end of a text, in two parts.
 #[derive(Drop)]

@@ -20,7 +20,7 @@ use Rattle.dc_run.specs.Check.{AnswersCheck, AnswersTables, AreCertified, Report
 use Rattle.dc_tables.specs.TableRows.{TableRows}
 use Rattle.dc_toml.specs.Reading.{tables_of}
 use Rattle.dc_command.specs.declared.asked.Order.{Order}
-use Rattle.dc_command.specs.declared.asked.Order.TheVariants.{Decode, Check, Find, Report, Margins, Survey, Trace, Replay, Audit, Bench, Explain}
+use Rattle.dc_command.specs.declared.asked.Order.TheVariants.{Decode, Check, Find, Report, Margins, Survey, Trace, Replay, Audit, Observe, Bench, Design, Explain}
 use Rattle.dc_program.specs.Carries.{Carries}
 use Rattle.dc_program.specs.Headline.{Decides, DecidesFiles}
 use Rattle.dc_program.specs.World.{WorldState}
@@ -81,15 +81,18 @@ carried_decides (Check tables certificate None) w w' input input' sink sink' exi
     λ rows claims e f. reported_decides rows claims sink sink' exit 0 ran.failed (inl (ran.reports rows claims e f))
 carried_decides (Check tables certificate (Some count)) w w' input input' sink sink' exit (inl ran) =
     λ rows claims e f. reported_decides rows claims sink sink' exit 0 ran.failed (ran.reports rows claims e f)
-carried_decides (Check tables certificate workers) w w' input input' sink sink' exit (inr stops) =
+carried_decides (Check tables certificate workers) w w' input input' sink sink' exit (inr (inl stops)) =
     λ rows claims e f. failed_decides rows claims sink sink' exit stops.tells.failed
+carried_decides (Check tables certificate workers) w w' input input' sink sink' exit (inr (inr makes)) = absurd makes
 carried_decides (Decode format) w w' input input' sink sink' exit h = tt
 carried_decides (Find tables) w w' input input' sink sink' exit h = tt
 carried_decides (Report tables certificate drift) w w' input input' sink sink' exit h = tt
 carried_decides (Margins tables certificate microseconds drift) w w' input input' sink sink' exit h = tt
 carried_decides (Survey tables) w w' input input' sink sink' exit h = tt
 carried_decides (Trace tables from) w w' input input' sink sink' exit h = tt
-carried_decides (Replay tables all) w w' input input' sink sink' exit h = tt
-carried_decides (Audit tables certificate) w w' input input' sink sink' exit h = tt
+carried_decides (Replay tables all long) w w' input input' sink sink' exit h = tt
+carried_decides (Audit tables certificate long) w w' input input' sink sink' exit h = tt
+carried_decides (Observe tables certificate) w w' input input' sink sink' exit h = tt
 carried_decides (Bench tables certificate ticks marks) w w' input input' sink sink' exit h = tt
+carried_decides (Design inputs outputs tick headroom police certificate) w w' input input' sink sink' exit h = tt
 carried_decides (Explain code) w w' input input' sink sink' exit h = tt

@@ -5,5 +5,5 @@ use Rattle.dc_program.specs.World.{WorldState}
 use Rattle.dc_program.specs.declared.world.NotOpened.{NotOpened}
 
 -- the first of two files was not opened
-pub first_refused : (first second : List ℕ) (why : NotOpened) (w : WorldState) → w.opened ≡ first ∷ [] → w.refused ≡ Some why → w.crew ≡ None → AreNotOpened (first ∷ second ∷ []) why w
-first_refused first second why w opened refused crew = record { behind = second ∷ []; front = rw opened refl; refused = refused; crew = crew }
+pub first_refused : (first second : List ℕ) (why : NotOpened) (w : WorldState) → w.opened ≡ first ∷ [] → w.refused ≡ Some why → w.crew ≡ None → w.saved ≡ None → AreNotOpened (first ∷ second ∷ []) why w
+first_refused first second why w opened refused crew saved = record { behind = second ∷ []; front = rw opened refl; refused = refused; crew = crew; saved = saved }

@@ -1,9 +1,13 @@
 -- How an order was carried out, by what its files and its engine say.
-use Rattle.std.proofs.Common.{◌≡◌, ◌⊎◌, ℕ, ◌+◌, List, [], ◌∷◌, refl, sym, ◌∙◌, ap, subst, arith, Option, Some, None, IfSome, inl, inr}
+use Rattle.std.proofs.Common.{◌≡◌, ◌≢◌, ◌⊎◌, ℕ, ◌+◌, List, [], ◌∷◌, refl, sym, ◌∙◌, ap, subst, arith, Option, Some, None, IfSome, inl, inr}
 use Rattle.dc_answer.specs.declared.exit.Exit.{Exit}
 use Rattle.dc_command.specs.declared.asked.Order.{Order}
 use Rattle.dc_device.specs.States.{SinkState, SourceState}
-use Rattle.dc_program.specs.Carries.{Carries}
+use Rattle.dc_answer.specs.Answer.{Any, Reported}
+use Rattle.dc_answer.specs.Judging.{Leaves}
+use Rattle.dc_answer.specs.declared.exit.Exit.TheVariants.{Done, Failed}
+use Rattle.dc_run_design.specs.Design.{ReportsDesign}
+use Rattle.dc_program.specs.Carries.{Carries, Makes, Saves}
 use Rattle.dc_program.specs.Opening.{AreNotOpened, AreOpened, AreOpenedFor, TellsFailure, failure_of}
 use Rattle.dc_program.specs.Orders.{ReportsAny, ReportsOrder, crew_of, files_of}
 use Rattle.dc_program.specs.World.{IsNew, WorldState, new_source}
@@ -70,14 +74,42 @@ module _ (order : Order) (w w' : WorldState) (sink sink' : SinkState) (exit : Ex
   pub ran : (input input' : SourceState) (failed : ℕ) → AreOpened (files_of order) w' → crew_of order ≡ None
       → ReportsOrder order w.holds failed input input' sink sink' exit → ReportsAny order failed input input' sink sink' exit → Carries order w w' input input' sink sink' exit
   ran input input' failed opened none reports reported =
-      inl (record { opened = opened.opened; refused = opened.refused; crew = opened.crew ∙ sym none; failed = failed; reports = reports; reported = reported })
+      inl (record { opened = opened.opened; refused = opened.refused; crew = opened.crew ∙ sym none; saved = opened.saved; failed = failed; reports = reports; reported = reported })
 
   -- the same where threads were asked for then
   pub ran_by : (crew : Crew) (input input' : SourceState) (failed : ℕ) → AreOpenedFor crew (files_of order) w' → crew_of order ≡ Some crew
       → ReportsOrder order w.holds failed input input' sink sink' exit → ReportsAny order failed input input' sink sink' exit → Carries order w w' input input' sink sink' exit
   ran_by crew input input' failed opened some reports reported =
-      inl (record { opened = opened.opened; refused = opened.refused; crew = opened.crew ∙ sym some; failed = failed; reports = reports; reported = reported })
+      inl (record { opened = opened.opened; refused = opened.refused; crew = opened.crew ∙ sym some; saved = opened.saved; failed = failed; reports = reports; reported = reported })
 
   -- one could not be opened
   pub stopped : (why : NotOpened) (input : SourceState) → AreNotOpened (files_of order) why w' → TellsFailure (failure_of why) sink sink' exit → Carries order w w' input input sink sink' exit
-  stopped why input files tells = inr (record { why = why; files = files; unread = refl; tells = tells })
+  stopped why input files tells = inr (inl (record { why = why; files = files; unread = refl; tells = tells }))
+
+-- ---- a file that was made
+
+-- both sheets were opened, and the engine ran over what they hold
+pub made : (inputs outputs : List ℕ) (certificate : Option (List ℕ)) (w w1 w' : WorldState) (input : SourceState) (sink mid sink' : SinkState) (failed : ℕ) (text : List ℕ) (ended exit : Exit)
+    → AreOpened (inputs ∷ outputs ∷ []) w1 → w'.opened ≡ w1.opened → w'.crew ≡ w1.crew
+    → ((ins outs : List ℕ) → w.holds inputs ≡ Some ins → w.holds outputs ≡ Some outs → ReportsDesign ins outs text sink.contents mid.contents 0 failed sink.failed mid.failed ended)
+    → Reported Any sink.contents mid.contents 0 failed sink.failed mid.failed ended → Saves certificate text w' mid sink' ended exit
+    → Makes inputs outputs certificate w w' input input sink sink' exit
+made inputs outputs certificate w w1 w' input sink mid sink' failed text ended exit opened same alike reports reported saves = record {
+  opened = same ∙ opened.opened;
+  crew = alike ∙ opened.crew;
+  unread = refl;
+  failed = failed;
+  text = text;
+  mid = mid;
+  ended = ended;
+  reports = reports;
+  reported = reported;
+  saves = saves;
+}
+
+-- where the sink was left well by an engine, it is so by what stands behind it
+pub left_after : (a b c : SinkState) (ended exit : Exit) → Leaves a b → (ended ≢ Failed → b.failed ≡ a.failed) → ((c ≡ b) × (exit ≡ ended)) ⊎ ((ended ≡ Done) × Leaves b c) → Leaves a c
+left_after a b c ended exit h quiet (inl (same, is)) = subst (λ k. Leaves a k) (sym same) h
+left_after a b c ended exit h quiet (inr (is, l)) =
+    let still : b.failed ≡ a.failed = quiet (λ e. let no : Done ≡ Failed = sym is ∙ e in cc) in
+    record { seen = λ e. l.seen (e ∙ sym still); last = λ e. let (m, n) = l.last (λ x. e (x ∙ still)) in (m ∙ ap (λ n. n + 1) still, n) }

@@ -16,24 +16,27 @@ use Rattle.dc_program.specs.declared.world.NotOpened.TheVariants.{Device, Memory
 
 -- ---- files
 
--- all these files were opened, in this order and no other, and no thread was asked for
+-- all these files were opened, in this order and no other, none was made, and no thread was asked for
 pub record AreOpened (files : List (List ℕ)) (w : WorldState) : Type 0 where
   pub opened : w.opened ≡ files
   pub refused : w.refused ≡ None
   pub crew : w.crew ≡ None
+  pub saved : w.saved ≡ None
 
--- all these files were opened, in this order and no other, and then threads were asked for these
+-- all these files were opened, in this order and no other, none was made, and then threads were asked for these
 pub record AreOpenedFor (asking : Crew) (files : List (List ℕ)) (w : WorldState) : Type 0 where
   pub opened : w.opened ≡ files
   pub refused : w.refused ≡ None
   pub crew : w.crew ≡ Some asking
+  pub saved : w.saved ≡ None
 
--- The first of these files that could not be opened, for this reason, was the last that was asked for, and no thread was.
+-- The first of these files that could not be opened, for this reason, was the last that was asked for, none was made, and no thread was asked for.
 pub record AreNotOpened (files : List (List ℕ)) (why : NotOpened) (w : WorldState) : Type 0 where
   pub behind : List (List ℕ)
   pub front : files ≡ w.opened ++ behind
   pub refused : w.refused ≡ Some why
   pub crew : w.crew ≡ None
+  pub saved : w.saved ≡ None
 
 -- ---- what is told of one that was not opened
 

@@ -7,18 +7,20 @@ use Rattle.dc_answer.specs.declared.exit.Exit.{Exit}
 use Rattle.dc_answer.specs.declared.exit.Exit.TheVariants.{Failed}
 use Rattle.dc_command.specs.declared.asked.Order.{Order}
 use Rattle.dc_capture.specs.declared.capture_lines.TheConstants.{CAPTURE_LIMIT}
-use Rattle.dc_command.specs.declared.asked.Order.TheVariants.{Decode, Check, Find, Report, Margins, Survey, Trace, Replay, Audit, Bench, Explain}
+use Rattle.dc_command.specs.declared.asked.Order.TheVariants.{Decode, Check, Find, Report, Margins, Survey, Trace, Replay, Audit, Observe, Bench, Design, Explain}
 use Rattle.dc_device.specs.States.{AsksUpTo, SinkState, SourceState}
-use Rattle.dc_event.specs.declared.trace_reader.TheConstants.{TRACE_LIMIT}
 use Rattle.dc_program.specs.declared.world.Crew.{Crew}
 use Rattle.dc_program.specs.declared.world.Crew.TheVariants.{Workers, Actors}
-use Rattle.dc_run.specs.Audit.{ReportsAudit}
+use Rattle.dc_run_audit.specs.Audit.{ReportsAudit}
 use Rattle.dc_run.specs.Check.{ReportsCheck}
 use Rattle.dc_run.specs.Decode.{decode_text}
 use Rattle.dc_run.specs.Find.{ReportsFind}
+use Rattle.dc_run.specs.Limits.{trace_limit}
 use Rattle.dc_run.specs.Replay.{ReportsReplay}
 use Rattle.dc_run_bench.specs.Bench.{ReportsBench}
 use Rattle.dc_run_explain.specs.Explain.{ReportsExplain}
+use Rattle.dc_run_observe.specs.Answer.{ReportsObserve}
+use Rattle.dc_run.specs.declared.limits.TheConstants.{LONG_TRACE_LIMIT}
 use Rattle.dc_run_margins.specs.Margins.{ReportsMargins, ReportsLeast as ReportsMarginsLeast}
 use Rattle.dc_run_report.specs.Paper.{ReportsPage, ReportsLeast as ReportsPageLeast}
 use Rattle.dc_run_survey.specs.Answer.{ReportsSurvey}
@@ -37,9 +39,11 @@ files_of (Margins tables None microseconds drift) = tables.now ∷ []
 files_of (Margins tables (Some certificate) microseconds drift) = tables.now ∷ certificate.now ∷ []
 files_of (Survey tables) = tables.now ∷ []
 files_of (Trace tables from) = tables.now ∷ []
-files_of (Replay tables all) = tables.now ∷ []
-files_of (Audit tables certificate) = tables.now ∷ certificate.now ∷ []
+files_of (Replay tables all long) = tables.now ∷ []
+files_of (Audit tables certificate long) = tables.now ∷ certificate.now ∷ []
+files_of (Observe tables certificate) = tables.now ∷ certificate.now ∷ []
 files_of (Bench tables certificate ticks marks) = tables.now ∷ certificate.now ∷ []
+files_of (Design inputs outputs tick headroom police certificate) = inputs.now ∷ outputs.now ∷ []
 files_of (Explain code) = []
 
 -- as many workers as are said
@@ -62,8 +66,9 @@ abbrev pub AsksInput : Order → SourceState → SourceState → Type 0
 AsksInput (Decode format) input input' = AsksUpTo stream_limit input input'
 AsksInput (Survey tables) input input' = AsksUpTo CAPTURE_LIMIT input input'
 AsksInput (Trace tables from) input input' = AsksUpTo CAPTURE_LIMIT input input'
-AsksInput (Replay tables all) input input' = AsksUpTo TRACE_LIMIT input input'
-AsksInput (Audit tables certificate) input input' = AsksUpTo TRACE_LIMIT input input'
+AsksInput (Replay tables all long) input input' = AsksUpTo (trace_limit long) input input'
+AsksInput (Audit tables certificate long) input input' = AsksUpTo (trace_limit long) input input'
+AsksInput (Observe tables certificate) input input' = AsksUpTo LONG_TRACE_LIMIT input input'
 AsksInput _ input input' = input' ≡ input
 
 -- how many calls of sources failed, where so many of the files' did: those of standard input are counted where it is read
@@ -71,14 +76,15 @@ abbrev pub sources_in : Order → ℕ → SourceState → ℕ
 sources_in (Decode format) failed input = failed + input.failed
 sources_in (Survey tables) failed input = failed + input.failed
 sources_in (Trace tables from) failed input = failed + input.failed
-sources_in (Replay tables all) failed input = failed + input.failed
-sources_in (Audit tables certificate) failed input = failed + input.failed
+sources_in (Replay tables all long) failed input = failed + input.failed
+sources_in (Audit tables certificate long) failed input = failed + input.failed
+sources_in (Observe tables certificate) failed input = failed + input.failed
 sources_in _ failed input = failed
 
 -- ---- what is reported
 
 -- What the engine of an order reports of the texts that its files hold, in their order, and of standard input, with the
--- order's flags and numbers; so many calls of the files' sources failed in it.
+-- order's flags and numbers; so many calls of the files' sources failed in it. `design` makes a file too, and is told of apart.
 abbrev pub ReportsOrder : Order → (List ℕ → Option (List ℕ)) → ℕ → SourceState → SourceState → SinkState → SinkState → Exit → Type 0
 ReportsOrder (Decode format) holds failed input input' sink sink' exit =
     (text : List ℕ) → input.remaining ≡ Some text → Reports sink.contents sink'.contents Source (sink'.failed - sink.failed) (decode_text format text) exit
@@ -107,16 +113,20 @@ ReportsOrder (Survey tables) holds failed input input' sink sink' exit =
 ReportsOrder (Trace tables from) holds failed input input' sink sink' exit =
     (rows capture : List ℕ) → holds tables.now ≡ Some rows → input.remaining ≡ Some capture
     → ReportsTrace from rows capture sink.contents sink'.contents (0 + input.failed) (failed + input'.failed) sink.failed sink'.failed exit
-ReportsOrder (Replay tables all) holds failed input input' sink sink' exit =
+ReportsOrder (Replay tables all long) holds failed input input' sink sink' exit =
     (rows trace : List ℕ) → holds tables.now ≡ Some rows → input.remaining ≡ Some trace
-    → ReportsReplay all rows trace sink.contents sink'.contents (0 + input.failed) (failed + input'.failed) sink.failed sink'.failed exit
-ReportsOrder (Audit tables certificate) holds failed input input' sink sink' exit =
+    → ReportsReplay (trace_limit long) all rows trace sink.contents sink'.contents (0 + input.failed) (failed + input'.failed) sink.failed sink'.failed exit
+ReportsOrder (Audit tables certificate long) holds failed input input' sink sink' exit =
     (rows claims trace : List ℕ) → holds tables.now ≡ Some rows → holds certificate.now ≡ Some claims → input.remaining ≡ Some trace
-    → ReportsAudit rows claims trace sink.contents sink'.contents (0 + input.failed) (failed + input'.failed) sink.failed sink'.failed exit
+    → ReportsAudit long rows claims trace sink.contents sink'.contents (0 + input.failed) (failed + input'.failed) sink.failed sink'.failed exit
+ReportsOrder (Observe tables certificate) holds failed input input' sink sink' exit =
+    (rows claims trace : List ℕ) → holds tables.now ≡ Some rows → holds certificate.now ≡ Some claims → input.remaining ≡ Some trace
+    → ReportsObserve rows claims trace sink.contents sink'.contents (0 + input.failed) (failed + input'.failed) sink.failed sink'.failed exit
 ReportsOrder (Bench tables certificate ticks marks) holds failed input input' sink sink' exit =
     (rows claims : List ℕ) → holds tables.now ≡ Some rows → holds certificate.now ≡ Some claims
     → ReportsBench rows claims ticks marks sink.contents sink'.contents 0 failed sink.failed sink'.failed exit
     ⊎ ReportsThreads sink.contents sink'.contents 0 failed sink.failed sink'.failed exit
+ReportsOrder (Design inputs outputs tick headroom police certificate) holds failed input input' sink sink' exit = ⊥
 ReportsOrder (Explain code) holds failed input input' sink sink' exit = ReportsExplain sink.contents sink'.contents sink.failed sink'.failed exit
 
 -- What it reports whatever the texts are: what is told to have failed has failed.

@@ -10,16 +10,18 @@ pub record WorldState : Type 0 where
   pub holds : List ℕ → Option (List ℕ)
   -- the names of the files that it was asked to open, the first one first
   pub opened : List (List ℕ)
-  -- why the last of these was not opened, where it was not
+  -- why the file that it was last asked for was not opened or made, where it was not
   pub refused : Option NotOpened
   -- for whom threads were last asked, where they were
   pub crew : Option Crew
+  -- the file that it was asked to make, and its text, where it was
+  pub saved : Option (List ℕ × List ℕ)
 
 -- the source of a file that was just opened: it gives this text, and has not been pulled
 abbrev pub new_source : Option (List ℕ) → SourceState
 new_source text = record { remaining = text; failed = 0; asked = 0; dry = 0 }
 
--- why a file was not opened
+-- why a file was not opened or made
 abbrev pub refusal_of : {F : Type 0} → Result F NotOpened → Option NotOpened
 refusal_of (Ok file) = None
 refusal_of (Err why) = Some why
@@ -29,3 +31,4 @@ pub record IsNew (w : WorldState) : Type 0 where
   pub opened : w.opened ≡ []
   pub refused : w.refused ≡ None
   pub crew : w.crew ≡ None
+  pub saved : w.saved ≡ None

@@ -9,12 +9,16 @@ ghost use Rattle.dc_program.specs.Orders.{AsksInput};
 ghost use Rattle.dc_program.specs.World.{IsNew};
 
 use crate::crews::ByThreads;
-use crate::engines::{audit, bench, check, check_by, decode, explain, find, replay, survey, trace};
+use crate::designs::design;
+use crate::engines::{
+    audit, bench, check, check_by, decode, explain, find, observe, replay, survey, trace,
+};
 use crate::optional::{margins, page};
 use crate::world::World;
 use dc_answer::Exit;
 use dc_command::Order;
 use dc_device::{Sink, Source};
+use dc_run_design::Plan;
 use dc_run_margins::InTime;
 use std::alloc::Global;
 
@@ -70,11 +74,33 @@ fn obey<'a, W: World<'a>, S: Source, K: Sink, H: ByThreads>(
         }
         Order::Survey { tables } => survey(alloc, world, input, sink, tables),
         Order::Trace { tables, from } => trace(alloc, world, input, sink, tables, from),
-        Order::Replay { tables, all } => replay(alloc, world, input, sink, tables, all),
+        Order::Replay { tables, all, long } => {
+            replay(alloc, world, input, sink, tables, all, long)
+        }
         Order::Audit {
             tables,
             certificate,
-        } => audit(alloc, world, input, sink, tables, certificate),
+            long,
+        } => audit(alloc, world, input, sink, tables, certificate, long),
+        Order::Observe {
+            tables,
+            certificate,
+        } => observe(alloc, world, input, sink, tables, certificate),
+        Order::Design {
+            inputs,
+            outputs,
+            tick,
+            headroom,
+            police,
+            certificate,
+        } => {
+            let plan = Plan {
+                tick,
+                headroom,
+                police,
+            };
+            design(alloc, world, sink, inputs, outputs, plan, certificate)
+        }
         Order::Bench {
             tables,
             certificate,

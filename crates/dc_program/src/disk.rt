@@ -1,5 +1,5 @@
 //! The world of real files.
-ghost use Rattle.std.specs.Prelude.{◌≡◌, ◌≢◌, [], None, map};
+ghost use Rattle.std.specs.Prelude.{◌≡◌, ◌≢◌, [], None, map, option_map};
 ghost use Rattle.std.specs.IoError.{error_kind};
 
 use crate::limits::MOST_FILES;
@@ -23,6 +23,14 @@ pub struct Disk<'a, R> {
     opened: ArrayVec<&'a str, MOST_FILES>,
     refused: Option<NotOpened>,
     crew: Option<Crew>,
+    saved: Option<Saved<'a>>,
+}
+
+/// A file that was to be made.
+#[derive(Drop)]
+struct Saved<'a> {
+    name: &'a str,
+    text: Vec<u8>,
 }
 
 /// How much is read before it is shown how far a command is that answers what it reads.
@@ -38,6 +46,7 @@ impl<'a, R> Disk<'a, R> {
         ensures opened { result.opened.items ≡ [] }
         ensures refused { result.refused ≡ None }
         ensures crew { result.crew ≡ None }
+        ensures saved { result.saved ≡ None }
     {
         Disk {
             runtime,
@@ -47,6 +56,7 @@ impl<'a, R> Disk<'a, R> {
             opened: ArrayVec::new(),
             refused: None,
             crew: None,
+            saved: None,
         }
     }
 
@@ -79,11 +89,13 @@ impl<'a, R: Files<File = File> + Input> Disk<'a, R> {
     }
 
     /// Begins to show how far a command is that reads standard input as it comes: one that answers what it reads once it
-    /// has read much.
+    /// has read much, unless it is to be long.
     fn show_progress(&self, order: Order<'_>) {
         match order {
-            Order::Audit { .. } => {}
-            Order::Decode(_) | Order::Replay { .. } => self.notes.progress.want(GIGABYTE),
+            Order::Audit { long: false, .. } => {}
+            Order::Decode(_) | Order::Replay { long: false, .. } => {
+                self.notes.progress.want(GIGABYTE)
+            }
             _ => self.notes.progress.want(0),
         }
     }
@@ -101,7 +113,7 @@ impl<'a, R: Files<File = File> + Input> Disk<'a, R> {
 impl<'a, R: AllocGlobal + Files<File = File> + Input> World<'a> for Disk<'a, R> {
     type File = ReadSource<Noted<'a, Origin<File, R::Reader>>>;
 
-    ghost state = { λ w. record { holds = λ name. None; opened = map (λ name. name.now) w.opened.items; refused = w.refused; crew = w.crew } };
+    ghost state = { λ w. record { holds = λ name. None; opened = map (λ name. name.now) w.opened.items; refused = w.refused; crew = w.crew; saved = option_map (λ s. (s.name.now, s.text.items)) w.saved } };
 
     fn open(
         &mut self,
@@ -117,6 +129,23 @@ impl<'a, R: AllocGlobal + Files<File = File> + Input> World<'a> for Disk<'a, R> 
             }
             Err(error) => {
                 slot.blame(error);
+                let why = reason_of(error);
+                self.refused = Some(why);
+                Err(why)
+            }
+        }
+    }
+
+    fn save(&mut self, name: &'a str, text: Vec<u8>) -> Result<(), NotOpened> {
+        let made = fs::write(self.runtime, name, text.as_slice());
+        self.saved = Some(Saved { name, text });
+        match made {
+            Ok(()) => {
+                self.refused = None;
+                Ok(())
+            }
+            Err(error) => {
+                self.notes.output.blame(error);
                 let why = reason_of(error);
                 self.refused = Some(why);
                 Err(why)

@@ -2,10 +2,11 @@
 ghost use Rattle.std.specs.Prelude.{◌≡◌, ◌≤◌, None, Some};
 ghost use Rattle.dc_answer.specs.Judging.{Leaves};
 ghost use Rattle.dc_device.specs.States.{AsksUpTo, CanFail, IsCountable, SourceState};
-ghost use Rattle.dc_event.specs.declared.trace_reader.TheConstants.{TRACE_LIMIT};
 ghost use Rattle.dc_capture.specs.declared.capture_lines.TheConstants.{CAPTURE_LIMIT};
-ghost use Rattle.dc_command.specs.declared.asked.Order.TheVariants.{Audit, Bench, Check, Decode, Explain, Find, Replay, Survey, Trace};
+ghost use Rattle.dc_command.specs.declared.asked.Order.TheVariants.{Audit, Bench, Check, Decode, Explain, Find, Observe, Replay, Survey, Trace};
+ghost use Rattle.dc_run.specs.Limits.{trace_limit};
 ghost use Rattle.dc_program.specs.Carries.{Carries};
+ghost use Rattle.dc_run.specs.declared.limits.TheConstants.{LONG_TRACE_LIMIT};
 ghost use Rattle.dc_program.specs.Orders.{stream_limit};
 ghost use Rattle.dc_program.specs.World.{IsNew};
 
@@ -15,8 +16,10 @@ use crate::world::{Crew, World};
 use dc_answer::Exit;
 use dc_codes::Code;
 use dc_device::{Sink, Source};
-use dc_run::{run_audit, run_check, run_decode, run_find, run_replay};
+use dc_run::{run_check, run_decode, run_find, run_replay};
+use dc_run_audit::run_audit;
 use dc_run_explain::run_explain;
+use dc_run_observe::run_observe;
 use dc_run_survey::run_survey;
 use dc_run_trace::run_trace;
 use dc_word::Format;
@@ -149,17 +152,18 @@ pub fn replay<'a, W: World<'a>, S: Source, K: Sink>(
     sink: &mut K,
     tables: &'a str,
     all: bool,
+    long: bool,
 ) -> Exit
     requires new { IsNew (W.state world.old) }
     requires input { IsCountable (S.state input.old) }
     requires sink { CanFail (K.state sink.old) }
-    ensures carries { Carries (Replay tables.entry all) (W.state world.old) (W.state world.new) (S.state input.old) (S.state input.new) (K.state sink.old)
+    ensures carries { Carries (Replay tables.entry all long) (W.state world.old) (W.state world.new) (S.state input.old) (S.state input.new) (K.state sink.old)
         (K.state sink.new) result }
-    ensures asks { AsksUpTo TRACE_LIMIT (S.state input.old) (S.state input.new) }
+    ensures asks { AsksUpTo (trace_limit long) (S.state input.old) (S.state input.new) }
     ensures left { Leaves (K.state sink.old) (K.state sink.new) }
 {
     match open_one(world, tables) {
-        Ok(mut tables) => run_replay(alloc, all, &mut tables, input, sink),
+        Ok(mut tables) => run_replay(alloc, long, all, &mut tables, input, sink),
         Err(why) => end_unopened(why, sink),
     }
 }
@@ -172,18 +176,44 @@ pub fn audit<'a, W: World<'a>, S: Source, K: Sink>(
     sink: &mut K,
     tables: &'a str,
     certificate: &'a str,
+    long: bool,
 ) -> Exit
     requires new { IsNew (W.state world.old) }
     requires input { IsCountable (S.state input.old) }
     requires sink { CanFail (K.state sink.old) }
-    ensures carries { Carries (Audit tables.entry certificate.entry) (W.state world.old) (W.state world.new) (S.state input.old) (S.state input.new)
+    ensures carries { Carries (Audit tables.entry certificate.entry long) (W.state world.old) (W.state world.new) (S.state input.old) (S.state input.new)
         (K.state sink.old) (K.state sink.new) result }
-    ensures asks { AsksUpTo TRACE_LIMIT (S.state input.old) (S.state input.new) }
+    ensures asks { AsksUpTo (trace_limit long) (S.state input.old) (S.state input.new) }
     ensures left { Leaves (K.state sink.old) (K.state sink.new) }
 {
     match open_both(world, tables, certificate) {
         Ok((mut tables, mut certificate)) => {
-            run_audit(alloc, &mut tables, &mut certificate, input, sink)
+            run_audit(alloc, long, &mut tables, &mut certificate, input, sink)
+        }
+        Err(why) => end_unopened(why, sink),
+    }
+}
+
+/// Observes the run of the trace on standard input.
+pub fn observe<'a, W: World<'a>, S: Source, K: Sink>(
+    alloc: Global,
+    world: &mut W,
+    input: &mut S,
+    sink: &mut K,
+    tables: &'a str,
+    certificate: &'a str,
+) -> Exit
+    requires new { IsNew (W.state world.old) }
+    requires input { IsCountable (S.state input.old) }
+    requires sink { CanFail (K.state sink.old) }
+    ensures carries { Carries (Observe tables.entry certificate.entry) (W.state world.old) (W.state world.new) (S.state input.old) (S.state input.new)
+        (K.state sink.old) (K.state sink.new) result }
+    ensures asks { AsksUpTo LONG_TRACE_LIMIT (S.state input.old) (S.state input.new) }
+    ensures left { Leaves (K.state sink.old) (K.state sink.new) }
+{
+    match open_both(world, tables, certificate) {
+        Ok((mut tables, mut certificate)) => {
+            run_observe(alloc, &mut tables, &mut certificate, input, sink)
         }
         Err(why) => end_unopened(why, sink),
     }

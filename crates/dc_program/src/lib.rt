@@ -3,6 +3,7 @@
 
 mod carry;
 mod crews;
+mod designs;
 mod disk;
 mod engines;
 mod limits;

@@ -20,7 +20,15 @@ pub struct MemFile<'a> {
     pub text: &'a str,
 }
 
-/// Two files in memory. The opening of a given number is refused, and so is that of a file that is not there.
+/// A file that was made in memory.
+#[derive(Drop)]
+struct Saved<'a> {
+    name: &'a str,
+    text: Vec<u8>,
+}
+
+/// Two files in memory. The opening or making of a given number is refused, and so is the opening of a file
+/// that is not there.
 #[derive(Drop)]
 pub struct MemWorld<'a> {
     first: MemFile<'a>,
@@ -30,6 +38,7 @@ pub struct MemWorld<'a> {
     opened: ArrayVec<&'a str, MOST_FILES>,
     refused: Option<NotOpened>,
     crew: Option<Crew>,
+    saved: Option<Saved<'a>>,
 }
 
 impl<'a> MemWorld<'a> {
@@ -42,6 +51,7 @@ impl<'a> MemWorld<'a> {
         ensures opened { result.opened.items ≡ [] }
         ensures refused { result.refused ≡ None }
         ensures crew { result.crew ≡ None }
+        ensures saved { result.saved ≡ None }
     {
         MemWorld {
             first,
@@ -51,6 +61,7 @@ impl<'a> MemWorld<'a> {
             opened: ArrayVec::new(),
             refused: None,
             crew: None,
+            saved: None,
         }
     }
 
@@ -66,6 +77,14 @@ impl<'a> MemWorld<'a> {
         ensures { result ≡ self.now.crew }
     {
         self.crew
+    }
+
+    /// The name of the file that it was asked to make, and its text.
+    pub fn saved(&self) -> Option<(&'a str, &[u8])> {
+        match &self.saved {
+            Some(saved) => Some((saved.name, saved.text.as_slice())),
+            None => None,
+        }
     }
 
     /// The text of the file of this name, where there is one.
@@ -90,6 +109,7 @@ impl<'a> World<'a> for MemWorld<'a> {
       opened = map (λ name. name.now) w.opened.items;
       refused = w.refused;
       crew = w.crew;
+      saved = option_map (λ s. (s.name.now, s.text.items)) w.saved;
     } };
 
     fn open(&mut self, name: &'a str) -> Result<MemSource<'a>, NotOpened> {
@@ -109,6 +129,19 @@ impl<'a> World<'a> for MemWorld<'a> {
                 self.refused = Some(NotOpened::Device);
                 Err(NotOpened::Device)
             }
+        }
+    }
+
+    fn save(&mut self, name: &'a str, text: Vec<u8>) -> Result<(), NotOpened> {
+        self.saved = Some(Saved { name, text });
+        let fails = self.fails_in == 1;
+        self.fails_in = self.fails_in.saturating_sub(1);
+        if fails {
+            self.refused = Some(self.why);
+            Err(self.why)
+        } else {
+            self.refused = None;
+            Ok(())
         }
     }
 

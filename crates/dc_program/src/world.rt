@@ -1,5 +1,5 @@
-//! What the program works in: files, opened by their names, and a note of who asked for threads.
-ghost use Rattle.std.specs.Prelude.{◌≡◌, ◌∷◌, [], ◌++◌, ◌<◌, length, IfOk, Some};
+//! What the program works in: files, opened or made by their names, and a note of who asked for threads.
+ghost use Rattle.std.specs.Prelude.{◌≡◌, ◌∷◌, [], ◌++◌, ◌<◌, length, IfOk, None, Some};
 ghost use Rattle.dc_program.specs.World.{WorldState, new_source, refusal_of};
 ghost use Rattle.dc_program.specs.declared.limits.TheConstants.{MOST_FILES};
 
@@ -40,6 +40,14 @@ pub trait World<'a> {
         requires { length (state self.old).opened < MOST_FILES }
         ensures world { state self.new ≡ record (state self.old) { opened = (state self.old).opened ++ name.now ∷ []; refused = refusal_of result } }
         ensures file { IfOk result (λ f. Self.File.state f ≡ new_source ((state self.old).holds name.now)) };
+
+    /// Makes the file of this name, over what stands there, with this text.
+    ///
+    /// # Errors
+    /// `Memory` where memory was refused, else `Device`. Of what stands there then no clause says anything.
+    fn save(&mut self, name: &'a str, text: Vec<u8>) -> Result<(), NotOpened>
+        requires { (state self.old).saved ≡ None }
+        ensures { state self.new ≡ record (state self.old) { saved = Some (name.now, text.items); refused = refusal_of result } };
 
     /// Notes what is asked of the program, for who explains how it ended.
     fn note(&mut self, asked: Asked<'a>)

@@ -23,7 +23,7 @@ use Rattle.dc_answer.specs.Exits.{is_answered}
 use Rattle.dc_answer.specs.declared.exit.Exit.{Exit}
 use Rattle.dc_answer.specs.declared.exit.Outcome.{Outcome}
 use Rattle.dc_answer.specs.declared.exit.Outcome.TheVariants.{Done, Refused}
-use Rattle.dc_run.specs.Audit.{claims_text}
+use Rattle.dc_run.specs.Claims.{claims_text}
 use Rattle.dc_run.specs.Check.{answer_verdict}
 use Rattle.dc_run_bench.specs.Marks.{lines_behind}
 use Rattle.dc_run_bench.specs.Texts.{AnswersTexts}

@@ -23,7 +23,7 @@ fn each_reply_was_seen_when_the_trace_was_last_asked(rt: HostRuntime) -> Result<
         let mut rows = MemSource::new(tables.as_bytes(), 4096, 0);
         let mut source = MemSource::new(trace.as_bytes(), piece, 0);
         let mut sink = MemSink::new(rt.alloc(), 1000, 0)?;
-        let status = run_replay(rt.alloc(), true, &mut rows, &mut source, &mut sink).code();
+        let status = run_replay(rt.alloc(), false, true, &mut rows, &mut source, &mut sink).code();
         assert!(rt;
             sink.answered() == REPLIES.as_bytes(),
             "in pieces of {piece}"

@@ -4,4 +4,8 @@ use Rattle.dc_command.proofs.Reading.{flag_given, text_given}
 use Rattle.dc_command.proofs.asked.replay_in.Goals as goal
 
 pub returns : goal.returns
-returns c = let found = found_of c.args.matches.now in (refl, text_given found (codes "TABLES") _ c.in_ok-tables.ensures, flag_given found (codes "all") _ c.get_flag-all.ensures.none c.get_flag-all.ensures.value c.get_flag-all.ensures.other)
+returns c =
+    let found = found_of c.args.matches.now in
+    let all = c.get_flag-all.ensures in
+    let long = c.get_flag-long.ensures in
+    (refl, text_given found (codes "TABLES") _ c.in_ok-tables.ensures, flag_given found (codes "all") _ all.none all.value all.other, flag_given found (codes "long") _ long.none long.value long.other)
