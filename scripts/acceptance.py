@@ -4,8 +4,11 @@ A certificate is what its text reads as: {"inputs": [{"bus", "window", "backlog"
 Each bound is asked of one window after another, and what is least is searched for.
 """
 import json
+from bisect import bisect_left
 from fractions import Fraction
 from functools import cached_property, lru_cache
+from itertools import accumulate
+from operator import sub
 from typing import NamedTuple
 
 from definitions import up
@@ -35,8 +38,8 @@ class Bound:
         return max(self.cap(w) - self.floor(w - 2), 0)
 
     def needed(self, w):
-        """The least delay with which all that come in w ticks are taken, one over the longest where none does."""
-        return next((delay for delay in range(LONGEST + 1) if self.cap(w) <= self.floor(w - 1 + delay)), LONGEST + 1)
+        """The least delay with which all that come in w ticks are taken, one over the longest where none does; floor never falls."""
+        return bisect_left(range(LONGEST + 1), self.cap(w), key=lambda delay: self.floor(w - 1 + delay))
 
     @cached_property
     def least_window(self):
@@ -53,10 +56,26 @@ class Bound:
         return {"window": self.least_window, "backlog": max(map(self.waiting, windows)), "delay": max(map(self.needed, windows))}
 
 
-def sums(weights, k):
-    """What k consecutive numbers weigh, from each number of the first round on, where the weights come again and again."""
-    return [k // len(weights) * sum(weights) + sum(weights[(first + it) % len(weights)] for it in range(k % len(weights)))
-            for first in range(len(weights))]
+class Rounds:
+    """Numbers that come again and again, none negative: what so many consecutive ones weigh at most and at least."""
+
+    def __init__(self, weights):
+        self.length, self.before = len(weights), [0, *accumulate([*weights, *weights])]
+        self.firsts = [first for first, weight in enumerate(weights) if weight] or [0]
+
+    def parted(self, k):
+        """What the whole rounds in k consecutive numbers weigh, and how many numbers are left."""
+        rounds, rest = divmod(k, self.length)
+        return rounds * self.before[-1] // 2, rest
+
+    def most(self, k):
+        """Most weigh those that begin with a number that weighs something."""
+        whole, rest = self.parted(k)
+        return whole + max(self.before[first + rest] - self.before[first] for first in self.firsts)
+
+    def least(self, k):
+        whole, rest = self.parted(k)
+        return whole + min(map(sub, self.before[rest:rest + self.length], self.before))
 
 
 def input_bound(tables, bus):
@@ -64,21 +83,22 @@ def input_bound(tables, bus):
     row, streams = tables.buses[bus], [number for number, it in enumerate(tables.streams) if it.bus == bus]
     router = next(it for it in tables.routers if bus in it.visits)
     visits = [int(it == bus) for it in router.visits]
+    visited = Rounds(visits)
     comes, wire = sum(Fraction(1, tables.streams[it].minimum) for it in streams), Fraction(tables.tick, row.spacing)
 
     def cap(d):
         of_streams = sum(tables.cap(it, d) for it in streams)
         return of_streams if row.police else min(of_streams, tables.wire(bus, d))
 
-    return Bound("input", row, cap, lambda d: min(sums(visits, router.steps * (d // router.within))),
+    return Bound("input", row, cap, lambda d: visited.least(router.steps * (d // router.within)),
                  comes if row.police else min(comes, wire), Fraction(router.steps * sum(visits), router.within * len(visits)))
 
 
 def output_bound(row):
     """The bound of an output: the most entries of its frame that are due, and its sends."""
     offsets = {offset for offset, _ in row.entries}
-    due = [int(it in offsets) for it in range(row.frame)]
-    return Bound("output", row, lambda d: max(sums(due, d)), lambda d: row.steps * (d // row.within),
+    due = Rounds([int(it in offsets) for it in range(row.frame)])
+    return Bound("output", row, lambda d: due.most(d), lambda d: row.steps * (d // row.within),
                  Fraction(len(offsets), row.frame), Fraction(row.steps, row.within))
 
 

@@ -1,7 +1,7 @@
 //! The commands that there are, with their arguments and what is said of them.
 ghost use Rattle.std.specs.Prelude.{◌≡◌, false, codes, IfOk};
-ghost use Rattle.clap.specs.Words.{new_app, rule_of};
-ghost use Rattle.dc_command.specs.Program.{IsDecode, IsProgram, IsRead, audit_app, bare_app, bench_app, certificate_app, certificate_rule, check_app, design_app, drift_rule, explain_app, explain_rule, file_rule, flag_rule, from_rule, headroom_rule, margins_app, optional_app, replay_app, report_app, sheets_app, tables_app, tick_rule, ticks_rule, trace_app};
+ghost use Rattle.clap.specs.Words.{App, Rule, new_app, new_rule, rule_of, with_rule, with_subcommand};
+ghost use Rattle.dc_command.specs.Program.{IsDecode, IsProgram, IsRead, audit_app, bare_app, bench_app, certificate_app, certificate_rule, check_app, design_app, drift_rule, explain_app, explain_rule, file_rule, flag_rule, from_rule, headroom_rule, margins_app, optional_app, replay_app, report_app, sheets_app, tables_app, tick_rule, ticks_rule, trace_app, workers_rule};
 
 use crate::after::{
     AFTER_AUDIT, AFTER_BENCH, AFTER_CHECK, AFTER_DECODE, AFTER_DESIGN, AFTER_EXPLAIN, AFTER_FIND,
@@ -20,6 +20,14 @@ fn file<'a>(alloc: Global, name: &'a str, help: &'a str) -> Arg<'a>
     ensures local { result.global ≡ false }
 {
     Arg::new(alloc, name).help(help).required(true)
+}
+
+/// What need not be said.
+fn optional<'a>(alloc: Global, name: &'a str, help: &'a str) -> Arg<'a>
+    ensures rule { rule_of result ≡ new_rule name.entry.now }
+    ensures local { result.global ≡ false }
+{
+    Arg::new(alloc, name).help(help)
 }
 
 /// The option `--explain`, told behind the others.
@@ -54,6 +62,28 @@ fn named<'a>(alloc: Global, name: &'a str, about: &'a str, after: &'a str) -> Co
     Command::new(alloc, name).about(about).after_help(after)
 }
 
+/// A command with one argument more.
+fn with_argument<'a>(
+    command: Result<Command<'a>, Error>,
+    argument: Arg<'a>,
+) -> Result<Command<'a>, Error>
+    ensures { (app : App) (rule : Rule) → IfOk command.entry (IsRead app) → rule_of argument.entry ≡ rule → argument.entry.global ≡ false
+        → IfOk result (IsRead (with_rule app rule)) }
+{
+    Ok(command?.arg(argument)?)
+}
+
+/// A program with one command more.
+fn with_command<'a>(
+    program: Result<Command<'a>, Error>,
+    command: Result<Command<'a>, Error>,
+) -> Result<Command<'a>, Error>
+    ensures { (app own : App) → IfOk program.entry (IsRead app) → IfOk command.entry (IsRead own)
+        → IfOk result (IsRead (with_subcommand app own.top)) }
+{
+    Ok(program?.subcommand(command?)?)
+}
+
 /// A subcommand that reads tables.
 fn on_tables<'a>(
     alloc: Global,
@@ -63,11 +93,8 @@ fn on_tables<'a>(
 ) -> Result<Command<'a>, Error>
     ensures { IfOk result (IsRead (tables_app name.entry.now)) }
 {
-    Ok(
-        named(alloc, name, about, after)
-            .arg(explained(alloc))?
-            .arg(file(alloc, "TABLES", "The tables, in TOML"))?,
-    )
+    let explaining = with_argument(Ok(named(alloc, name, about, after)), explained(alloc));
+    with_argument(explaining, file(alloc, "TABLES", "The tables, in TOML"))
 }
 
 /// A subcommand that reads tables and a certificate.
@@ -79,7 +106,8 @@ fn on_certificate<'a>(
 ) -> Result<Command<'a>, Error>
     ensures { IfOk result (IsRead (certificate_app name.entry.now)) }
 {
-    Ok(on_tables(alloc, name, about, after)?.arg(file(alloc, "CERT", "The certificate, in JSON"))?)
+    let on_tables = on_tables(alloc, name, about, after);
+    with_argument(on_tables, file(alloc, "CERT", "The certificate, in JSON"))
 }
 
 /// A subcommand that reads tables, and a certificate where one is given.
@@ -91,10 +119,12 @@ fn on_some_certificate<'a>(
 ) -> Result<Command<'a>, Error>
     ensures { IfOk result (IsRead (optional_app name.entry.now)) }
 {
-    let certificate = Arg::new(alloc, "CERT").help(
+    let certificate = optional(
+        alloc,
+        "CERT",
         "The certificate, in JSON; without it the least one is taken",
     );
-    Ok(on_tables(alloc, name, about, after)?.arg(certificate)?)
+    with_argument(on_tables(alloc, name, about, after), certificate)
 }
 
 /// The command `decode`.
@@ -117,22 +147,29 @@ fn decode<'a>(alloc: Global) -> Result<Command<'a>, Error>
     )
 }
 
+/// The option `--workers`.
+fn workers<'a>(alloc: Global) -> Arg<'a>
+    ensures rule { rule_of result ≡ workers_rule }
+    ensures local { result.global ≡ false }
+{
+    Arg::new(alloc, "workers")
+        .long("workers")
+        .value_name("N")
+        .help("Checks by so many threads, 1 to 64")
+        .value_parser(value_parser!(u8).range(1..=i64::from(MOST_WORKERS)))
+}
+
 /// The command `check`.
 fn check<'a>(alloc: Global) -> Result<Command<'a>, Error>
     ensures { IfOk result (IsRead check_app) }
 {
-    let workers = Arg::new(alloc, "workers")
-        .long("workers")
-        .value_name("N")
-        .help("Checks by so many threads, 1 to 64")
-        .value_parser(value_parser!(u8).range(1..=i64::from(MOST_WORKERS)));
     let check = on_certificate(
         alloc,
         "check",
         "Judges a certificate for tables, and prints the verdict",
         AFTER_CHECK,
-    )?;
-    Ok(check.arg(workers)?)
+    );
+    with_argument(check, workers(alloc))
 }
 
 /// The command `find`.
@@ -168,8 +205,8 @@ fn report<'a>(alloc: Global) -> Result<Command<'a>, Error>
         "report",
         "Writes a page of HTML: why a certificate is accepted or refused, and how near it came",
         AFTER_REPORT,
-    )?;
-    Ok(report.arg(drift(alloc))?)
+    );
+    with_argument(report, drift(alloc))
 }
 
 /// The command `margins`.
@@ -186,8 +223,8 @@ fn margins<'a>(alloc: Global) -> Result<Command<'a>, Error>
         "margins",
         "Judges a certificate for tables, and prints how far each of its conditions is from failing",
         AFTER_MARGINS,
-    )?;
-    Ok(margins.arg(us)?.arg(drift(alloc))?)
+    );
+    with_argument(with_argument(margins, us), drift(alloc))
 }
 
 /// The command `survey`.
@@ -225,8 +262,8 @@ fn trace<'a>(alloc: Global) -> Result<Command<'a>, Error>
         "trace",
         "Writes the capture on standard input as a trace, among the steps of the steady run",
         AFTER_TRACE,
-    )?;
-    Ok(trace.arg(from(alloc))?)
+    );
+    with_argument(trace, from(alloc))
 }
 
 /// The command `replay`.
@@ -244,8 +281,8 @@ fn replay<'a>(alloc: Global) -> Result<Command<'a>, Error>
         "replay",
         "Replays the trace on standard input through the concentrator of the tables",
         AFTER_REPLAY,
-    )?;
-    Ok(replay.arg(all)?.arg(long)?)
+    );
+    with_argument(with_argument(replay, all), long)
 }
 
 /// The command `audit`.
@@ -262,8 +299,8 @@ fn audit<'a>(alloc: Global) -> Result<Command<'a>, Error>
         "audit",
         "Audits the trace on standard input: its budgets, its sources, and the claims of a certificate",
         AFTER_AUDIT,
-    )?;
-    Ok(audit.arg(long)?)
+    );
+    with_argument(audit, long)
 }
 
 /// The command `observe`.
@@ -304,8 +341,8 @@ fn bench<'a>(alloc: Global) -> Result<Command<'a>, Error>
         "bench",
         "Runs the concentrator of the tables with a thread for each actor, and audits the run",
         AFTER_BENCH,
-    )?;
-    Ok(bench.arg(ticks(alloc))?.arg(marks)?)
+    );
+    with_argument(with_argument(bench, ticks(alloc)), marks)
 }
 
 /// The option `--tick`.
@@ -351,16 +388,20 @@ fn certificate<'a>(alloc: Global) -> Arg<'a>
 fn on_sheets<'a>(alloc: Global) -> Result<Command<'a>, Error>
     ensures { IfOk result (IsRead sheets_app) }
 {
-    Ok(
-        named(
-            alloc,
-            "design",
-            "Designs tables for the two sheets of an interface document, and certifies them",
-            AFTER_DESIGN,
-        )
-        .arg(explained(alloc))?
-        .arg(file(alloc, "INPUTS", "The sheet of the inputs, in CSV"))?
-        .arg(file(alloc, "OUTPUTS", "The sheet of the outputs, in CSV"))?,
+    let design = named(
+        alloc,
+        "design",
+        "Designs tables for the two sheets of an interface document, and certifies them",
+        AFTER_DESIGN,
+    );
+    let explaining = with_argument(Ok(design), explained(alloc));
+    let one = with_argument(
+        explaining,
+        file(alloc, "INPUTS", "The sheet of the inputs, in CSV"),
+    );
+    with_argument(
+        one,
+        file(alloc, "OUTPUTS", "The sheet of the outputs, in CSV"),
     )
 }
 
@@ -373,32 +414,29 @@ fn design<'a>(alloc: Global) -> Result<Command<'a>, Error>
         "police",
         "Lets every bus refuse early words, so that nothing is asked of the sources",
     );
-    let design = on_sheets(alloc)?;
-    Ok(
-        design
-            .arg(tick(alloc))?
-            .arg(headroom(alloc))?
-            .arg(police)?
-            .arg(certificate(alloc))?,
-    )
+    let timed = with_argument(on_sheets(alloc), tick(alloc));
+    let roomy = with_argument(timed, headroom(alloc));
+    with_argument(with_argument(roomy, police), certificate(alloc))
 }
 
 /// The command `explain`.
 fn explain<'a>(alloc: Global) -> Result<Command<'a>, Error>
     ensures { IfOk result (IsRead explain_app) }
 {
-    let code = Arg::new(alloc, "CODE").help(
+    let code = optional(
+        alloc,
+        "CODE",
         "A code or a word of refusal as it is printed, in upper or lower case: C06, t16, owed",
     );
-    Ok(
-        named(
-            alloc,
-            "explain",
-            "Tells what a printed code means, with an example and what to do: dc429 explain C06",
-            AFTER_EXPLAIN,
-        )
-        .arg(code)?
-        .arg(flag(alloc, "all", "Tells every code"))?,
+    let explain = named(
+        alloc,
+        "explain",
+        "Tells what a printed code means, with an example and what to do: dc429 explain C06",
+        AFTER_EXPLAIN,
+    );
+    with_argument(
+        with_argument(Ok(explain), code),
+        flag(alloc, "all", "Tells every code"),
     )
 }
 
@@ -412,24 +450,22 @@ fn bare<'a>(alloc: Global) -> Command<'a>
         .subcommand_required(true)
 }
 
-/// The program with its commands.
+/// The program with its commands, in the order in which its help tells them.
 pub fn program<'a>(alloc: Global) -> Result<Command<'a>, Error>
     ensures { IfOk result IsProgram }
 {
-    Ok(
-        bare(alloc)
-            .subcommand(decode(alloc)?)?
-            .subcommand(check(alloc)?)?
-            .subcommand(find(alloc)?)?
-            .subcommand(survey(alloc)?)?
-            .subcommand(trace(alloc)?)?
-            .subcommand(replay(alloc)?)?
-            .subcommand(audit(alloc)?)?
-            .subcommand(observe(alloc)?)?
-            .subcommand(bench(alloc)?)?
-            .subcommand(report(alloc)?)?
-            .subcommand(margins(alloc)?)?
-            .subcommand(design(alloc)?)?
-            .subcommand(explain(alloc)?)?,
-    )
+    let decode = decode(alloc)?;
+    let program = with_command(Ok(bare(alloc)), Ok(decode));
+    let program = with_command(program, check(alloc));
+    let program = with_command(program, find(alloc));
+    let program = with_command(program, survey(alloc));
+    let program = with_command(program, trace(alloc));
+    let program = with_command(program, replay(alloc));
+    let program = with_command(program, audit(alloc));
+    let program = with_command(program, observe(alloc));
+    let program = with_command(program, bench(alloc));
+    let program = with_command(program, report(alloc));
+    let program = with_command(program, margins(alloc));
+    let program = with_command(program, design(alloc));
+    with_command(program, explain(alloc))
 }

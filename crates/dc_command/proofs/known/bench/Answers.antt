@@ -1,7 +1,6 @@
-use Rattle.dc_command.proofs.Simple.{one_rule}
 use Rattle.dc_command.proofs.known.bench.Goals as goal
 
 pub returns : goal.returns
 returns c =
-    let timed = one_rule _ _ _ _ _ c.in_ok-bench.ensures c.ticks.ensures.rule c.ticks.ensures.local c.in_ok-arg.ensures in
-    one_rule _ _ _ _ _ timed c.flag-marks.ensures.rule c.flag-marks.ensures.local c.in_ok-arg-2.ensures
+    let timed = c.with_argument.ensures _ _ c.on_certificate-bench.ensures c.ticks.ensures.rule c.ticks.ensures.local in
+    c.with_argument-2.ensures _ _ timed c.flag-marks.ensures.rule c.flag-marks.ensures.local
