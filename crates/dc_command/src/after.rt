@@ -13,7 +13,8 @@ Exit status:
 /// Behind the options of `check`.
 pub(crate) const AFTER_CHECK: &str = "Example: dc429 check tables.toml certificate.json
 
-A file named - is standard input, which only one of the two can be; one of that name is ./-
+A file named - is standard input, which only one of the two can be; one of that
+name is ./-
 
 Exit status:
   0  accepted
@@ -36,7 +37,8 @@ Exit status:
 pub(crate) const AFTER_REPORT: &str =
     "Example: dc429 report tables.toml certificate.json > report.html
 
-A file named - is standard input, which only one of the two can be; one of that name is ./-
+A file named - is standard input, which only one of the two can be; one of that
+name is ./-
 
 Exit status:
   0  accepted
@@ -47,7 +49,8 @@ Exit status:
 /// Behind the options of `margins`.
 pub(crate) const AFTER_MARGINS: &str = "Example: dc429 margins tables.toml certificate.json
 
-A file named - is standard input, which only one of the two can be; one of that name is ./-
+A file named - is standard input, which only one of the two can be; one of that
+name is ./-
 
 Exit status:
   0  accepted
@@ -70,7 +73,8 @@ Exit status:
 pub(crate) const AFTER_TRACE: &str =
     "Example: dc429 trace tables.toml < bus.capture | dc429 replay tables.toml
 
-The capture comes from standard input, the tables from a file.
+The capture comes from standard input, the tables from a file. Tick 0 begins
+with the first word, where --from says nothing else.
 
 Exit status:
   0  written to the end
@@ -92,7 +96,8 @@ Exit status:
 pub(crate) const AFTER_AUDIT: &str = "Example: dc429 audit tables.toml certificate.json < run.trace
 
 The trace comes from standard input, the tables and the certificate from files.
-Silence is always allowed: of the sources only minimums are tested, so an empty trace keeps all.
+Silence is always allowed: of the sources only minimums are tested, so an empty
+trace keeps all.
 
 Exit status:
   0  budgets, sources and claims hold
@@ -115,7 +120,8 @@ Exit status:
 /// Behind the options of `bench`.
 pub(crate) const AFTER_BENCH: &str = "Example: dc429 bench tables.toml certificate.json --ticks 100
 
-A file named - is standard input, which only one of the two can be; one of that name is ./-
+A file named - is standard input, which only one of the two can be; one of that
+name is ./-
 
 Exit status:
   0  the claims hold
@@ -126,7 +132,11 @@ Exit status:
 /// Behind the options of `design`.
 pub(crate) const AFTER_DESIGN: &str = "Example: dc429 design inputs.csv outputs.csv > tables.toml
 
-A file named - is standard input, which only one of the two sheets can be; one of that name is ./-
+A file named - is standard input, which only one of the two sheets can be; one
+of that name is ./-. Where no --tick is said, the first of eight that does is
+taken; --headroom leaves so much of each queue, router, output wire and age,
+where none is said a quarter, as far as it can; with --police nothing is asked
+of the sources; --certificate writes over what stands there.
 
 Exit status:
   0  designed: the tables are certified, and keep the rows of both sheets

@@ -38,9 +38,7 @@ fn explained<'a>(alloc: Global) -> Arg<'a>
     Arg::new(alloc, "explain")
         .long("explain")
         .value_name("WHEN")
-        .help(
-            "Explains on standard error what was refused: always, never, or auto, where it is a terminal",
-        )
+        .help("Explains refusals on stderr: always, never or auto")
         .display_order(100)
 }
 
@@ -132,7 +130,7 @@ fn decode<'a>(alloc: Global) -> Result<Command<'a>, Error>
     ensures { IfOk result IsDecode }
 {
     let format = Arg::new(alloc, "format")
-        .help("How the data of the words is written")
+        .help("How the words' data is written")
         .required(true)
         .value_parser(["bnr", "bcd", "disc"].as_slice());
     Ok(
@@ -179,7 +177,7 @@ fn find<'a>(alloc: Global) -> Result<Command<'a>, Error>
     on_tables(
         alloc,
         "find",
-        "Finds the least certificate for tables, or what stands in the way of one",
+        "Finds the least certificate for tables, or what is in its way",
         AFTER_FIND,
     )
 }
@@ -192,7 +190,7 @@ fn drift<'a>(alloc: Global) -> Arg<'a>
     Arg::new(alloc, "drift")
         .long("drift")
         .value_name("PPM")
-        .help("Tells what clocks ask and keep that drift by up to so many millionths, 0 to 1000")
+        .help("Tells of clocks that drift by 0 to 1000 millionths")
         .value_parser(value_parser!(u16).range(0..=i64::from(MOST_DRIFT)))
 }
 
@@ -203,7 +201,7 @@ fn report<'a>(alloc: Global) -> Result<Command<'a>, Error>
     let report = on_some_certificate(
         alloc,
         "report",
-        "Writes a page of HTML: why a certificate is accepted or refused, and how near it came",
+        "Writes a page of HTML: why a certificate is accepted or refused",
         AFTER_REPORT,
     );
     with_argument(report, drift(alloc))
@@ -216,12 +214,12 @@ fn margins<'a>(alloc: Global) -> Result<Command<'a>, Error>
     let us = flag(
         alloc,
         "us",
-        "Tells each margin in microseconds too, where it counts ticks",
+        "Tells margins that count ticks in microseconds too",
     );
     let margins = on_some_certificate(
         alloc,
         "margins",
-        "Judges a certificate for tables, and prints how far each of its conditions is from failing",
+        "Judges a certificate, and how far each condition is from failing",
         AFTER_MARGINS,
     );
     with_argument(with_argument(margins, us), drift(alloc))
@@ -234,7 +232,7 @@ fn survey<'a>(alloc: Global) -> Result<Command<'a>, Error>
     on_tables(
         alloc,
         "survey",
-        "Surveys the capture on standard input: what each bus and each stream of the tables kept",
+        "Surveys the capture on standard input: what buses and streams kept",
         AFTER_SURVEY,
     )
 }
@@ -247,9 +245,7 @@ fn from<'a>(alloc: Global) -> Arg<'a>
     Arg::new(alloc, "from")
         .long("from")
         .value_name("US")
-        .help(
-            "Begins tick 0 at so many microseconds, 0 to 9007199254740992, where none is said with the first word",
-        )
+        .help("Begins tick 0 at this microsecond, 0 to 9007199254740992")
         .value_parser(ValueParser::unsigned(0, LAST_BEGIN))
 }
 
@@ -260,7 +256,7 @@ fn trace<'a>(alloc: Global) -> Result<Command<'a>, Error>
     let trace = on_tables(
         alloc,
         "trace",
-        "Writes the capture on standard input as a trace, among the steps of the steady run",
+        "Writes the capture on standard input as a trace of the steady run",
         AFTER_TRACE,
     );
     with_argument(trace, from(alloc))
@@ -273,13 +269,13 @@ fn replay<'a>(alloc: Global) -> Result<Command<'a>, Error>
     let all = flag(
         alloc,
         "all",
-        "Prints every reply, and not only words that are sent or lost",
+        "Prints every reply, not only words that are sent or lost",
     );
     let long = flag(alloc, "long", "Takes up to 1099511627776 bytes of trace");
     let replay = on_tables(
         alloc,
         "replay",
-        "Replays the trace on standard input through the concentrator of the tables",
+        "Replays the trace on standard input through the concentrator",
         AFTER_REPLAY,
     );
     with_argument(with_argument(replay, all), long)
@@ -292,12 +288,12 @@ fn audit<'a>(alloc: Global) -> Result<Command<'a>, Error>
     let long = flag(
         alloc,
         "long",
-        "Takes any number of events, and up to 1099511627776 bytes of trace",
+        "Takes any number of events, up to 1099511627776 bytes",
     );
     let audit = on_certificate(
         alloc,
         "audit",
-        "Audits the trace on standard input: its budgets, its sources, and the claims of a certificate",
+        "Audits the trace on standard input: budgets, sources and claims",
         AFTER_AUDIT,
     );
     with_argument(audit, long)
@@ -310,7 +306,7 @@ fn observe<'a>(alloc: Global) -> Result<Command<'a>, Error>
     on_certificate(
         alloc,
         "observe",
-        "Tells how near the run of the trace on standard input came to the bounds of a certificate",
+        "Tells how near the trace on standard input came to a certificate",
         AFTER_OBSERVE,
     )
 }
@@ -323,7 +319,7 @@ fn ticks<'a>(alloc: Global) -> Arg<'a>
     Arg::new(alloc, "ticks")
         .long("ticks")
         .value_name("N")
-        .help("Runs for so many ticks, 1 to 1000, where none is said 200")
+        .help("Runs for so many ticks, 1 to 1000; else for 200")
         .value_parser(value_parser!(u16).range(1..=i64::from(MOST_TICKS)))
 }
 
@@ -334,12 +330,12 @@ fn bench<'a>(alloc: Global) -> Result<Command<'a>, Error>
     let marks = flag(
         alloc,
         "marks",
-        "Prints for each bus the greatest backlog that was noted, and the certificate's",
+        "Prints each bus's greatest backlog and the certificate's",
     );
     let bench = on_certificate(
         alloc,
         "bench",
-        "Runs the concentrator of the tables with a thread for each actor, and audits the run",
+        "Runs the concentrator by a thread for each actor, and audits it",
         AFTER_BENCH,
     );
     with_argument(with_argument(bench, ticks(alloc)), marks)
@@ -353,9 +349,7 @@ fn tick<'a>(alloc: Global) -> Arg<'a>
     Arg::new(alloc, "tick")
         .long("tick")
         .value_name("US")
-        .help(
-            "Takes ticks of so many microseconds, 100 to 10000, where none is said the first of eight that does",
-        )
+        .help("Takes ticks of so many microseconds, 100 to 10000")
         .value_parser(value_parser!(u16).range(i64::from(SHORTEST_TICK)..=i64::from(LONGEST_TICK)))
 }
 
@@ -367,9 +361,7 @@ fn headroom<'a>(alloc: Global) -> Arg<'a>
     Arg::new(alloc, "headroom")
         .long("headroom")
         .value_name("PERCENT")
-        .help(
-            "Leaves so much of each queue, router, output wire and age, 0 to 90, where none is said a quarter where it can",
-        )
+        .help("Leaves so many percent free everywhere, 0 to 90")
         .value_parser(value_parser!(u8).range(0..=i64::from(MOST_HEADROOM)))
 }
 
@@ -381,7 +373,7 @@ fn certificate<'a>(alloc: Global) -> Arg<'a>
     Arg::new(alloc, "certificate")
         .long("certificate")
         .value_name("FILE")
-        .help("Writes the certificate of the tables into this file, over what stands there")
+        .help("Writes the tables' certificate into this file")
 }
 
 /// The command `design` without its options.
@@ -391,7 +383,7 @@ fn on_sheets<'a>(alloc: Global) -> Result<Command<'a>, Error>
     let design = named(
         alloc,
         "design",
-        "Designs tables for the two sheets of an interface document, and certifies them",
+        "Designs certified tables for the two sheets of a document",
         AFTER_DESIGN,
     );
     let explaining = with_argument(Ok(design), explained(alloc));
@@ -409,11 +401,7 @@ fn on_sheets<'a>(alloc: Global) -> Result<Command<'a>, Error>
 fn design<'a>(alloc: Global) -> Result<Command<'a>, Error>
     ensures { IfOk result (IsRead design_app) }
 {
-    let police = flag(
-        alloc,
-        "police",
-        "Lets every bus refuse early words, so that nothing is asked of the sources",
-    );
+    let police = flag(alloc, "police", "Lets every bus refuse early words");
     let timed = with_argument(on_sheets(alloc), tick(alloc));
     let roomy = with_argument(timed, headroom(alloc));
     with_argument(with_argument(roomy, police), certificate(alloc))
@@ -426,12 +414,12 @@ fn explain<'a>(alloc: Global) -> Result<Command<'a>, Error>
     let code = optional(
         alloc,
         "CODE",
-        "A code or a word of refusal as it is printed, in upper or lower case: C06, t16, owed",
+        "A code or word as it is printed, in either case: C06, t16, owed",
     );
     let explain = named(
         alloc,
         "explain",
-        "Tells what a printed code means, with an example and what to do: dc429 explain C06",
+        "Tells what a printed code means, and what to do: explain C06",
         AFTER_EXPLAIN,
     );
     with_argument(
