@@ -143,16 +143,24 @@ fn tell_name(alloc: Global, out: &mut Explanation, line: Line<'_>, tables: &Tabl
     line.show(out, at);
     let text = str::from_utf8(name).unwrap_or("");
     match out.nearest(text, names.as_slice()) {
-        Some(like) => {
-            out.help("there is a {} `", &[Text(what)]);
-            out.put(Text(like));
-            out.say("`", &[])
+        Some((like, other)) => {
+            tell_like(out, what, like);
+            if !other.is_empty() {
+                tell_like(out, what, other);
+            }
         }
         None => {
             out.help("of this kind there are: ", &[]);
             out.put(Value::Names(names.as_slice()))
         }
     }
+}
+
+/// Tells of a name that may be meant.
+fn tell_like(out: &mut Explanation, what: &str, name: &str) {
+    out.help("there is a {} `", &[Text(what)]);
+    out.put(Text(name));
+    out.say("`", &[])
 }
 
 /// Tells why a line, or the text, is too long.

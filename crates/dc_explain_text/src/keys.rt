@@ -538,6 +538,11 @@ static KEYS: [Row; 53] = [
     ),
 ];
 
+/// The keys of all kinds.
+fn rows() -> &'static [Row] {
+    &KEYS
+}
+
 /// Whether tables of version 1 lack the key of this name.
 fn is_late(name: &[u8]) -> bool {
     name == b"police".as_slice() || name == b"jitter_us".as_slice()
@@ -549,7 +554,7 @@ pub fn key_of(kind: Kind, name: &[u8], is_policed: bool) -> Option<Wanted> {
     if !is_policed && is_late(name) {
         return None;
     }
-    for (own, key, sort, least, most, what, meaning) in &KEYS {
+    for (own, key, sort, least, most, what, meaning) in rows() {
         if *own == kind && key.as_bytes() == name {
             return Some(Wanted {
                 sort: *sort,
@@ -566,7 +571,7 @@ pub fn key_of(kind: Kind, name: &[u8], is_policed: bool) -> Option<Wanted> {
 /// The names of the keys of a table, in their order.
 pub(crate) fn keys_of(alloc: Global, kind: Kind, is_policed: bool) -> Names<'static> {
     let mut names = Names::new(alloc);
-    for (own, name, _, _, _, _, _) in &KEYS {
+    for (own, name, _, _, _, _, _) in rows() {
         if *own != kind {
             continue;
         }
@@ -579,7 +584,7 @@ pub(crate) fn keys_of(alloc: Global, kind: Kind, is_policed: bool) -> Names<'sta
 
 /// The kind of table, but this one, that has a key of this name, the first of its language.
 pub(crate) fn other_with(kind: Kind, name: &[u8], is_list: bool) -> Kind {
-    for (own, key, sort, _, _, _, _) in &KEYS {
+    for (own, key, sort, _, _, _, _) in rows() {
         if *own == kind || key.as_bytes() != name {
             continue;
         }

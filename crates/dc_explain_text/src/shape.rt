@@ -79,8 +79,22 @@ fn tell_known(refused: &mut Refused<'_>, key: Key) {
     let names = refused.keys();
     let name = str::from_utf8(refused.layout.bare(key.name)).unwrap_or("");
     refused.say("\nhelp: ", &[]);
-    if let Some(like) = refused.out.nearest(name, names.as_slice()) {
-        refused.say("there is a key `{}`; ", &[Fact::Word(like)]);
+    if let Some((like, other)) = refused.out.nearest(name, names.as_slice()) {
+        let is_one = other.is_empty();
+        let (and, end) = if is_one {
+            ("", "; ")
+        } else {
+            (" and a key `", "`; ")
+        };
+        refused.say(
+            "there is a key `{}`{}{}{}",
+            &[
+                Fact::Word(like),
+                Fact::Word(and),
+                Fact::Word(other),
+                Fact::Word(end),
+            ],
+        );
     }
     tell_keys(refused);
     refused.say(" and no other", &[]);

@@ -27,7 +27,7 @@ static SORTS: [(Sort, &'static str, &'static str, &'static str); 12] = [
     ),
     (
         Sort::Count,
-        "a whole number in digits alone, without quotes (4294967295 at most)",
+        "a whole number, 4294967295 at most, in digits alone and without quotes",
         "which is not a whole number from 0 to 4294967295{}",
         "",
     ),

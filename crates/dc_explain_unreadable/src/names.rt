@@ -145,13 +145,28 @@ fn other_kind(refused: &Refused<'_>, name: Span) -> Option<&'static str> {
     None
 }
 
-/// The name that may be meant by one that no table has: the only one that may stand in its place, or one that is like it.
-fn meant<'a>(refused: &mut Refused<'a>, names: &[&'a str], name: Span) -> Option<&'a str> {
+/// The name that may be meant by one that no table has: the only one that may stand in its place, or one that is like it,
+/// with another that is as much like it.
+fn meant<'a>(
+    refused: &mut Refused<'a>,
+    names: &[&'a str],
+    name: Span,
+) -> Option<(&'a str, &'a str)> {
     if let [only] = names {
-        return Some(*only);
+        return Some((*only, ""));
     }
     let text = str::from_utf8(refused.layout.piece(name)).unwrap_or("");
     refused.out.nearest(text, names)
+}
+
+/// Writes that the table of this name may be meant.
+fn tell_meant(refused: &mut Refused<'_>, kind: Kind, name: &str, which: &'static str) {
+    if let Some(row) = refused.named(kind, name.as_bytes()) {
+        refused.say(
+            "\nhelp: there is {} {}, in line {}: write its name here, if it is meant, or rename it there",
+            &[Fact::Row(row), Fact::Word(which), Fact::Line(row, "name")],
+        );
+    }
 }
 
 /// Writes which name may stand in the place of one that no table has.
@@ -167,28 +182,18 @@ fn tell_names(refused: &mut Refused<'_>, key: &'static str, kind: Kind, name: Sp
     } else {
         "that is not in this list"
     };
-    let like = meant(refused, names.as_slice(), name);
-    let row = refused
-        .named(kind, like.unwrap_or("").as_bytes())
-        .unwrap_or(0);
+    if let Some((like, other)) = meant(refused, names.as_slice(), name) {
+        tell_meant(refused, kind, like, which);
+        return tell_meant(refused, kind, other, which);
+    }
     let is_none = names.as_slice().is_empty();
-    let is_list = like.is_none() && !is_none;
-    refused.say(
-        "\n{}help: there is {} {}, in line {}: write its name here, if it is meant, or rename it there\n{}help: there is no {} {}: take the name out\n{}help: write one of these, each a {} {}: ",
-        &[
-            Fact::If(like.is_some()),
-            Fact::Row(row),
-            Fact::Word(which),
-            Fact::Line(row, "name"),
-            Fact::If(is_none),
-            Fact::Word(what),
-            Fact::Word(which),
-            Fact::If(is_list),
-            Fact::Word(what),
-            Fact::Word(which),
-        ],
-    );
-    if is_list {
+    let sentence = if is_none {
+        "\nhelp: there is no {} {}: take the name out"
+    } else {
+        "\nhelp: write one of these, each a {} {}: "
+    };
+    refused.say(sentence, &[Fact::Word(what), Fact::Word(which)]);
+    if !is_none {
         refused.out.put(Value::Names(names.as_slice()));
     }
 }

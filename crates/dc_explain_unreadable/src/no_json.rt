@@ -123,7 +123,7 @@ fn tell_end(refused: &mut Refused<'_>) {
 /// What may be wrong at a place of a text where the reader said this.
 fn cause_at(alloc: Global, text: &[u8], at: usize, message: &str) -> &'static str {
     if message.contains("out of range") {
-        return "a number before this is too great: write whole numbers in digits alone (4294967295 at most)";
+        return "a number before this is too great: 4294967295 is the most";
     }
     if is_whole(alloc, text.get(..at).unwrap_or(b"")) {
         return "the certificate ends before this: take out what follows";

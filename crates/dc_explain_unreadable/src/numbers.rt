@@ -90,16 +90,16 @@ fn tell_ways(refused: &mut Refused<'_>, least: u64, greatest: u64, tick: u64) {
         "too near"
     };
     refused.say(
-        "\n{}help: shorten the tick (line {}): `tick_us = {}` is the longest that serves this label\n{}note: no tick serves this label, since its `min_us` and `max_us` are {}\n{}help: with ticks of {} write a `min_us` of {} or less: words may then come and be sent sooner after one another\n{}help: with ticks of {} write a `max_us` of {} or more; this weakens what is promised: words may be further apart",
+        "\n{}help: with ticks of {} write a `min_us` of {} or less: words may then come and be sent sooner after one another\n{}help: shorten the tick (line {}): `tick_us = {}` is the longest that serves this label; see then to all that the tables count in ticks\n{}note: no tick serves this label, since its `min_us` and `max_us` are {}\n{}help: with ticks of {} write a `max_us` of {} or more; this weakens what is promised: words may be further apart",
         &[
+            Fact::If(minimum >= 1),
+            Fact::Number(tick),
+            Fact::Number(minimum),
             Fact::If(longest != 0),
             Fact::Line(0, "tick_us"),
             Fact::Number(longest),
             Fact::If(longest == 0),
             Fact::Word(why),
-            Fact::If(minimum >= 1),
-            Fact::Number(tick),
-            Fact::Number(minimum),
             Fact::If(maximum <= LONGEST_US),
             Fact::Number(tick),
             Fact::Number(maximum),

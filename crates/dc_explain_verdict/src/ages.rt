@@ -64,11 +64,11 @@ fn tell_age_ways(told: &mut Teller<'_>, own: &Aging) {
             &[Range(least, own.limit)],
         );
     }
-    tell_limit_ways(told, own);
     told.out.note(
-        "the `age` of the certificate is then at least `stale` and the delay together, and at most the `age` of the tables",
+        "the `age` of the certificate is at least `stale` and the delay together, and at most the `age` of the tables: mend one of these as below, and then write it so",
         &[],
     );
+    tell_limit_ways(told, own);
 }
 
 /// C10: a word may be copied that is older than the age.
@@ -142,15 +142,21 @@ fn tell_stale_ways(told: &mut Teller<'_>, own: &Aging) {
     let left = own.stale.saturating_sub(own.rarest.delay);
     let most = left.saturating_mul(u64::from(told.tables.tick_us()));
     let wanted = silence(&own.rarest);
+    let age = wanted.saturating_add(own.slowest.delay);
+    let is_short = wanted <= u64::from(LONGEST_STALE);
     told.say(
-        "\n{}asked: write a `max_us` of at most {} microseconds in the parameter of `{}`\n{}weaker: write a `stale` of at least {}: words may then be {} old, and the tables allow {} (`age`)",
+        "\n{}help: write a `stale` of at least {}: words may then be {} old, and the tables allow {} (`age`)\n{}asked: write a `max_us` of at most {} microseconds in the parameter of `{}`\n{}weaker: write a `stale` of at least {}: words may then be {} old, and the tables allow {} (`age`)",
         &[
+            If(is_short && age <= own.limit),
+            Ticks(wanted),
+            Number(age),
+            Number(own.limit),
             If(left >= own.rarest.minimum),
             Number(most),
             Name(Section::Stream, own.rarest.number),
-            If(wanted <= u64::from(LONGEST_STALE)),
+            If(is_short && age > own.limit),
             Ticks(wanted),
-            Number(wanted.saturating_add(own.slowest.delay)),
+            Number(age),
             Number(own.limit),
         ],
     );

@@ -40,7 +40,7 @@ fn tell_interval(told: &mut Teller<'_>, words: u64, is_soon: bool) {
     let least = words.saturating_add(1).saturating_mul(tick_us);
     let most = words.saturating_sub(1).saturating_mul(tick_us);
     told.say(
-        "\n{}weaker: write a `min_us` of at most {} microseconds in its parameter: its words may then come so soon\n{}weaker: write a `max_us` of at least {} microseconds in its parameter: its words may then come so late",
+        "\n{}weaker: write a `min_us` of at most {} microseconds in its parameter, in one of its own (another `equipment`) where a stream or another label has the same: its words may then come so soon\n{}weaker: write a `max_us` of at least {} microseconds in its parameter, in one of its own (another `equipment`) where a stream or another label has the same: its words may then come so late",
         &[
             If(is_soon && most > 0 && most <= longest),
             Number(most),

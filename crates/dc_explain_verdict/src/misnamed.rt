@@ -42,6 +42,37 @@ fn number_of(told: &Teller<'_>, section: Section, name: &str) -> Option<usize> {
     None
 }
 
+/// At how many places the names of a list differ.
+fn differing(told: &Teller<'_>, list: CertificateList) -> u64 {
+    let (_, _, _, section) = words_of(list);
+    let mut count = 0u64;
+    for place in 0..MOST {
+        let wanted = name_of(told.tables, section, place);
+        if wanted != written_at(told.certificate, list, place) {
+            count = count.saturating_add(1);
+        }
+    }
+    count
+}
+
+/// Tells how many names differ in each list, where it is more than one.
+fn tell_how_many(told: &mut Teller<'_>) {
+    let inputs = differing(told, CertificateList::Inputs);
+    let outputs = differing(told, CertificateList::Outputs);
+    let labels = differing(told, CertificateList::Labels);
+    let all = inputs.saturating_add(outputs).saturating_add(labels);
+    told.say(
+        "\n{}note: this is the first of {} names that differ: {} in `inputs`, {} in `outputs`, {} in `labels`",
+        &[
+            If(all > 1),
+            Number(all),
+            Number(inputs),
+            Number(outputs),
+            Number(labels),
+        ],
+    );
+}
+
 /// C01: the names of a list are not the tables', once each and in their order.
 pub(crate) fn tell_names(told: &mut Teller<'_>, list: CertificateList) {
     let (kind, key, many, section) = words_of(list);
@@ -70,7 +101,7 @@ pub(crate) fn tell_names(told: &mut Teller<'_>, list: CertificateList) {
     );
     told.say(how, &facts);
     told.say(
-        "{}\n{}note: {} `{}` is number {} of the tables\n{}note: the tables have no {} `{}`\nhelp: list the {} once each, in the order of the tables, or let `dc429 find` write the certificate",
+        "{}\n{}note: {} `{}` is number {} of the tables\n{}note: the tables have no {} `{}`",
         &[
             Place(true, section, place, key),
             If(!is_missing && number.is_some()),
@@ -80,7 +111,11 @@ pub(crate) fn tell_names(told: &mut Teller<'_>, list: CertificateList) {
             If(!is_missing && number.is_none()),
             one,
             written,
-            Word(many),
         ],
+    );
+    tell_how_many(told);
+    told.say(
+        "\nhelp: list the {} once each, in the order of the tables, or let `dc429 find` write the certificate",
+        &[Word(many)],
     );
 }

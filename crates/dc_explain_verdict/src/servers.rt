@@ -204,6 +204,26 @@ pub(crate) fn has_jitter(tables: &Tables, queue: Queue) -> bool {
     false
 }
 
+/// The first other router, or other output, that has a shorter `within` than what serves a queue, and its `within`.
+pub(crate) fn sibling_of(tables: &Tables, server: &Server) -> Option<(usize, u32)> {
+    let count = if server.is_bus {
+        tables.router_count()
+    } else {
+        tables.output_count()
+    };
+    for number in 0..count {
+        let within = if server.is_bus {
+            tables.router(number).within
+        } else {
+            tables.output(number).within
+        };
+        if number != server.by && within < server.within {
+            return Some((number, within));
+        }
+    }
+    None
+}
+
 /// Begins the explanation of a queue by what may have come to it by some tick, and what has surely been served by
 /// another.
 pub(crate) fn begin_counts(

@@ -2,7 +2,7 @@
 use crate::bounds::{counts_of, least_delay_of};
 use crate::fact::Fact;
 use crate::fact::Fact::{If, Number, Range, Several, Ticks, Word};
-use crate::servers::{Server, place, server_of, shares_of};
+use crate::servers::{Server, place, server_of, shares_of, sibling_of};
 use crate::steps::{ANY_WINDOW, Wish, least_steps, most_within};
 use crate::teller::Teller;
 use dc_document::Section;
@@ -51,7 +51,7 @@ pub(crate) fn tell_no_steps(told: &mut Teller<'_>, server: &Server, wish: &Wish)
         return;
     }
     told.say(
-        "\n{}note: no `steps` of router `{}` up to {} are enough\n{}note: no `steps` of output `{}` that its wire carries, up to {} in {}, are enough",
+        "\n{}note: `steps` of router `{}` alone do not mend it: even {} are too few\n{}note: `steps` of output `{}` alone do not mend it: even {} in {}, the most that its wire carries, are too few",
         &[
             If(server.is_bus),
             server.server,
@@ -103,13 +103,15 @@ pub(crate) fn tell_shorter_delay(told: &mut Teller<'_>, queue: Queue, most: Opti
     );
 }
 
-/// Tells that no steps would give a queue a delay of at most so many ticks, where nothing that helps was told.
+/// Tells that no steps would give a queue a delay of at most so many ticks, where nothing that helps was told; nothing where
+/// it would have to be none, since whatever waits does so for a tick.
 pub(crate) fn tell_no_shorter_delay(told: &mut Teller<'_>, queue: Queue, most: Option<u64>) {
     let Some(server) = server_of(told.tables, told.certificate, queue) else {
         return;
     };
-    if let Some(most) = most {
-        tell_no_steps(told, &server, &shorter(most));
+    let wanted = most.unwrap_or(0);
+    if wanted != 0 {
+        tell_no_steps(told, &server, &shorter(wanted));
     }
 }
 
@@ -144,21 +146,41 @@ fn tell_pace(told: &mut Teller<'_>, server: &Server) {
     );
 }
 
+/// Tells which `within` would let a window close, and who else has a shorter one.
+fn tell_within(told: &mut Teller<'_>, server: &Server) {
+    let Some(longest) = most_within(told.tables, server, &ANY_WINDOW) else {
+        return;
+    };
+    let (number, within) = sibling_of(told.tables, server).unwrap_or((server.by, server.within));
+    let section = if server.is_bus {
+        Section::Router
+    } else {
+        Section::Output
+    };
+    told.say(
+        "\nhelp: give {} `{}` a `within` of {} ticks in place of {} for a window to close: the shorter it is, the shorter is every delay, and the more of the other rules hold too\n{}note: {} `{}` has a `within` of {}",
+        &[
+            Word(server.words.server),
+            server.server,
+            Range(u64::from(server.shortest), u64::from(longest)),
+            Number(u64::from(server.within)),
+            If(number != server.by),
+            Word(server.words.server),
+            Fact::Name(section, number),
+            Number(u64::from(within)),
+        ],
+    );
+}
+
 /// Tells what helps a queue of which no window closes.
 pub(crate) fn tell_never_ways(told: &mut Teller<'_>, server: &Server) {
     tell_pace(told, server);
+    tell_within(told, server);
     tell_steps(told, server, &ANY_WINDOW);
     tell_no_steps(told, server, &ANY_WINDOW);
-    let longest = most_within(told.tables, server, &ANY_WINDOW);
-    let within = Range(u64::from(server.shortest), u64::from(longest.unwrap_or(0)));
     told.say(
-        "\n{}help: give {} `{}` a `within` of {} ticks in place of {} for a window to close, which shortens every delay too\n{}help: let router `{}` visit bus `{}` more often\n{}weaker: bring fewer streams on bus `{}`\n{}weaker: send its labels less often, by a longer `frame` or fewer `offsets`",
+        "\n{}help: let router `{}` visit bus `{}` more often\n{}weaker: bring fewer streams on bus `{}`\n{}weaker: send its labels less often, by a longer `frame` or fewer `offsets`",
         &[
-            If(longest.is_some()),
-            Word(server.words.server),
-            server.server,
-            within,
-            Number(u64::from(server.within)),
             If(server.is_bus),
             server.server,
             server.name,

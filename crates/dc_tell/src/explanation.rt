@@ -360,10 +360,10 @@ impl Explanation {
         self.say("  --> {}", &[Value::Text(name)]);
     }
 
-    /// The one of these names that is most like a text, where one is like it.
-    pub fn nearest<'a>(&mut self, text: &str, names: &[&'a str]) -> Option<&'a str> {
+    /// The one of these names that is most like a text, where one is like it, and another that is as much like it.
+    pub fn nearest<'a>(&mut self, text: &str, names: &[&'a str]) -> Option<(&'a str, &'a str)> {
         match nearest(self.alloc, text, names) {
-            Ok(name) => name,
+            Ok(names) => names,
             Err(_) => {
                 self.is_lost = true;
                 None

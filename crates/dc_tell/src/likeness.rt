@@ -45,34 +45,43 @@ fn likeness_of(alloc: Global, lower: &str, name: &str) -> Result<f64, AllocError
     jaro_winkler(alloc, lower, own.as_str())
 }
 
-/// The one of these names that is most like a text in lower case, where one is like it.
+/// The one of these names that is most like a text in lower case, where one is like it, and another that is as much like
+/// it, empty where none is.
 fn likest<'a>(
     alloc: Global,
     lower: &str,
     names: &[&'a str],
-) -> Result<Option<&'a str>, AllocError> {
-    let mut best = None;
+) -> Result<Option<(&'a str, &'a str)>, AllocError> {
+    let mut best = "";
+    let mut other = "";
     let mut most = LIKE;
     for name in names {
         if name.eq_ignore_ascii_case(lower) {
-            return Ok(Some(*name));
+            return Ok(Some((*name, "")));
         }
         let likeness = likeness_of(alloc, lower, name)?;
         if likeness > most {
             most = likeness;
-            best = Some(*name);
+            best = *name;
+            other = "";
+        } else if likeness >= most && !best.is_empty() {
+            other = *name;
         }
     }
-    Ok(best)
+    Ok(if best.is_empty() {
+        None
+    } else {
+        Some((best, other))
+    })
 }
 
-/// The one of these names that is most like a text, upper and lower case being alike, where one is like it. The same
-/// name but for its case is before all others.
+/// The one of these names that is most like a text, upper and lower case being alike, where one is like it, and another
+/// that is as much like it. The same name but for its case is before all others.
 pub(crate) fn nearest<'a>(
     alloc: Global,
     text: &str,
     names: &[&'a str],
-) -> Result<Option<&'a str>, AllocError> {
+) -> Result<Option<(&'a str, &'a str)>, AllocError> {
     let lower = text.to_ascii_lowercase(alloc)?;
     likest(alloc, lower.as_str(), names)
 }
