@@ -89,7 +89,7 @@ pub(crate) fn tell_no_parameter(refused: &mut Refused<'_>) {
         "label"
     };
     refused.say(
-        "{} has label {} and equipment code {}, and there is no such parameter{}\n{}help: this label has a parameter of equipment code \"{}\", in line {}: write that code here, if it is meant\n{}help: no parameter has this label: write another here, if another is meant, or this one in the parameter that is meant for it\n{}note: {} in line {} is named by no stream and no label: it may be the one that is meant\nhelp: or add a `[[parameter]]` with `label = \"{}\"`, `equipment = \"{}\"`, a `format` of \"bnr\", \"bcd\" or \"disc\", and `min_us` and `max_us`: the least and the greatest time between two of its words, in microseconds (1 to 60000000)",
+        "{} has label {} and equipment code {}, and there is no such parameter{}\n{}help: this label has a parameter of equipment code \"{}\", in line {}: write that code here, if it is meant\n{}help: no parameter has this label: write another here, if another is meant, or this one in the parameter that is meant for it\n{}note: {} in line {} is named by no stream and no label: it may be the one that is meant\nhelp: or add a parameter, as `[[parameter]]` or as one more row of `parameter = [..]` where that is how they stand, with `label = \"{}\"`, `equipment = \"{}\"`, a `format` of \"bnr\", \"bcd\" or \"disc\", and `min_us` and `max_us`: the least and the greatest time between two of its words, in microseconds (1 to 60000000)",
         &[
             Fact::Row(row),
             Fact::At(row, "label"),

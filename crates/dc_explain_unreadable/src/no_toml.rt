@@ -20,7 +20,7 @@ pub(crate) fn without_mark(file: File<'_>) -> File<'_> {
 static CURES: [(&'static str, &'static str); 8] = [
     (
         "duplicate key",
-        "{}\nhelp: a key stands once in a table, and its table is headed once: take one of the two out, or head each member of a list by `[[..]]`, as `[[bus]]`",
+        "{}\nhelp: a key stands once in a table, and its table is headed once: take one of the two out, or head each member of a list by `[[..]]`, as `[[bus]]`; where a list is written `bus = [..]`, its members stand between these brackets",
     ),
     (
         "with no value",

@@ -103,7 +103,7 @@ pub(crate) fn tell_offset_twice(refused: &mut Refused<'_>) -> bool {
     let frame = refused.count(output, "frame");
     let at = free(taken.as_slice(), frame);
     refused.say(
-        "`offsets` of {} has {}, where in {} there is an entry already, of {} in line {}{}\n{}help: move one of the two; the first free offset of this output is {}\n{}help: each of the {} ticks of this frame has an entry: take one out, or write a longer `frame` (line {}); both weaken what is promised: labels are then sent less often",
+        "`offsets` of {} has {}, where in {} there is an entry already, of {} in line {}{}\n{}help: move one of the two, to a free offset near it, since C08 and C09 judge the gaps; the first that is free in this output is {}\n{}help: each of the {} ticks of this frame has an entry: take one out, or write a longer `frame` (line {}); both weaken what is promised: labels are then sent less often",
         &[
             Fact::Row(refused.row),
             Fact::Number(offset),

@@ -20,7 +20,7 @@ fn tell_gaps(told: &mut Teller<'_>, own: &Sending) {
     let most = own.maximum.saturating_sub(own.delay);
     let is_helped = told.out.is_helped();
     told.say(
-        "\n{}help: place its entries {} ticks apart: by the `frame` of the output where the label has one offset, else by its `offsets`\n{}note: no `offsets` are enough where output `{}` may be {} late: entries would have to lie at least {} apart, and at most {}",
+        "\n{}help: place its entries {} ticks apart: by more or fewer `offsets` in the `frame`, or by another `frame`, which moves all labels of the output\n{}note: no `offsets` are enough where output `{}` may be {} late: entries would have to lie at least {} apart, and at most {}",
         &[
             If(least <= most),
             Range(least, most),
@@ -40,7 +40,7 @@ fn tell_interval(told: &mut Teller<'_>, words: u64, is_soon: bool) {
     let least = words.saturating_add(1).saturating_mul(tick_us);
     let most = words.saturating_sub(1).saturating_mul(tick_us);
     told.say(
-        "\n{}weaker: write a `min_us` of at most {} microseconds in its parameter, in one of its own (another `equipment`) where a stream or another label has the same: its words may then come so soon\n{}weaker: write a `max_us` of at least {} microseconds in its parameter, in one of its own (another `equipment`) where a stream or another label has the same: its words may then come so late",
+        "\n{}weaker: write a `min_us` of at most {} microseconds in its parameter: its words may then come so soon; where a stream or another label has this parameter too, add one with another `equipment`, and write that `equipment` at the label\n{}weaker: write a `max_us` of at least {} microseconds in its parameter: its words may then come so late; where a stream or another label has this parameter too, add one with another `equipment`, and write that `equipment` at the label",
         &[
             If(is_soon && most > 0 && most <= longest),
             Number(most),

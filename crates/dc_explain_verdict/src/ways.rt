@@ -179,7 +179,7 @@ pub(crate) fn tell_never_ways(told: &mut Teller<'_>, server: &Server) {
     tell_steps(told, server, &ANY_WINDOW);
     tell_no_steps(told, server, &ANY_WINDOW);
     told.say(
-        "\n{}help: let router `{}` visit bus `{}` more often\n{}weaker: bring fewer streams on bus `{}`\n{}weaker: send its labels less often, by a longer `frame` or fewer `offsets`",
+        "\n{}help: let router `{}` visit bus `{}` more often, if its other buses can spare it: its `steps` are shared out by `visits`\n{}weaker: bring fewer streams on bus `{}`\n{}weaker: send its labels less often, by a longer `frame` or fewer `offsets`",
         &[
             If(server.is_bus),
             server.server,
