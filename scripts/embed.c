@@ -344,10 +344,11 @@ static bool told_margins(bool is_least, uint8_t *text, size_t room, size_t *leng
                     : dc429_margins(tables, tables_length, certificate, certificate_length, text, room, length, fault);
 }
 
-/* Margins: written where there is room for all of them, else not at all; of texts that are unreadable the line that says so. */
+/* Margins: written where there is room for all of them, else not at all; of a text that is one number sign, a comment, the line that says
+ * what it lacks. */
 static bool margin_edges(bool is_least) {
     static uint8_t text[1 << 20];
-    static const char unreadable[] = "unreadable T01 at top\n";
+    static const char unreadable[] = "unreadable T02 at top\n";
     dc429_fault fault;
     size_t length = 77, again = 77;
     memset(text, '-', sizeof text);
@@ -360,7 +361,7 @@ static bool margin_edges(bool is_least) {
     bool is_read = is_least ? dc429_least_margins(tables, 1, text, sizeof text, &again, &fault)
                             : dc429_margins(tables, 1, certificate, certificate_length, text, sizeof text, &again, &fault);
     is_well = is_well && !is_read && again == sizeof unreadable - 1 && memcmp(text, unreadable, again) == 0;
-    return is_well && fault.kind == DC429_UNREADABLE_TABLES && fault.code == 1;
+    return is_well && fault.kind == DC429_UNREADABLE_TABLES && fault.code == 2;
 }
 
 static int edges(void) {
