@@ -86,7 +86,7 @@ static void tell_refusal(const struct event *event, const dc429_reply *reply, un
 static void tell_reply(const struct event *event, const dc429_reply *reply, uint64_t tick) {
     bool always = reply->kind == DC429_SENT || (reply->kind >= DC429_BAD_PARITY && reply->kind <= DC429_LATCHED);
     const struct names *names = names_of(event->kind);
-    if (shows_none || !(shows_all || always))
+    if (!(shows_all || always))
         return;
     if (!names) {
         printf("%" PRIu64 " tick\n", reply->tick);
@@ -170,27 +170,52 @@ static uint32_t apply(dc429 *engine, const struct event *event, dc429_reply *rep
     }
 }
 
-/* Replays a whole trace, up to the first line that is no event or is refused. */
-static int replay(dc429 *engine, const uint8_t *trace, size_t length) {
-    uint64_t tick = 0;
-    unsigned long line = 0;
+/* How far a trace was replayed. */
+struct progress {
+    uint64_t tick;
+    unsigned long line;
+};
+
+/* Replays a part of a trace, up to the first line that is no event or is refused. */
+static int replay_part(dc429 *engine, const uint8_t *part, size_t length, struct progress *progress) {
     struct event event = { 0, 0, 0 };
     dc429_reply reply;
-    for (const uint8_t *at = trace, *end = trace + length; at < end;) {
+    for (const uint8_t *at = part, *end = part + length; at < end;) {
         at = read_event(engine, at, end, &event);
-        line++;
+        progress->line++;
         if (!at) {
-            printf("unreadable line %lu\n", line);
+            printf("unreadable line %lu\n", progress->line);
             return UNREADABLE;
         }
         if (apply(engine, &event, &reply) != DC429_OK) {
-            tell_refusal(&event, &reply, line);
+            tell_refusal(&event, &reply, progress->line);
             return REFUSED;
         }
-        tell_reply(&event, &reply, tick);
-        tick = reply.kind == DC429_NOW ? reply.tick : tick;
+        if (!shows_none)
+            tell_reply(&event, &reply, progress->tick);
+        progress->tick = reply.kind == DC429_NOW ? reply.tick : progress->tick;
     }
     return DONE;
+}
+
+/* Replays a trace while it is read, as many whole lines at a time as there is room for. */
+static int replay(dc429 *engine, FILE *trace) {
+    static uint8_t room[1 << 16];
+    struct progress progress = { 0, 0 };
+    size_t held = 0, got, whole;
+    while ((got = fread(room + held, 1, sizeof room - held, trace)) > 0) {
+        held += got;
+        for (whole = held; whole > 0 && room[whole - 1] != '\n';)
+            whole--;
+        if (whole == 0 && held == sizeof room)
+            break;
+        int status = replay_part(engine, room, whole, &progress);
+        if (status != DONE)
+            return status;
+        held -= whole;
+        memmove(room, room + whole, held);
+    }
+    return ferror(trace) ? FAILED : replay_part(engine, room, held, &progress);
 }
 
 int main(int argc, char **argv) {
@@ -200,19 +225,18 @@ int main(int argc, char **argv) {
         fprintf(stderr, "usage: replay TABLES CERTIFICATE [--all | --quiet] < TRACE\n");
         return UNREADABLE;
     }
-    size_t tables_length = 0, certificate_length = 0, trace_length = 0;
+    size_t tables_length = 0, certificate_length = 0;
     uint8_t *tables = load(argv[1], &tables_length);
     uint8_t *certificate = load(argv[2], &certificate_length);
-    uint8_t *trace = load_from(stdin, &trace_length);
     int status = FAILED;
-    if (tables && certificate && trace) {
+    if (tables && certificate) {
         dc429 engine = DC429_CLOSED;
         dc429_fault fault;
         if (dc429_open(&engine, tables, tables_length, certificate, certificate_length, &fault)) {
             take_names(&engine, &buses);
             take_names(&engine, &routers);
             take_names(&engine, &outputs);
-            status = replay(&engine, trace, trace_length);
+            status = replay(&engine, stdin);
             dc429_close(&engine);
         } else {
             status = not_opened(&fault);
@@ -222,6 +246,5 @@ int main(int argc, char **argv) {
     }
     free(tables);
     free(certificate);
-    free(trace);
     return fflush(stdout) == 0 ? status : FAILED;
 }
