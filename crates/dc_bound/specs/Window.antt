@@ -50,6 +50,10 @@ later_jump None other = None
 later_jump (Some i) None = None
 later_jump (Some i) (Some j) = Some (max i j)
 
+-- the cap is `most` in each number of ticks from `ticks` on and below `until`
+abbrev pub Shown : (ℕ → ℕ) → (ticks until most : ℕ) → Type 0
+Shown cap ticks until most = (k : ℕ) → ticks ≤ k → k < until → cap k ≡ most
+
 -- each d consecutive whole ticks hold at least n of these, of which `whole` ticks are whole
 abbrev pub HoldAtLeast : (n d whole : ℕ) → List ℕ → Type 0
 HoldAtLeast n d whole ts = (u : ℕ) → u + d ≤ whole → n ≤ count_in u d ts

@@ -27,3 +27,4 @@ pub mod Earliness
 pub mod Pacing
 pub mod CappingLaws
 pub mod Multiples
+pub mod Walks

@@ -1,6 +1,6 @@
 //! Bounds on what may arrive in so many consecutive ticks.
 
-ghost use Rattle.std.specs.Prelude.{◌≡◌, ℕ, ◌+◌, ◌-◌, ◌*◌, ◌/◌, ◌^◌, ◌<◌, ◌≤◌, ◌↔◌, ◌++◌, List, Option, length, min, refl, IfSome};
+ghost use Rattle.std.specs.Prelude.{◌≡◌, ℕ, ◌+◌, ◌-◌, ◌*◌, ◌/◌, ◌^◌, ◌<◌, ◌≤◌, ◌↔◌, ◌++◌, List, Option, length, min, refl, IfSome, true, false};
 ghost use Rattle.std.specs.List.{sum_by};
 ghost use Rattle.dc_bound.specs.Window.{count_in, ticks_of, IsNextJump, HoldAtMost, HoldsWire, Spaced, wire_cap};
 ghost use Rattle.dc_bound.specs.Turns.{NeverFall};
@@ -9,9 +9,10 @@ ghost use Rattle.dc_bound.specs.lemmas.Sums.{SumAllows-count, SumAllows-prefix, 
 ghost use Rattle.dc_bound.specs.lemmas.Counts.{ceil_zero, ceil_mono, ceil_bounded, both_zero, both_mono, both_bounded, both_holds, wire_mono, wire_bounded, wire_holds, wire_prefix};
 ghost use Rattle.dc_bound.specs.lemmas.Budget.{one_each_holds, one_each_prefix};
 ghost use Rattle.dc_bound.specs.Window.{IsKept, earlier_jump, later_jump};
-ghost use Rattle.dc_bound.specs.declared.limits.TheConstants.{GREATEST_CAP, LONGEST_SPAN, LONGEST_TICK};
+ghost use Rattle.dc_bound.specs.declared.limits.TheConstants.{GREATEST_CAP, LONGEST_SPAN, LONGEST_TICK, LONGEST_WALK};
 
 use crate::limits::LONGEST_SPAN;
+use crate::walk::Watcher;
 
 /// A number of ticks that stands for no jump.
 const NO_JUMP: u32 = LONGEST_SPAN + 1;
@@ -43,6 +44,29 @@ pub trait ArrivalBound {
     {
         let (_, jump) = self.at_most_and_jump(d);
         jump
+    }
+
+    /// Shows a watcher the numbers of ticks from `first`, at least 1, to `last`, at most
+    /// [`LONGEST_WALK`](crate::LONGEST_WALK), stretch by stretch of one cap each, until it wants to see no more. Whether
+    /// it wants to see more.
+    fn walk<W: Watcher>(&self, first: u32, last: u32, watcher: &mut W) -> bool
+        requires first { 1 ≤ first }
+        requires order { first ≤ last + 1 }
+        requires far { last ≤ LONGEST_WALK }
+        requires knows { W.knows watcher.old (cap self.now) first }
+        ensures all { result ≡ true → W.knows watcher.new (cap self.now) (last + 1) }
+        ensures ended { result ≡ false → W.ends watcher.new (cap self.now) }
+    {
+        let mut ticks = first;
+        while ticks <= last {
+            let (most, jump) = self.at_most_and_jump(ticks);
+            let until = jump.unwrap_or(last + 1).min(last + 1);
+            if !watcher.see(ticks, until, most) {
+                return false;
+            }
+            ticks = until;
+        }
+        true
     }
 
     // nothing comes in no ticks

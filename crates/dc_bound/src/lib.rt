@@ -8,13 +8,15 @@ mod cyclic;
 mod jitter;
 mod limits;
 mod service;
+mod walk;
 
 pub use alike::Alike;
 pub use arrival::{ArrivalBound, Both, Sporadic, SumOf, Wire};
 pub use cyclic::Cyclic;
 pub use jitter::{Capped, Jittered};
 pub use limits::{
-    GREATEST_CAP, GREATEST_QUEUE, LONGEST_FRAME, LONGEST_SPAN, LONGEST_TICK, MOST_ALIKE,
-    MOST_ENTRIES, MOST_PLACES, WIDEST_JITTER,
+    GREATEST_CAP, GREATEST_QUEUE, LONGEST_FRAME, LONGEST_SPAN, LONGEST_TICK, LONGEST_WALK,
+    MOST_ALIKE, MOST_ENTRIES, MOST_PLACES, WIDEST_JITTER,
 };
 pub use service::{Paced, ServiceBound, Visits};
+pub use walk::Watcher;

@@ -3,6 +3,9 @@
 /// The greatest span, in ticks, for which a bound or a floor is asked.
 pub const LONGEST_SPAN: u32 = 1_000_000;
 
+/// The greatest number of ticks up to which a bound is walked.
+pub const LONGEST_WALK: u32 = 100_000;
+
 /// The longest frame of an output and of a [`Cyclic`](crate::Cyclic) bound, in ticks.
 pub const LONGEST_FRAME: u32 = 100_000;
 
