@@ -8,6 +8,7 @@ pub mod Tags
 pub mod Rounds
 pub mod Turns
 pub mod Frame
+pub mod Splits
 pub mod Early
 pub mod Capping
 -- lemmas that laws and crates above cite

@@ -1,15 +1,17 @@
 //! The arrival bound of entries that are due at offsets in a frame.
 
-ghost use Rattle.std.specs.Prelude.{◌≡◌, ℕ, ◌+◌, ◌*◌, ◌<◌, ◌≤◌, ◌↔◌, List, length};
+ghost use Rattle.std.specs.Prelude.{◌≡◌, ℕ, ◌+◌, ◌-◌, ◌*◌, ◌<◌, ◌≤◌, ◌↔◌, List, length};
 ghost use Rattle.dc_bound.specs.Window.{IsNextJump};
 ghost use Rattle.dc_bound.specs.Frame.{due, IsDue, Offsets};
 ghost use Rattle.dc_bound.specs.Frame.{cyclic_cap};
 ghost use Rattle.dc_bound.specs.lemmas.Spans.{cyclic_zero, cap_grows, cyclic_bounded, cyclic_holds, due_prefix};
 ghost use Rattle.dc_bound.specs.Frame.{IsLeastSpan};
+ghost use Rattle.dc_bound.specs.Splits.{IsSplit, ArePastSpans};
 ghost use Rattle.dc_bound.specs.declared.limits.TheConstants.{LONGEST_FRAME, LONGEST_SPAN, MOST_ENTRIES};
 
 use crate::arrival::ArrivalBound;
-use crate::limits::LONGEST_SPAN;
+use crate::limits::{LONGEST_SPAN, MOST_ENTRIES};
+use crate::walk::Watcher;
 
 /// Entries that are due at offsets in a frame that comes again and again.
 #[derive(Drop)]
@@ -57,6 +59,32 @@ impl<'a> ArrivalBound for Cyclic<'a> {
         }
     }
 
+    // Due ticks ascend strictly, so that at each jump one more may come; and each frame says the same again, so that a
+    // span is worked out once.
+    fn walk<W: Watcher>(&self, first: u32, last: u32, watcher: &mut W) -> bool {
+        if last < first {
+            return true;
+        }
+        let mut known = KnownSpans::none();
+        let mut ticks = first;
+        let mut count = self.at_most(first);
+        let mut whole = count as u32 / self.offsets.len() as u32 * self.frame;
+        let mut rest = count as usize % self.offsets.len();
+        while ticks <= last {
+            let jump = whole + known.past(self.frame, self.offsets, rest);
+            if last < jump {
+                return watcher.see(ticks, last + 1, count);
+            }
+            if !watcher.see(ticks, jump, count) {
+                return false;
+            }
+            ticks = jump;
+            count += 1;
+            (whole, rest) = one_more(self.frame, self.offsets.len(), whole, rest);
+        }
+        true
+    }
+
     ghost cap_zero = { λ x. cyclic_zero x.frame x.offsets.now x.framed };
 
     ghost cap_monotone = { λ x d e h. cap_grows x.frame x.offsets.now x.framed d e h };
@@ -66,6 +94,58 @@ impl<'a> ArrivalBound for Cyclic<'a> {
     ghost cap_holds = { λ x xs u d h. cyclic_holds x.frame x.offsets.now x.framed xs u d h };
 
     ghost allows_prefix = { λ x xs ys h. due_prefix x.frame x.offsets.now xs ys h };
+}
+
+/// The least spans of neighbouring entries that were worked out so far.
+#[derive(Drop)]
+struct KnownSpans {
+    /// For each number of entries of a frame, one past the least span of these and one more; 0 where it is not known.
+    past: [u32; MOST_ENTRIES],
+}
+
+impl KnownSpans {
+    /// Where none is known.
+    fn none() -> KnownSpans
+        ensures { (frame : ℕ) (offsets : List ℕ) → length offsets ≤ MOST_ENTRIES → ArePastSpans frame offsets result.past }
+    {
+        KnownSpans {
+            past: [0; MOST_ENTRIES],
+        }
+    }
+
+    /// One past the least span of k + 1 neighbouring entries, worked out where it is not known yet.
+    fn past(&mut self, frame: u32, offsets: &[u32], k: usize) -> u32
+        requires framed { Offsets frame offsets.now }
+        requires short { frame ≤ LONGEST_FRAME }
+        requires few { length offsets.now ≤ MOST_ENTRIES }
+        requires rest { k < length offsets.now }
+        requires known { ArePastSpans frame offsets.now self.old.past }
+        ensures known { ArePastSpans frame offsets.now self.new.past }
+        ensures some { 1 ≤ result }
+        ensures span { IsLeastSpan frame offsets.now k (length offsets.now) (result - 1) }
+    {
+        let known = self.past[k];
+        if known > 0 {
+            return known;
+        }
+        let past = least_span_in_rest(frame, offsets, k) as u32 + 1;
+        self.past[k] = past;
+        past
+    }
+}
+
+/// The ticks of whole frames and the rest for a count that is one more.
+fn one_more(frame: u32, len: usize, whole: u32, rest: usize) -> (u32, usize)
+    requires part { rest < len }
+    requires near { whole ≤ LONGEST_SPAN }
+    requires short { frame ≤ LONGEST_FRAME }
+    ensures { (count : ℕ) → IsSplit frame len count whole rest → IsSplit frame len (count + 1) result.0 result.1 }
+{
+    if rest + 1 < len {
+        (whole, rest + 1)
+    } else {
+        (whole + frame, 0)
+    }
 }
 
 /// The tick at which entry number n, of the first two frames, is due.
