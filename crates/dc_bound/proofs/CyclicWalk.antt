@@ -1,14 +1,14 @@
 -- A walk along the cap of a frame's entries.
-use Rattle.std.proofs.Common.{◌≡◌, ℕ, ◌+◌, ◌-◌, ◌*◌, ◌/◌, ◌%◌, ◌<◌, ◌≤◌, zero, suc, List, length, set, replicate, get_or, refl, ap, sym, subst, arith, inl, inr, ◌↔◌}
+use Rattle.std.proofs.Common.{◌≡◌, ℕ, min, ◌+◌, ◌-◌, ◌*◌, ◌/◌, ◌%◌, ◌<◌, ◌≤◌, zero, suc, List, length, set, replicate, get_or, refl, ap, sym, subst, arith, inl, inr, ◌↔◌}
 use Rattle.std.proofs.Math.Nat.{mod-lt, div-add-mod'}
 use Rattle.std.proofs.lemmas.Bool.{cases_lt, cases_eq}
 use Rattle.std.proofs.lemmas.List.{get_or-replicate, get_or-set_other, get_or_past, length-set}
 use Rattle.std.proofs.lemmas.Grind.{get_or-set_at}
 use Rattle.dc_bound.specs.Window.{Shown}
-use Rattle.dc_bound.specs.Frame.{Offsets, IsLeastSpan, cyclic_cap}
+use Rattle.dc_bound.specs.Frame.{due, Offsets, IsLeastSpan, cyclic_cap}
 use Rattle.dc_bound.specs.Splits.{IsSplit, ArePastSpans}
 use Rattle.dc_bound.specs.lemmas.Due.{due_ascend}
-use Rattle.dc_bound.specs.lemmas.Spans.{HasSpan, cap-span, span_least, span_rounds, span_small, cap_flat, cap_rounds, cap_grows, cyclic_zero}
+use Rattle.dc_bound.specs.lemmas.Spans.{HasSpan, cap-span, span_least, span_rounds, span_small, span_first, span_next, due_early, due_late, cap_flat, cap_rounds, cap_grows, cyclic_zero}
 
 -- ---- a count in whole frames and a rest
 
@@ -102,3 +102,38 @@ module _ (frame : ℕ) (offsets : List ℕ) (o : Offsets frame offsets) where
   -- one past a least span of a part of a frame
   pub past_small : (k past : ℕ) → k < length offsets → IsLeastSpan frame offsets k (length offsets) (past - 1) → past ≤ 2 * frame + 1
   past_small k past inside span = omega (arith, span_small frame offsets o k (length offsets) (past - 1) o.some inside span)
+
+  -- ---- the least span by the offsets themselves
+
+  -- an offset that is not before another
+  pub offset_order : (i j : ℕ) → i ≤ j → j < length offsets → get_or offsets i 0 ≤ get_or offsets j 0
+  offset_order i j order inside =
+      elim (cases_lt i j) [
+        | inl l ↦ omega (arith, o.ascend i j l inside)
+        | inr l ↦ let e : i ≡ j = omega arith in omega (arith, ap (λ n. get_or offsets n 0) e)
+      ]
+
+  order_over : (i k : ℕ) → k < length offsets → i < length offsets → get_or offsets (i + k - length offsets) 0 ≤ get_or offsets i 0
+  order_over i k part inside = offset_order (i + k - length offsets) i (omega arith) inside
+
+  pub span_from_first : (k : ℕ) → k < length offsets → IsLeastSpan frame offsets k 1 (get_or offsets k 0 - get_or offsets 0 0)
+  span_from_first k part =
+      let P : ℕ → Type 0 = λ x. IsLeastSpan frame offsets k 1 x in
+      let e : due frame offsets k - due frame offsets 0 ≡ get_or offsets k 0 - get_or offsets 0 0 = omega (arith, due_early frame offsets k part, due_early frame offsets 0 o.some) in
+      subst P e (span_first frame offsets o k)
+
+  pub span_in_frame : (k i least next : ℕ) → i + k < length offsets → IsLeastSpan frame offsets k i least → next ≡ min least (get_or offsets (i + k) 0 - get_or offsets i 0) → IsLeastSpan frame offsets k (i + 1) next
+  span_in_frame k i least next inside span is =
+      let P : ℕ → Type 0 = λ x. IsLeastSpan frame offsets k (i + 1) x in
+      let e : min least (due frame offsets (i + k) - due frame offsets i) ≡ next = omega (arith, is, due_early frame offsets (i + k) inside, due_early frame offsets i (omega arith)) in
+      subst P e (span_next frame offsets o k i least span)
+
+  pub span_over : (k i least next : ℕ) → k < length offsets → length offsets ≤ i + k → i < length offsets → IsLeastSpan frame offsets k i least →
+      next ≡ min least (frame - (get_or offsets i 0 - get_or offsets (i + k - length offsets) 0)) → IsLeastSpan frame offsets k (i + 1) next
+  span_over k i least next part over inside span is =
+      let P : ℕ → Type 0 = λ x. IsLeastSpan frame offsets k (i + 1) x in
+      let late = due_late frame offsets (i + k) over (omega arith) in
+      let early = due_early frame offsets i inside in
+      let order = order_over i k part inside in
+      let e : min least (due frame offsets (i + k) - due frame offsets i) ≡ next = omega (arith, is, late, early, order, o.below i inside) in
+      subst P e (span_next frame offsets o k i least span)

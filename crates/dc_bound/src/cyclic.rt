@@ -198,9 +198,14 @@ fn least_span_in_rest(frame: u32, offsets: &[u32], k: usize) -> u64
     ensures span { IsLeastSpan frame offsets.now k (length offsets.now) result }
     ensures small { result ≤ 2 * frame }
 {
-    let mut least = due_of(frame, offsets, k) - due_of(frame, offsets, 0);
-    for i in 1..offsets.len() {
-        least = least.min(due_of(frame, offsets, i + k) - due_of(frame, offsets, i));
+    // First those that end in the frame in which they begin, then those that end in the next.
+    let len = offsets.len();
+    let mut least = offsets[k] - offsets[0];
+    for i in 1..len - k {
+        least = least.min(offsets[i + k] - offsets[i]);
     }
-    least
+    for j in len - k..len {
+        least = least.min(frame - (offsets[j] - offsets[j + k - len]));
+    }
+    least as u64
 }

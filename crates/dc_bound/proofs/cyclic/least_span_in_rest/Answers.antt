@@ -1,25 +1,30 @@
-use Rattle.std.proofs.Common.{◌≡◌, ◌+◌, ◌-◌, ℕ, min, arith, subst}
-use Rattle.dc_bound.specs.Frame.{due}
-use Rattle.dc_bound.specs.lemmas.Spans.{span_first, span_next, span_small, due-grows}
+use Rattle.std.proofs.Common.{◌≡◌, ◌-◌, ℕ, length, arith, subst}
 use Rattle.dc_bound.specs.Frame.{IsLeastSpan}
+use Rattle.dc_bound.specs.lemmas.Spans.{span_small}
+use Rattle.dc_bound.proofs.CyclicWalk.{offset_order, span_from_first, span_in_frame, span_over}
 use Rattle.dc_bound.proofs.cyclic.least_span_in_rest.Goals as goal
 
-pub loop-i-init : goal.loop-i-init
-loop-i-init c =
-    let e : due c.args.frame c.args.offsets.now c.args.k - due c.args.frame c.args.offsets.now 0 ≡ c.due_of.result - c.due_of-2.result = omega (arith, c.due_of.ensures, c.due_of-2.ensures) in
-    let P : ℕ → Type 0 = λ x. IsLeastSpan c.args.frame c.args.offsets.now c.args.k 1 x in
-    subst P e (span_first c.args.frame c.args.offsets.now c.requires.framed c.args.k)
+pub overflow_sub-least : goal.overflow_sub-least
+overflow_sub-least c = offset_order c.args.frame c.args.offsets.now c.requires.framed 0 c.args.k (omega arith) c.requires.rest
 
-pub overflow_sub-due_of : goal.overflow_sub-due_of
-overflow_sub-due_of c =
-    omega (arith, c.due_of-in-loop-i.ensures, c.due_of-in-loop-i-2.ensures, due-grows c.args.frame c.args.offsets.now c.requires.framed c.loop-i.i (c.loop-i.i + c.args.k) (omega arith))
+pub loop-i-init : goal.loop-i-init
+loop-i-init c = span_from_first c.args.frame c.args.offsets.now c.requires.framed c.args.k c.requires.rest
 
 pub loop-i-preserved : goal.loop-i-preserved
-loop-i-preserved c =
-    let e : min c.loop-i.least (due c.args.frame c.args.offsets.now (c.loop-i.i + c.args.k) - due c.args.frame c.args.offsets.now c.loop-i.i) ≡ c.min-least.result =
-    omega (arith, c.due_of-in-loop-i.ensures, c.due_of-in-loop-i-2.ensures, c.min-least.ensures) in
-    let P : ℕ → Type 0 = λ x. IsLeastSpan c.args.frame c.args.offsets.now c.args.k (c.loop-i.i + 1) x in
-    subst P e (span_next c.args.frame c.args.offsets.now c.requires.framed c.args.k c.loop-i.i c.loop-i.least c.loop-i.invariant)
+loop-i-preserved c = span_in_frame c.args.frame c.args.offsets.now c.requires.framed c.args.k c.loop-i.i c.loop-i.least c.min-least.result (omega (arith, c.loop-i-test.true)) c.loop-i.invariant c.min-least.ensures
 
-pub returns-clause-small : goal.returns-clause-small
-returns-clause-small c = span_small c.args.frame c.args.offsets.now c.requires.framed c.args.k c.loop-i.i c.loop-i.least c.loop-i.auto.i c.requires.rest c.loop-i.invariant
+pub loop-j-init : goal.loop-j-init
+loop-j-init c =
+    let end : c.loop-i.i ≡ length c.args.offsets.now - c.args.k = omega (arith, c.loop-i.auto.i-end, c.loop-i-test.false, c.requires.rest) in
+    let P : ℕ → Type 0 = λ n. IsLeastSpan c.args.frame c.args.offsets.now c.args.k n c.loop-i.least in
+    subst P end c.loop-i.invariant
+
+pub loop-j-preserved : goal.loop-j-preserved
+loop-j-preserved c = span_over c.args.frame c.args.offsets.now c.requires.framed c.args.k c.loop-j.j c.loop-j.least c.min-least-in-loop-j.result c.requires.rest (omega (arith, c.loop-j.auto.j)) c.loop-j-test.true c.loop-j.invariant c.min-least-in-loop-j.ensures
+
+pub returns : goal.returns
+returns c =
+    let end : c.loop-j.j ≡ length c.args.offsets.now = omega (arith, c.loop-j.auto.j-end, c.loop-j-test.false, c.requires.rest) in
+    let P : ℕ → Type 0 = λ n. IsLeastSpan c.args.frame c.args.offsets.now c.args.k n c.loop-j.least in
+    let span : P (length c.args.offsets.now) = subst P end c.loop-j.invariant in
+    record { span = span; small = span_small c.args.frame c.args.offsets.now c.requires.framed c.args.k (length c.args.offsets.now) c.loop-j.least c.requires.framed.some c.requires.rest span }
