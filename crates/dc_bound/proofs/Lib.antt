@@ -1,1 +1,3 @@
 pub mod CyclicWalk
+pub mod Lesser
+pub mod Summed

@@ -11,5 +11,7 @@ pub mod Frame
 pub mod Splits
 pub mod Early
 pub mod Capping
+pub mod Under
+pub mod Terms
 -- lemmas that laws and crates above cite
 pub mod lemmas

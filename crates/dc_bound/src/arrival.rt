@@ -8,14 +8,19 @@ ghost use Rattle.dc_bound.specs.Tags.{SumAllows};
 ghost use Rattle.dc_bound.specs.lemmas.Sums.{SumAllows-count, SumAllows-prefix, sum_zero, sum_monotone, sum_bounded};
 ghost use Rattle.dc_bound.specs.lemmas.Counts.{ceil_zero, ceil_mono, ceil_bounded, both_zero, both_mono, both_bounded, both_holds, wire_mono, wire_bounded, wire_holds, wire_prefix};
 ghost use Rattle.dc_bound.specs.lemmas.Budget.{one_each_holds, one_each_prefix};
-ghost use Rattle.dc_bound.specs.Window.{IsKept, earlier_jump, later_jump};
+ghost use Rattle.dc_bound.specs.Window.{IsKept, Shown, earlier_jump, later_jump};
+ghost use Rattle.dc_bound.specs.Under.{under};
+ghost use Rattle.dc_bound.specs.Terms.{KeepsTerms};
+ghost use Rattle.dc_bound.specs.declared.terms.TheConstants.{MOST_TERMS};
 ghost use Rattle.dc_bound.specs.declared.limits.TheConstants.{GREATEST_CAP, LONGEST_SPAN, LONGEST_TICK, LONGEST_WALK};
 
 use crate::limits::LONGEST_SPAN;
+use crate::terms::{MOST_TERMS, Terms};
+use crate::under::lesser;
 use crate::walk::Watcher;
 
 /// A number of ticks that stands for no jump.
-const NO_JUMP: u32 = LONGEST_SPAN + 1;
+pub(crate) const NO_JUMP: u32 = LONGEST_SPAN + 1;
 
 /// What may come at most in any so many consecutive ticks.
 pub trait ArrivalBound {
@@ -65,6 +70,34 @@ pub trait ArrivalBound {
                 return false;
             }
             ticks = until;
+        }
+        true
+    }
+
+    /// What `walk` does, of the lesser of this bound and a wire's where there is one.
+    fn walk_under<W: Watcher>(
+        &self,
+        wire: &Option<Wire>,
+        first: u32,
+        last: u32,
+        watcher: &mut W,
+    ) -> bool
+        requires first { 1 ≤ first }
+        requires order { first ≤ last + 1 }
+        requires far { last ≤ LONGEST_WALK }
+        requires knows { W.knows watcher.old (λ d. under (λ (w : Wire) e. wire_cap w.tick w.spacing e) wire.now d (cap self.now d)) first }
+        ensures all { result ≡ true → W.knows watcher.new (λ d. under (λ (w : Wire) e. wire_cap w.tick w.spacing e) wire.now d (cap self.now d)) (last + 1) }
+        ensures ended { result ≡ false → W.ends watcher.new (λ d. under (λ (w : Wire) e. wire_cap w.tick w.spacing e) wire.now d (cap self.now d)) }
+    {
+        let mut ticks = first;
+        while ticks <= last {
+            let (most, jump) = self.at_most_and_jump(ticks);
+            let until = jump.unwrap_or(last + 1).min(last + 1);
+            let (shown, end) = lesser(wire, ticks, until, last, most);
+            if !watcher.see(ticks, end, shown) {
+                return false;
+            }
+            ticks = end;
         }
         true
     }
@@ -212,6 +245,24 @@ impl<'a, B: ArrivalBound> SumOf<'a, B> {
     {
         SumOf { first, members }
     }
+
+    // What comes at most in so many ticks, and before which number of them, at most one past `last`, that stays so.
+    fn stretch(&self, terms: &mut Terms, ticks: u32, last: u32) -> (u64, u32)
+        requires some { ticks ≤ last }
+        requires far { last ≤ LONGEST_WALK }
+        requires kept { length self.now.members.now ≤ MOST_TERMS → KeepsTerms B.cap self.now.members.now ticks terms.old }
+        ensures kept { length self.now.members.now ≤ MOST_TERMS → KeepsTerms B.cap self.now.members.now ticks terms.new }
+        ensures shown { Shown (λ k. sum_by (λ (b : B). B.cap b k) self.now.members.now) ticks result.1 result.0 }
+        ensures later { ticks < result.1 }
+        ensures inside { result.1 ≤ last + 1 }
+    {
+        if self.members.len() > MOST_TERMS {
+            let (most, jump) = self.at_most_and_jump(ticks);
+            return (most, jump.unwrap_or(last + 1).min(last + 1));
+        }
+        terms.renew(self.members, ticks);
+        (terms.total, terms.until(self.members.len(), last + 1))
+    }
 }
 
 impl<'a, B: ArrivalBound> ArrivalBound for SumOf<'a, B> {
@@ -236,6 +287,30 @@ impl<'a, B: ArrivalBound> ArrivalBound for SumOf<'a, B> {
             jump = earlier(jump, next);
         }
         (total, jump_at(jump as u64))
+    }
+
+    fn walk<W: Watcher>(&self, first: u32, last: u32, watcher: &mut W) -> bool {
+        self.walk_under(&None, first, last, watcher)
+    }
+
+    fn walk_under<W: Watcher>(
+        &self,
+        wire: &Option<Wire>,
+        first: u32,
+        last: u32,
+        watcher: &mut W,
+    ) -> bool {
+        let mut terms = Terms::new();
+        let mut ticks = first;
+        while ticks <= last {
+            let (most, until) = self.stretch(&mut terms, ticks, last);
+            let (shown, end) = lesser(wire, ticks, until, last, most);
+            if !watcher.see(ticks, end, shown) {
+                return false;
+            }
+            ticks = end;
+        }
+        true
     }
 
     ghost cap_zero = { λ x. sum_zero (λ (b : B). B.cap b 0) (λ b. B.cap_zero b) x.members.now };

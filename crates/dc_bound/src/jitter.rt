@@ -8,6 +8,7 @@ ghost use Rattle.dc_bound.specs.lemmas.CappingLaws.{capped-zero, capped-mono, ca
 ghost use Rattle.dc_bound.specs.declared.limits.TheConstants.{WIDEST_JITTER};
 
 use crate::arrival::{ArrivalBound, Wire, jump_at, later};
+use crate::walk::Watcher;
 
 /// A source whose words come at least `minimum` ticks apart, but up to `jitter` ticks late: any d consecutive ticks
 /// hold at most (d + jitter) / minimum, rounded up.
@@ -113,6 +114,11 @@ impl<A: ArrivalBound> ArrivalBound for Capped<A> {
             return (second, second_jump);
         }
         (first, later(first_jump, second_jump))
+    }
+
+    // one walk along the sum, which asks the wire at each step, and of its members those that jump
+    fn walk<W: Watcher>(&self, first: u32, last: u32, watcher: &mut W) -> bool {
+        self.sum.walk_under(&self.wire, first, last, watcher)
     }
 
     ghost cap_zero = { λ x. capped-zero x.wire (A.cap x.sum 0) (A.cap_zero x.sum) };

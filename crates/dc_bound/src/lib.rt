@@ -8,6 +8,8 @@ mod cyclic;
 mod jitter;
 mod limits;
 mod service;
+mod terms;
+mod under;
 mod walk;
 
 pub use alike::Alike;
