@@ -92,8 +92,8 @@ pub trait ArrivalBound {
         let mut ticks = first;
         while ticks <= last {
             let (most, jump) = self.at_most_and_jump(ticks);
-            let until = jump.unwrap_or(last + 1).min(last + 1);
-            let (shown, end) = lesser(wire, ticks, until, last, most);
+            let next = jump.unwrap_or(last + 1).min(last + 1);
+            let (shown, end) = lesser(wire, ticks, next, last, most);
             if !watcher.see(ticks, end, shown) {
                 return false;
             }
