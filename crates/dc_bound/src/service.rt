@@ -3,11 +3,14 @@
 ghost use Rattle.std.specs.Prelude.{◌≡◌, ℕ, ◌+◌, ◌*◌, ◌/◌, ◌%◌, ◌^◌, ◌<◌, ◌≤◌, ◌↔◌, List, length};
 ghost use Rattle.dc_bound.specs.Window.{count_in, HoldAtLeast};
 ghost use Rattle.dc_bound.specs.lemmas.Budget.{pace_zero, pace_mono, pace_holds};
-ghost use Rattle.dc_bound.specs.Rounds.{among, is_at, fewest_visits};
+ghost use Rattle.dc_bound.specs.Rounds.{fewest_visits};
+ghost use Rattle.dc_bound.specs.BusPlaces.{ArePlaces, nth_step};
 ghost use Rattle.dc_bound.specs.lemmas.Cycle.{fewest_visits_zero, fewest_visits_mono};
 ghost use Rattle.dc_bound.specs.Turns.{VisitsInTurn};
 ghost use Rattle.dc_bound.specs.lemmas.Visited.{in_turn_holds};
 ghost use Rattle.dc_bound.specs.declared.limits.TheConstants.{LONGEST_SPAN, MOST_PLACES};
+
+use crate::limits::MOST_PLACES;
 
 /// What so many consecutive whole ticks serve at least.
 pub trait ServiceBound {
@@ -112,43 +115,8 @@ impl<'a> ServiceBound for Visits<'a> {
     ghost floor_holds = { λ x whole ts u d h k. in_turn_holds x.visits.now x.bus x.some x.pace.steps x.pace.within whole ts h u d k };
 }
 
-/// The place of step n, of the first two rounds, in a list of so many places.
-fn place_of(n: usize, len: usize) -> usize
-    requires { n < 2 * len }
-    ensures { result ≡ n % len }
-{
-    if n < len { n } else { n - len }
-}
-
-/// 1 where step n, of the first two rounds through the list, visits the bus, else 0.
-fn visit(visits: &[usize], bus: usize, n: usize) -> u64
-    requires { n < 2 * length visits.now }
-    ensures value { result ≡ is_at visits.now bus (n % length visits.now) }
-    ensures small { result ≤ 1 }
-{
-    if visits[place_of(n, visits.len())] == bus {
-        1
-    } else {
-        0
-    }
-}
-
-/// How many of the first k steps visit the bus.
-#[tactic(auto, unfolding(crate::specs::Rounds::among))]
-fn visits_in_front(visits: &[usize], bus: usize, k: usize) -> u64
-    requires few { length visits.now ≤ MOST_PLACES }
-    requires round { k ≤ length visits.now }
-    ensures value { result ≡ among (λ i. is_at visits.now bus i) (length visits.now) 0 k }
-    ensures small { result ≤ k }
-{
-    let mut count: u64 = 0;
-    for i in 0..k {
-        count += visit(visits, bus, i);
-    }
-    count
-}
-
-/// The fewest visits of the bus among so many steps: whole rounds, and the rest of the last.
+/// The fewest visits of the bus among so many steps: whole rounds, and the rest of the last. No window of the rest
+/// holds fewer visits than the one that begins right behind the last visit before it, so only these are looked at.
 fn fewest(visits: &[usize], bus: usize, steps: u64) -> u64
     requires some { 1 ≤ length visits.now }
     requires few { length visits.now ≤ MOST_PLACES }
@@ -156,26 +124,44 @@ fn fewest(visits: &[usize], bus: usize, steps: u64) -> u64
     ensures { result ≡ fewest_visits visits.now bus steps }
 {
     let len = visits.len();
-    let rounds = steps / len as u64;
     let rest = (steps % len as u64) as usize;
-    let round = visits_in_front(visits, bus, len);
-    let least = fewest_in_rest(visits, bus, rest);
-    rounds * round + least
+    let mut places = [0; MOST_PLACES];
+    let round = write_places(visits, bus, &mut places);
+    let mut least = round;
+    for behind in 0..round {
+        while nth_step(&places, round, len, behind + least) > places[behind] as usize + rest {
+            least -= 1;
+        }
+    }
+    (steps / len as u64) * round as u64 + least as u64
 }
 
-/// The fewest visits of the bus among less steps than the list has: a window of so many steps slides along it.
-fn fewest_in_rest(visits: &[usize], bus: usize, rest: usize) -> u64
-    requires some { 1 ≤ length visits.now }
+/// Writes the places of the bus in the list to the front of `places`, and tells how many they are.
+fn write_places(visits: &[usize], bus: usize, places: &mut [u8; MOST_PLACES]) -> usize
     requires few { length visits.now ≤ MOST_PLACES }
-    requires rest { rest < length visits.now }
-    ensures value { result ≡ fewest_visits visits.now bus rest }
-    ensures small { result ≤ MOST_PLACES }
+    ensures are { ArePlaces visits.now bus (length visits.now) places.new result }
+    ensures few { result ≤ MOST_PLACES }
 {
-    let mut here = visits_in_front(visits, bus, rest);
-    let mut least = here;
-    for n in 0..visits.len() - 1 {
-        here = here + visit(visits, bus, n + rest) - visit(visits, bus, n);
-        least = least.min(here);
+    let mut number = 0;
+    for i in 0..visits.len() {
+        if visits[i] == bus {
+            places[number] = i as u8;
+            number += 1;
+        }
     }
-    least
+    number
+}
+
+/// The step of visit n, of the first two rounds through a list with `number` places of the bus.
+fn nth_step(places: &[u8; MOST_PLACES], number: usize, len: usize, n: usize) -> usize
+    requires known { n < 2 * number }
+    requires few { number ≤ MOST_PLACES }
+    requires short { len ≤ MOST_PLACES }
+    ensures { result ≡ nth_step places.now number len n }
+{
+    if n < number {
+        places[n] as usize
+    } else {
+        places[n - number] as usize + len
+    }
 }
