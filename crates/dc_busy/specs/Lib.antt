@@ -1,4 +1,5 @@
 pub mod BusyWindow
 pub mod Least
+pub mod Watched
 -- lemmas that laws and crates above cite
 pub mod lemmas

@@ -1,10 +1,14 @@
-//! The first failing windows of a stretch, by one walk.
+//! The first failing windows of a stretch, by one walk along the jumps of the arrival bound: between two jumps no later
+//! window fails where the first does not.
 
-ghost use Rattle.std.specs.Prelude.{◌≡◌, ◌<◌, ◌≤◌, Some, MatchOption};
+ghost use Rattle.std.specs.Prelude.{◌≡◌, ℕ, ◌+◌, ◌-◌, ◌<◌, ◌≤◌, Some, None, MatchOption};
 ghost use Rattle.dc_busy.specs.BusyWindow.{BacklogAt, DelayAt, IsFirstBetween};
+ghost use Rattle.dc_busy.specs.Watched.{IsFirstSoFar, IsFound};
 ghost use Rattle.dc_busy.specs.declared.limits.TheConstants.{LONGEST_WINDOW};
 
-use dc_bound::{ArrivalBound, ServiceBound};
+use crate::asked::Asked;
+use dc_bound::{ArrivalBound, ServiceBound, Watcher};
+use std::marker::{Brand, PhantomData};
 
 /// The first of the numbers of ticks from `first`, at least 1, to `last`, at most
 /// [`LONGEST_WINDOW`](crate::LONGEST_WINDOW), in which more than `backlog` may come above the visits in the whole ticks
@@ -24,29 +28,132 @@ pub fn failures_between<A: ArrivalBound, S: ServiceBound>(
     ensures backlog { IsFirstBetween (BacklogAt (A.cap arrivals.now) (S.floor service.now) backlog) first last result.0 }
     ensures delay { IsFirstBetween (DelayAt (A.cap arrivals.now) (S.floor service.now) delay) first last result.1 }
 {
-    let mut overfull = None;
-    let mut overdue = None;
-    let mut ticks = first;
-    while ticks <= last {
-        let (most, jump) = arrivals.at_most_and_jump(ticks);
-        let waiting = most.saturating_sub(service.at_least(ticks.saturating_sub(2)));
-        overfull = found_or_above(overfull, ticks, waiting, backlog);
-        let taken = service.at_least(ticks - 1 + delay);
-        overdue = found_or_above(overdue, ticks, most, taken);
-        if overfull.is_some() && overdue.is_some() {
-            return (overfull, overdue);
-        }
-        ticks = jump.unwrap_or(last + 1);
-    }
-    (overfull, overdue)
+    failures_asked::<A, S, Brand>(arrivals, service, first, last, backlog, delay)
 }
 
-/// What was found before, else this number of ticks where the count is above the limit.
-fn found_or_above(found: Option<u32>, ticks: u32, count: u64, limit: u64) -> Option<u32>
-    ensures { MatchOption found (MatchOption result (count ≤ limit) (λ w. (w ≡ ticks) × (limit < count))) (λ w. result ≡ Some w) }
+/// The same, where what is asked is known by a type.
+fn failures_asked<A: ArrivalBound, S: ServiceBound, K: Asked>(
+    arrivals: &A,
+    service: &S,
+    first: u32,
+    last: u32,
+    backlog: u64,
+    delay: u32,
+) -> (Option<u32>, Option<u32>)
+    requires least { 1 ≤ first }
+    requires most { last ≤ LONGEST_WINDOW }
+    requires short { delay ≤ LONGEST_WINDOW }
+    requires floor_is { S.floor service.now ≡ K.floor }
+    requires first_is { first ≡ K.first }
+    requires backlog_is { backlog ≡ K.backlog }
+    requires delay_is { delay ≡ K.delay }
+    ensures backlog { IsFirstBetween (BacklogAt (A.cap arrivals.now) K.floor K.backlog) first last result.0 }
+    ensures delay { IsFirstBetween (DelayAt (A.cap arrivals.now) K.floor K.delay) first last result.1 }
 {
-    if found.is_none() && count > limit {
+    if first > last {
+        return (None, None);
+    }
+    let mut failures: Failures<S, K> = Failures {
+        service,
+        backlog,
+        delay,
+        overfull: None,
+        overdue: None,
+        of: PhantomData,
+    };
+    arrivals.walk(first, last, &mut failures);
+    (
+        up_to(last, failures.overfull),
+        up_to(last, failures.overdue),
+    )
+}
+
+/// The first failing windows that a walk has found.
+#[derive(Drop)]
+struct Failures<'a, S: ServiceBound, K: Asked> {
+    service: &'a S,
+    backlog: u64,
+    delay: u32,
+    overfull: Option<u32>,
+    overdue: Option<u32>,
+    of: PhantomData<K>,
+    ghost short: { delay ≤ LONGEST_WINDOW },
+    ghost floor_is: { S.floor service.now ≡ K.floor },
+    ghost backlog_is: { backlog ≡ K.backlog },
+    ghost delay_is: { delay ≡ K.delay },
+}
+
+impl<'a, S: ServiceBound, K: Asked> Watcher for Failures<'a, S, K> {
+    ghost knows = { λ w cap ticks. (K.first ≤ ticks)
+        × IsFirstSoFar (BacklogAt cap (S.floor w.service.now) w.backlog) K.first ticks w.overfull
+        × IsFirstSoFar (DelayAt cap (S.floor w.service.now) w.delay) K.first ticks w.overdue };
+
+    ghost ends = { λ w cap. IsFound (BacklogAt cap (S.floor w.service.now) w.backlog) K.first w.overfull
+        × IsFound (DelayAt cap (S.floor w.service.now) w.delay) K.first w.overdue };
+
+    #[inline(always)]
+    fn see(&mut self, ticks: u32, until: u32, most: u64) -> bool {
+        self.overfull = self.overfull_by(ticks, most);
+        self.overdue = self.overdue_by(ticks, most);
+        if self.overfull.is_some() && self.overdue.is_some() {
+            return false;
+        }
+        true
+    }
+}
+
+impl<'a, S: ServiceBound, K: Asked> Failures<'a, S, K> {
+    /// What was found before, else this number of ticks where more than the backlog may wait.
+    #[inline(always)]
+    fn overfull_by(&self, ticks: u32, most: u64) -> Option<u32>
+        requires { ticks ≤ LONGEST_WINDOW }
+        ensures { MatchOption self.now.overfull
+            (MatchOption result (most - S.floor self.now.service.now (ticks - 2) ≤ self.now.backlog)
+            (λ w. (w ≡ ticks) × (self.now.backlog < most - S.floor self.now.service.now (ticks - 2))))
+            (λ w. result ≡ Some w) }
+    {
+        if self.overfull.is_some() {
+            return self.overfull;
+        }
+        let waiting = most.saturating_sub(self.service.at_least(ticks.saturating_sub(2)));
+        above(ticks, waiting, self.backlog)
+    }
+
+    /// What was found before, else this number of ticks where more may come than is taken in time.
+    #[inline(always)]
+    fn overdue_by(&self, ticks: u32, most: u64) -> Option<u32>
+        requires least { 1 ≤ ticks }
+        requires most { ticks ≤ LONGEST_WINDOW }
+        ensures { MatchOption self.now.overdue
+            (MatchOption result (most ≤ S.floor self.now.service.now (ticks - 1 + self.now.delay))
+            (λ w. (w ≡ ticks) × (S.floor self.now.service.now (ticks - 1 + self.now.delay) < most)))
+            (λ w. result ≡ Some w) }
+    {
+        if self.overdue.is_some() {
+            return self.overdue;
+        }
+        let taken = self.service.at_least(ticks - 1 + self.delay);
+        above(ticks, most, taken)
+    }
+}
+
+/// This number of ticks where the count is above the limit.
+#[inline(always)]
+fn above(ticks: u32, count: u64, limit: u64) -> Option<u32>
+    ensures { MatchOption result (count ≤ limit) (λ w. (w ≡ ticks) × (limit < count)) }
+{
+    if count > limit {
         return Some(ticks);
     }
-    found
+    None
+}
+
+/// What a walk has found, if it is not behind the last number of ticks: a watcher is not told where its walk ends.
+pub(crate) fn up_to(last: u32, found: Option<u32>) -> Option<u32>
+    ensures { MatchOption found (result ≡ None) (λ w. MatchOption result (last < w) (λ v. (v ≡ w) × (v ≤ last))) }
+{
+    match found {
+        Some(ticks) if ticks <= last => Some(ticks),
+        _ => None,
+    }
 }

@@ -2,13 +2,16 @@
 //! bound stays, and the least number of ticks that are visited so often is found by halves.
 
 ghost use Rattle.std.specs.Prelude.{◌≡◌, ℕ, ◌<◌, ◌≤◌, Some, MatchOption};
-ghost use Rattle.dc_busy.specs.BusyWindow.{Closes, BacklogBounded, DelayBounded};
+ghost use Rattle.dc_busy.specs.BusyWindow.{Closes, BacklogAt, BacklogBounded, DelayAt, DelayBounded};
 ghost use Rattle.dc_busy.specs.Least.{IsLeast, IsLeastUpToLongest, ClosesWithin};
+ghost use Rattle.dc_busy.specs.Watched.{EachBelow, DelayedBelow};
 ghost use Rattle.dc_bound.specs.declared.limits.TheConstants.{LONGEST_SPAN};
 ghost use Rattle.dc_busy.specs.declared.limits.TheConstants.{LONGEST_WINDOW};
 
 use crate::LONGEST_WINDOW;
-use dc_bound::{ArrivalBound, ServiceBound};
+use crate::asked::Served;
+use dc_bound::{ArrivalBound, ServiceBound, Watcher};
+use std::marker::{Brand, PhantomData};
 
 /// The greatest number by which what may come in some number of ticks up to `window`, 1 to [`LONGEST_WINDOW`], is above
 /// the visits in the whole ticks inside them, two less; 0 where it is never above. It is the least backlog of which
@@ -18,18 +21,27 @@ pub fn most_backlog<A: ArrivalBound, S: ServiceBound>(arrivals: &A, service: &S,
     requires most { window ≤ LONGEST_WINDOW }
     ensures { IsLeast (BacklogBounded (A.cap arrivals.now) (S.floor service.now) window) result }
 {
-    let mut greatest = 0;
-    let mut ticks = 1;
-    while ticks <= window {
-        let (most, jump) = arrivals.at_most_and_jump(ticks);
-        let waiting = most.saturating_sub(service.at_least(ticks.saturating_sub(2)));
-        greatest = greatest.max(waiting);
-        match jump {
-            None => return greatest,
-            Some(jump) => ticks = jump,
-        }
-    }
-    greatest
+    greatest_backlog::<A, S, Brand>(arrivals, service, window)
+}
+
+/// The same, where the floor is known by a type.
+fn greatest_backlog<A: ArrivalBound, S: ServiceBound, K: Served>(
+    arrivals: &A,
+    service: &S,
+    window: u32,
+) -> u64
+    requires least { 1 ≤ window }
+    requires most { window ≤ LONGEST_WINDOW }
+    requires floor_is { S.floor service.now ≡ K.floor }
+    ensures { IsLeast (BacklogBounded (A.cap arrivals.now) K.floor window) result }
+{
+    let mut backlogs: Greatest<S, K> = Greatest {
+        service,
+        greatest: 0,
+        of: PhantomData,
+    };
+    arrivals.walk(1, window, &mut backlogs);
+    backlogs.greatest
 }
 
 /// The least delay up to [`LONGEST_WINDOW`] of which [`crate::delay_fails`] finds nothing in `window`, 1 to as many
@@ -43,50 +55,139 @@ pub fn least_delay<A: ArrivalBound, S: ServiceBound>(
     requires most { window ≤ LONGEST_WINDOW }
     ensures exact { IsLeastUpToLongest (DelayBounded (A.cap arrivals.now) (S.floor service.now) window) result }
 {
-    let mut delay = 0;
-    let mut ticks = 1;
-    while ticks <= window {
-        let (most, jump) = arrivals.at_most_and_jump(ticks);
-        let before = ticks - 1;
-        match first_served(service, most, before + delay, before + LONGEST_WINDOW) {
-            None => return None,
-            Some(served) => delay = served - before,
-        }
-        match jump {
-            None => return Some(delay),
-            Some(jump) => ticks = jump,
-        }
+    smallest_delay::<A, S, Brand>(arrivals, service, window)
+}
+
+/// The same, where the floor is known by a type.
+fn smallest_delay<A: ArrivalBound, S: ServiceBound, K: Served>(
+    arrivals: &A,
+    service: &S,
+    window: u32,
+) -> Option<u32>
+    requires least { 1 ≤ window }
+    requires most { window ≤ LONGEST_WINDOW }
+    requires floor_is { S.floor service.now ≡ K.floor }
+    requires window_is { window ≡ K.window }
+    ensures { IsLeastUpToLongest (DelayBounded (A.cap arrivals.now) K.floor K.window) result }
+{
+    let mut delays: Delays<S, K> = Delays {
+        service,
+        window,
+        delay: 0,
+        of: PhantomData,
+    };
+    if arrivals.walk(1, window, &mut delays) {
+        return Some(delays.delay);
     }
-    Some(delay)
+    None
 }
 
 /// The least window of 1 to [`LONGEST_WINDOW`] ticks that closes; `None` where there is none.
 pub fn least_window<A: ArrivalBound, S: ServiceBound>(arrivals: &A, service: &S) -> Option<u32>
     ensures { IsLeastUpToLongest (ClosesWithin (A.cap arrivals.now) (S.floor service.now)) result }
 {
-    let mut ticks = 1;
-    while ticks <= LONGEST_WINDOW {
-        let (most, jump) = arrivals.at_most_and_jump(ticks);
-        let end = jump.unwrap_or(LONGEST_WINDOW + 1).min(LONGEST_WINDOW + 1);
-        if let Some(served) = least_ticks(service, most, ticks - 1, end - 2) {
-            return Some(served + 1);
-        }
-        ticks = end;
-    }
-    None
+    first_closing::<A, S, Brand>(arrivals, service)
 }
 
-/// The same as `least_ticks`, in one look where `from` ticks are enough.
-fn first_served<S: ServiceBound>(service: &S, count: u64, from: u32, to: u32) -> Option<u32>
-    requires order { from ≤ to }
-    requires far { to ≤ LONGEST_SPAN }
-    ensures { MatchOption result (S.floor service.now to < count) (λ d. (from ≤ d) × (d ≤ to) × (count ≤ S.floor service.now d)
-        × ((e : ℕ) → from ≤ e → e < d → S.floor service.now e < count)) }
+/// The same, where the floor is known by a type.
+fn first_closing<A: ArrivalBound, S: ServiceBound, K: Served>(
+    arrivals: &A,
+    service: &S,
+) -> Option<u32>
+    requires floor_is { S.floor service.now ≡ K.floor }
+    ensures { IsLeastUpToLongest (ClosesWithin (A.cap arrivals.now) K.floor) result }
 {
-    if service.at_least(from) >= count {
-        return Some(from);
+    let mut closing: Closing<S, K> = Closing {
+        service,
+        found: 0,
+        of: PhantomData,
+    };
+    if arrivals.walk(1, LONGEST_WINDOW, &mut closing) {
+        return None;
     }
-    least_ticks(service, count, from, to)
+    Some(closing.found)
+}
+
+/// The greatest backlog so far.
+#[derive(Drop)]
+struct Greatest<'a, S: ServiceBound, K: Served> {
+    service: &'a S,
+    greatest: u64,
+    of: PhantomData<K>,
+    ghost floor_is: { S.floor service.now ≡ K.floor },
+}
+
+impl<'a, S: ServiceBound, K: Served> Watcher for Greatest<'a, S, K> {
+    ghost knows = { λ w cap ticks. IsLeast (λ b. EachBelow (BacklogAt cap (S.floor w.service.now) b) 1 ticks) w.greatest };
+
+    ghost ends = { λ w cap. ⊥ };
+
+    #[inline(always)]
+    fn see(&mut self, ticks: u32, until: u32, most: u64) -> bool {
+        let waiting = most.saturating_sub(self.service.at_least(ticks.saturating_sub(2)));
+        self.greatest = self.greatest.max(waiting);
+        true
+    }
+}
+
+/// The least delay of what was seen up to the window.
+#[derive(Drop)]
+struct Delays<'a, S: ServiceBound, K: Served> {
+    service: &'a S,
+    window: u32,
+    delay: u32,
+    of: PhantomData<K>,
+    ghost short: { delay ≤ LONGEST_WINDOW },
+    ghost floor_is: { S.floor service.now ≡ K.floor },
+    ghost window_is: { window ≡ K.window },
+}
+
+impl<'a, S: ServiceBound, K: Served> Watcher for Delays<'a, S, K> {
+    ghost knows = { λ w cap ticks. IsLeast (λ d. DelayedBelow cap (S.floor w.service.now) w.window d ticks) w.delay };
+
+    ghost ends = { λ w cap. (d : ℕ) → d ≤ LONGEST_WINDOW → ¬ DelayBounded cap (S.floor w.service.now) w.window d };
+
+    /// In one look where the delay is enough. What is behind the window asks for none.
+    #[inline(always)]
+    fn see(&mut self, ticks: u32, until: u32, most: u64) -> bool {
+        let before = ticks - 1;
+        let from = before + self.delay;
+        if self.service.at_least(from) >= most {
+            return true;
+        }
+        if ticks > self.window {
+            return true;
+        }
+        match least_ticks(self.service, most, from, before + LONGEST_WINDOW) {
+            None => return false,
+            Some(served) => self.delay = served - before,
+        }
+        true
+    }
+}
+
+/// The least window that closes, once it is found.
+#[derive(Drop)]
+struct Closing<'a, S: ServiceBound, K: Served> {
+    service: &'a S,
+    found: u32,
+    of: PhantomData<K>,
+    ghost floor_is: { S.floor service.now ≡ K.floor },
+}
+
+impl<'a, S: ServiceBound, K: Served> Watcher for Closing<'a, S, K> {
+    ghost knows = { λ w cap ticks. (v : ℕ) → 1 ≤ v → v < ticks → ¬ Closes cap (S.floor w.service.now) v };
+
+    ghost ends = { λ w cap. (w.found ≤ LONGEST_WINDOW) × IsLeast (ClosesWithin cap (S.floor w.service.now)) w.found };
+
+    #[inline(always)]
+    fn see(&mut self, ticks: u32, until: u32, most: u64) -> bool {
+        if let Some(served) = least_ticks(self.service, most, ticks - 1, until - 2) {
+            self.found = served + 1;
+            return false;
+        }
+        true
+    }
 }
 
 /// The least number of ticks from `from` to `to`, at most the longest span, that hold at least `count` visits; `None`

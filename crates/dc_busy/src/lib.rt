@@ -10,14 +10,18 @@ ghost use Rattle.std.specs.Prelude.{◌≤◌, ◌↔◌, MatchOption, IsTrue};
 ghost use Rattle.dc_busy.specs.BusyWindow.{Closes, BacklogAt, BacklogBounded, DelayAt, DelayBounded, IsLeastFailing, QueueBacklog, QueueDelay, QueueEmpties, QueueInTime};
 ghost use Rattle.dc_busy.specs.declared.limits.TheConstants.{LONGEST_WINDOW};
 
+mod asked;
 mod between;
+mod first;
 mod least;
 mod limits;
 
 pub use between::failures_between;
 use dc_bound::{ArrivalBound, ServiceBound};
+use first::{first_overdue, first_overfull};
 pub use least::{least_delay, least_window, most_backlog};
 pub use limits::LONGEST_WINDOW;
+use std::marker::Brand;
 
 /// Whether a window closes: at least as many visits in its ticks but the first as may come in all of them. `window` is
 /// 1 to [`LONGEST_WINDOW`].
@@ -42,18 +46,7 @@ pub fn backlog_fails<A: ArrivalBound, S: ServiceBound>(
     ensures { MatchOption result (BacklogBounded (A.cap arrivals.now) (S.floor service.now) window backlog)
         (λ w. IsLeastFailing (BacklogAt (A.cap arrivals.now) (S.floor service.now) backlog) window w) }
 {
-    let mut ticks = 1;
-    while ticks <= window {
-        let (most, jump) = arrivals.at_most_and_jump(ticks);
-        if most.saturating_sub(service.at_least(ticks.saturating_sub(2))) > backlog {
-            return Some(ticks);
-        }
-        match jump {
-            None => return None,
-            Some(jump) => ticks = jump,
-        }
-    }
-    None
+    first_overfull::<A, S, Brand>(arrivals, service, window, backlog)
 }
 
 /// The first number of ticks up to `window`, 1 to [`LONGEST_WINDOW`], in which more may come than is visited in as many
@@ -70,18 +63,7 @@ pub fn delay_fails<A: ArrivalBound, S: ServiceBound>(
     ensures { MatchOption result (DelayBounded (A.cap arrivals.now) (S.floor service.now) window delay)
         (λ w. IsLeastFailing (DelayAt (A.cap arrivals.now) (S.floor service.now) delay) window w) }
 {
-    let mut ticks = 1;
-    while ticks <= window {
-        let (most, jump) = arrivals.at_most_and_jump(ticks);
-        if most > service.at_least(ticks - 1 + delay) {
-            return Some(ticks);
-        }
-        match jump {
-            None => return None,
-            Some(jump) => ticks = jump,
-        }
-    }
-    None
+    first_overdue::<A, S, Brand>(arrivals, service, window, delay)
 }
 
 /// What `backlog_fails` and `delay_fails` find, by one walk. `window` is 1 to [`LONGEST_WINDOW`],

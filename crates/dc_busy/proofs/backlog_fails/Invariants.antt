@@ -1,9 +1,4 @@
-use Rattle.std.proofs.Common.{ℕ, ◌+◌, ◌-◌, ◌<◌, ◌≤◌}
-use Rattle.dc_busy.specs.BusyWindow.{BacklogAt}
 use Rattle.dc_busy.proofs.backlog_fails.Given as goal
 
-abbrev pub invariant-loop-ticks : goal.invariant-loop-ticks
-invariant-loop-ticks g l = (1 ≤ l.ticks) × ((v : ℕ) → 1 ≤ v → v < l.ticks → BacklogAt (g.A.ArrivalBound.cap l.arrivals) (g.S.ServiceBound.floor l.service) l.backlog v)
-
-abbrev pub decreases-loop-ticks : goal.decreases-loop-ticks
-decreases-loop-ticks g l = l.window + 1 - l.ticks
+abbrev pub ghosts-first_overfull : goal.ghosts-first_overfull
+ghosts-first_overfull g a = record { floor = g.S.ServiceBound.floor a.service.now; first = 1; backlog = a.backlog; delay = 0 }

@@ -1,9 +1,4 @@
-use Rattle.std.proofs.Common.{ℕ, ◌+◌, ◌-◌, ◌<◌, ◌≤◌}
-use Rattle.dc_busy.specs.BusyWindow.{DelayAt}
 use Rattle.dc_busy.proofs.delay_fails.Given as goal
 
-abbrev pub invariant-loop-ticks : goal.invariant-loop-ticks
-invariant-loop-ticks g l = (1 ≤ l.ticks) × ((v : ℕ) → 1 ≤ v → v < l.ticks → DelayAt (g.A.ArrivalBound.cap l.arrivals) (g.S.ServiceBound.floor l.service) l.delay v)
-
-abbrev pub decreases-loop-ticks : goal.decreases-loop-ticks
-decreases-loop-ticks g l = l.window + 1 - l.ticks
+abbrev pub ghosts-first_overdue : goal.ghosts-first_overdue
+ghosts-first_overdue g a = record { floor = g.S.ServiceBound.floor a.service.now; first = 1; backlog = 0; delay = a.delay }

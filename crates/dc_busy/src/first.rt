@@ -1,0 +1,117 @@
+//! The first window that fails one of the two tests, by a walk along the jumps of the arrival bound.
+
+ghost use Rattle.std.specs.Prelude.{◌≡◌, ℕ, ◌≤◌, MatchOption};
+ghost use Rattle.dc_busy.specs.BusyWindow.{BacklogAt, BacklogBounded, DelayAt, DelayBounded, IsLeastFailing};
+ghost use Rattle.dc_busy.specs.Watched.{EachBelow, IsFound};
+ghost use Rattle.dc_busy.specs.declared.limits.TheConstants.{LONGEST_WINDOW};
+
+use crate::asked::Asked;
+use crate::between::up_to;
+use dc_bound::{ArrivalBound, ServiceBound, Watcher};
+use std::marker::PhantomData;
+
+/// What [`crate::backlog_fails`] finds, where what is asked is known by a type.
+pub(crate) fn first_overfull<A: ArrivalBound, S: ServiceBound, K: Asked>(
+    arrivals: &A,
+    service: &S,
+    window: u32,
+    backlog: u64,
+) -> Option<u32>
+    requires least { 1 ≤ window }
+    requires most { window ≤ LONGEST_WINDOW }
+    requires floor_is { S.floor service.now ≡ K.floor }
+    requires backlog_is { backlog ≡ K.backlog }
+    ensures { MatchOption result (BacklogBounded (A.cap arrivals.now) K.floor window K.backlog)
+        (λ w. IsLeastFailing (BacklogAt (A.cap arrivals.now) K.floor K.backlog) window w) }
+{
+    let mut watcher: Overfull<S, K> = Overfull {
+        service,
+        backlog,
+        found: None,
+        of: PhantomData,
+    };
+    if arrivals.walk(1, window, &mut watcher) {
+        return None;
+    }
+    up_to(window, watcher.found)
+}
+
+/// What [`crate::delay_fails`] finds, where what is asked is known by a type.
+pub(crate) fn first_overdue<A: ArrivalBound, S: ServiceBound, K: Asked>(
+    arrivals: &A,
+    service: &S,
+    window: u32,
+    delay: u32,
+) -> Option<u32>
+    requires least { 1 ≤ window }
+    requires most { window ≤ LONGEST_WINDOW }
+    requires short { delay ≤ LONGEST_WINDOW }
+    requires floor_is { S.floor service.now ≡ K.floor }
+    requires delay_is { delay ≡ K.delay }
+    ensures { MatchOption result (DelayBounded (A.cap arrivals.now) K.floor window K.delay)
+        (λ w. IsLeastFailing (DelayAt (A.cap arrivals.now) K.floor K.delay) window w) }
+{
+    let mut watcher: Overdue<S, K> = Overdue {
+        service,
+        delay,
+        found: None,
+        of: PhantomData,
+    };
+    if arrivals.walk(1, window, &mut watcher) {
+        return None;
+    }
+    up_to(window, watcher.found)
+}
+
+/// Looks for the first window in which more than the backlog may wait.
+#[derive(Drop)]
+struct Overfull<'a, S: ServiceBound, K: Asked> {
+    service: &'a S,
+    backlog: u64,
+    found: Option<u32>,
+    of: PhantomData<K>,
+    ghost floor_is: { S.floor service.now ≡ K.floor },
+    ghost backlog_is: { backlog ≡ K.backlog },
+}
+
+impl<'a, S: ServiceBound, K: Asked> Watcher for Overfull<'a, S, K> {
+    ghost knows = { λ w cap ticks. EachBelow (BacklogAt cap (S.floor w.service.now) w.backlog) 1 ticks };
+
+    ghost ends = { λ w cap. IsFound (BacklogAt cap (S.floor w.service.now) w.backlog) 1 w.found };
+
+    #[inline(always)]
+    fn see(&mut self, ticks: u32, until: u32, most: u64) -> bool {
+        if most.saturating_sub(self.service.at_least(ticks.saturating_sub(2))) > self.backlog {
+            self.found = Some(ticks);
+            return false;
+        }
+        true
+    }
+}
+
+/// Looks for the first window in which more may come than is taken in time.
+#[derive(Drop)]
+struct Overdue<'a, S: ServiceBound, K: Asked> {
+    service: &'a S,
+    delay: u32,
+    found: Option<u32>,
+    of: PhantomData<K>,
+    ghost short: { delay ≤ LONGEST_WINDOW },
+    ghost floor_is: { S.floor service.now ≡ K.floor },
+    ghost delay_is: { delay ≡ K.delay },
+}
+
+impl<'a, S: ServiceBound, K: Asked> Watcher for Overdue<'a, S, K> {
+    ghost knows = { λ w cap ticks. EachBelow (DelayAt cap (S.floor w.service.now) w.delay) 1 ticks };
+
+    ghost ends = { λ w cap. IsFound (DelayAt cap (S.floor w.service.now) w.delay) 1 w.found };
+
+    #[inline(always)]
+    fn see(&mut self, ticks: u32, until: u32, most: u64) -> bool {
+        if most > self.service.at_least(ticks - 1 + self.delay) {
+            self.found = Some(ticks);
+            return false;
+        }
+        true
+    }
+}
