@@ -15,43 +15,45 @@ use Rattle.dc_bound.specs.Rounds.{fewest_visits}
 use Rattle.dc_bound.specs.Frame.{Offsets, cyclic_cap}
 use Rattle.dc_bound.specs.declared.alike.Alike.{Alike}
 use Rattle.dc_bound.specs.declared.jitter.Jittered.{Jittered}
-use Rattle.dc_tables.specs.Bounds.{AreBounds, AreBoundsOf, alike_cap, jittered_cap, frame_offsets}
+use Rattle.dc_tables.specs.KeptOfBuses.{AreKept, IsKept}
+use Rattle.dc_tables.specs.declared.alike.BusKept.{BusKept}
+use Rattle.dc_tables.specs.Bounds.{AreBoundsOf, alike_cap, jittered_cap, frame_offsets}
 use Rattle.dc_tables.specs.TableRows.{TableRows, AreValid, bus_row, router_row, output_row, entry_row, stream_cap, streams_cap, is_policed, bus_cap, bus_floor, output_cap, offsets}
 use Rattle.dc_tables.specs.declared.rows.Router.{Router}
 use Rattle.dc_tables.specs.declared.rows.Bus.{Bus}
 use Rattle.dc_tables.specs.declared.rows.Output.{Output}
 use Rattle.dc_tables.specs.declared.rows.Stream.{Stream}
 
--- the bounds of one more bus
-bounds_next : (all : List (List Alike)) (own : List Alike) (buses : List Bus) (streams : List Stream) (i : ℕ) (row : Bus) → i < length buses → row ≡ get_or buses i row → AreBounds all (take i buses) streams
-    → AreBoundsOf own (take row.streams (drop row.first streams)) → AreBounds (all ++ (own ∷ [])) (take (suc i) buses) streams
-bounds_next all own [] streams i row h e past here = absurd (omega arith)
-bounds_next [] own (r ∷ rows) streams zero row h e past here =
-    (let P : Bus → Type 0 = λ r. AreBoundsOf own (take r.streams (drop r.first streams)) in subst P e here, tt)
-bounds_next (x ∷ all) own (r ∷ rows) streams zero row h e past here = absurd past
-bounds_next [] own (r ∷ rows) streams (suc i) row h e past here = absurd past
-bounds_next (x ∷ all) own (r ∷ rows) streams (suc i) row h e past here = (past.0, bounds_next all own rows streams i row (omega arith) e past.1 here)
+-- what is kept of one more bus
+kept_next : (all : List BusKept) (own : BusKept) (buses : List Bus) (streams : List Stream) (i : ℕ) (row : Bus) → i < length buses → row ≡ get_or buses i row → AreKept all (take i buses) streams
+    → IsKept own (take row.streams (drop row.first streams)) → AreKept (all ++ (own ∷ [])) (take (suc i) buses) streams
+kept_next all own [] streams i row h e past here = absurd (omega arith)
+kept_next [] own (r ∷ rows) streams zero row h e past here =
+    (let P : Bus → Type 0 = λ r. IsKept own (take r.streams (drop r.first streams)) in subst P e here, tt)
+kept_next (x ∷ all) own (r ∷ rows) streams zero row h e past here = absurd past
+kept_next [] own (r ∷ rows) streams (suc i) row h e past here = absurd past
+kept_next (x ∷ all) own (r ∷ rows) streams (suc i) row h e past here = (past.0, kept_next all own rows streams i row (omega arith) e past.1 here)
 
-pub bounds_more : (all : List (List Alike)) (own : List Alike) (buses : List Bus) (streams : List Stream) (i : ℕ) (row : Bus) → i < length buses → row ≡ get_or buses i row → AreBounds all (take i buses) streams
-    → AreBoundsOf own (take row.streams (drop row.first streams)) → AreBounds (all ++ (own ∷ [])) (take (i + 1) buses) streams
-bounds_more all own buses streams i row h e past here = rw add-one (bounds_next all own buses streams i row h e past here)
+pub kept_more : (all : List BusKept) (own : BusKept) (buses : List Bus) (streams : List Stream) (i : ℕ) (row : Bus) → i < length buses → row ≡ get_or buses i row → AreKept all (take i buses) streams
+    → IsKept own (take row.streams (drop row.first streams)) → AreKept (all ++ (own ∷ [])) (take (i + 1) buses) streams
+kept_more all own buses streams i row h e past here = rw add-one (kept_next all own buses streams i row h e past here)
 
-pub bounds_length : (all : List (List Alike)) (buses : List Bus) (streams : List Stream) → AreBounds all buses streams → length all ≡ length buses
-bounds_length [] [] streams h = refl
-bounds_length [] (row ∷ rows) streams h = absurd h
-bounds_length (own ∷ all) [] streams h = absurd h
-bounds_length (own ∷ all) (row ∷ rows) streams h = omega (arith, bounds_length all rows streams h.1)
+pub kept_length : (all : List BusKept) (buses : List Bus) (streams : List Stream) → AreKept all buses streams → length all ≡ length buses
+kept_length [] [] streams h = refl
+kept_length [] (row ∷ rows) streams h = absurd h
+kept_length (own ∷ all) [] streams h = absurd h
+kept_length (own ∷ all) (row ∷ rows) streams h = omega (arith, kept_length all rows streams h.1)
 
--- the bounds of a bus that were read
-pub bounds_read : (all : List (List Alike)) (buses : List Bus) (streams : List Stream) (b : ℕ) (own : List Alike) (row : Bus) → AreBounds all buses streams → b < length buses → own ≡ get_or all b own → row ≡ get_or buses b row
-    → AreBoundsOf own (take row.streams (drop row.first streams))
-bounds_read all [] streams b own row h there mine its = absurd (omega arith)
-bounds_read [] (r ∷ rows) streams b own row h there mine its = absurd h
-bounds_read (x ∷ all) (r ∷ rows) streams zero own row h there mine its =
-    (let P : List Alike → Type 0 = λ l. AreBoundsOf l (take row.streams (drop row.first streams)) in
-    let Q : Bus → Type 0 = λ r. AreBoundsOf x (take r.streams (drop r.first streams)) in
+-- what is kept of a bus, read
+pub kept_read : (all : List BusKept) (buses : List Bus) (streams : List Stream) (b : ℕ) (own : BusKept) (row : Bus) → AreKept all buses streams → b < length buses → own ≡ get_or all b own → row ≡ get_or buses b row
+    → IsKept own (take row.streams (drop row.first streams))
+kept_read all [] streams b own row h there mine its = absurd (omega arith)
+kept_read [] (r ∷ rows) streams b own row h there mine its = absurd h
+kept_read (x ∷ all) (r ∷ rows) streams zero own row h there mine its =
+    (let P : BusKept → Type 0 = λ l. IsKept l (take row.streams (drop row.first streams)) in
+    let Q : Bus → Type 0 = λ r. IsKept x (take r.streams (drop r.first streams)) in
     subst P (sym mine) (subst Q (sym its) h.0))
-bounds_read (x ∷ all) (r ∷ rows) streams (suc b) own row h there mine its = bounds_read all rows streams b own row h.1 (omega arith) mine its
+kept_read (x ∷ all) (r ∷ rows) streams (suc b) own row h there mine its = kept_read all rows streams b own row h.1 (omega arith) mine its
 
 -- one more of so many equal numbers
 pub one_more_times : (n k c : ℕ) → k ≤ n → (n + 1 - k) * c ≡ (n - k) * c + c
@@ -157,6 +159,13 @@ streams_inside t valid = λ k z h.
     let none : Bus = record { queue = 0; police = false; spacing = 0; first = 0; streams = 0; router = 0 } in
     let P : Bus → Type 0 = λ b. b.first + b.streams ≤ length t.streams in
     subst P (sym (get_or_read t.buses k (get_or t.buses k z) h (same_read t.buses k z h) none)) (valid.streams_there k h)
+
+-- and few of them
+pub members_few : (t : TableRows) → AreValid t → All (λ (b : Bus). b.streams ≤ 256) t.buses
+members_few t valid = λ k z h.
+    let none : Bus = record { queue = 0; police = false; spacing = 0; first = 0; streams = 0; router = 0 } in
+    let P : Bus → Type 0 = λ b. b.streams ≤ 256 in
+    subst P (sym (get_or_read t.buses k (get_or t.buses k z) h (same_read t.buses k z h) none)) (valid.few_bus_streams k h)
 
 -- the bound made of the rows is the output's
 pub output_is : (t : TableRows) (o d : ℕ) (own : List ℕ) (row : Output) → own ≡ offsets t o → row ≡ output_row t o → cyclic_cap row.frame own d ≡ output_cap t o d

@@ -1,2 +1,3 @@
 pub mod BoundsMade
 pub mod Parted
+pub mod Placed

@@ -1,10 +1,9 @@
 -- Rows that were made, and what tables keep beside them for the bounds of buses and outputs.
-use Rattle.std.specs.Prelude.{◌≡◌, ℕ, ◌*◌, List, map, take, drop}
-use Rattle.std.specs.List.{AllZip, sum_by}
+use Rattle.std.specs.Prelude.{◌≡◌, ℕ, ◌*◌, List, map}
+use Rattle.std.specs.List.{sum_by}
 use Rattle.dc_bound.specs.Early.{jitter_cap}
 use Rattle.dc_bound.specs.declared.jitter.Jittered.{Jittered}
 use Rattle.dc_bound.specs.declared.alike.Alike.{Alike}
-use Rattle.dc_tables.specs.declared.rows.Bus.{Bus}
 use Rattle.dc_tables.specs.declared.rows.Stream.{Stream}
 use Rattle.dc_tables.specs.declared.rows.Output.{Output}
 use Rattle.dc_tables.specs.declared.made.Rows.{Rows}
@@ -23,10 +22,6 @@ alike_cap d bound = bound.sources * jittered_cap d bound.each
 -- these bounds together are those of the streams, for any number of ticks
 abbrev pub AreBoundsOf : List Alike → List Stream → Type 0
 AreBoundsOf bounds streams = (d : ℕ) → sum_by (alike_cap d) bounds ≡ sum_by (stream_cap d) streams
-
--- those of each bus are its streams'
-abbrev pub AreBounds : List (List Alike) → List Bus → List Stream → Type 0
-AreBounds bounds buses streams = AllZip (λ own row. AreBoundsOf own (take row.streams (drop row.first streams))) bounds buses
 
 -- the offsets of each output's entries
 abbrev pub frame_offsets : List Output → List (List ℕ)

@@ -4,3 +4,5 @@ pub mod TableRows
 pub mod Named
 pub mod Bounds
 pub mod Declares
+pub mod Places
+pub mod KeptOfBuses

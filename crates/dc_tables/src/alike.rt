@@ -1,12 +1,15 @@
-//! The bounds of a bus's streams, with how many streams each stands for: their caps sum up to those of the streams.
+//! What is kept of each bus: the bounds of its streams, with how many streams each stands for, and where they stand.
+//! The caps of the bounds sum up to those of the streams.
 ghost use Rattle.std.specs.Prelude.{All, ◌≡◌, ◌+◌, ◌-◌, ◌*◌, ◌≤◌, ◌↔◌, ℕ, true, take, length, IfOk};
 ghost use Rattle.std.specs.List.{sum_by};
 ghost use Rattle.dc_tables.specs.TableRows.{stream_cap};
-ghost use Rattle.dc_tables.specs.Bounds.{AreBounds, AreBoundsOf, jittered_cap, alike_cap};
+ghost use Rattle.dc_tables.specs.Bounds.{AreBoundsOf, jittered_cap, alike_cap};
+ghost use Rattle.dc_tables.specs.KeptOfBuses.{AreKept};
 ghost use Rattle.dc_bound.specs.declared.limits.TheConstants.{WIDEST_JITTER};
-ghost use Rattle.dc_document.specs.declared.limits.TheConstants.{MOST_STREAMS};
+ghost use Rattle.dc_document.specs.declared.limits.TheConstants.{MOST_MEMBERS, MOST_STREAMS};
 
 use crate::bounds::piece;
+use crate::places::StreamPlaces;
 use crate::rows::{Bus, Stream};
 use dc_bound::{Alike, Jittered};
 use std::alloc::{AllocError, Global};
@@ -48,21 +51,31 @@ impl BusBounds {
     }
 }
 
-/// The bounds of the streams of each bus.
-pub(crate) fn bus_bounds(
+/// What is kept of a bus: the bounds of its streams, and where they stand.
+#[derive(Drop)]
+pub(crate) struct BusKept {
+    pub bounds: BusBounds,
+    pub places: StreamPlaces,
+}
+
+/// What is kept of each bus.
+pub(crate) fn kept_of_buses(
     alloc: Global,
     buses: &[Bus],
     streams: &[Stream],
-) -> Result<Vec<BusBounds>, AllocError>
+) -> Result<Vec<BusKept>, AllocError>
     requires few { length streams.now ≤ MOST_STREAMS }
     requires bounded { All (λ s. (1 ≤ s.minimum) × (s.jitter ≤ WIDEST_JITTER)) streams.now }
     requires there { All (λ b. b.first + b.streams ≤ length streams.now) buses.now }
-    ensures { IfOk result (λ v. AreBounds v.items buses.now streams.now) }
+    requires members { All (λ b. b.streams ≤ MOST_MEMBERS) buses.now }
+    ensures { IfOk result (λ v. AreKept v.items buses.now streams.now) }
 {
     let mut rows = Vec::new(alloc);
     for bus in buses {
         let own = piece(streams, bus.first, bus.streams);
-        rows.push(BusBounds::of(alloc, own)?)?;
+        let places = StreamPlaces::of(own);
+        let bounds = BusBounds::of(alloc, own)?;
+        rows.push(BusKept { bounds, places })?;
     }
     Ok(rows)
 }

@@ -5,6 +5,7 @@ mod alike;
 mod bounds;
 mod index;
 mod made;
+mod places;
 mod rows;
 mod tables;
 

@@ -1,10 +1,11 @@
 //! The rows of tables, and what is kept beside them.
 ghost use Rattle.std.specs.Prelude.{All, ◌≡◌, ◌+◌, ◌≤◌, length, IfOk};
-ghost use Rattle.dc_tables.specs.Bounds.{AreBounds, frame_offsets};
+ghost use Rattle.dc_tables.specs.Bounds.{frame_offsets};
+ghost use Rattle.dc_tables.specs.KeptOfBuses.{AreKept};
 ghost use Rattle.dc_bound.specs.declared.limits.TheConstants.{WIDEST_JITTER};
-ghost use Rattle.dc_document.specs.declared.limits.TheConstants.{MOST_STREAMS};
+ghost use Rattle.dc_document.specs.declared.limits.TheConstants.{MOST_MEMBERS, MOST_STREAMS};
 
-use crate::alike::{BusBounds, bus_bounds};
+use crate::alike::{BusKept, kept_of_buses};
 use crate::bounds::{FrameOffsets, output_offsets};
 use crate::rows::{Bus, Output, OutputLabel, Router, Stream};
 use std::alloc::{AllocError, Global};
@@ -27,7 +28,7 @@ pub struct Rows {
 /// What tables keep beside their rows.
 #[derive(Drop)]
 pub(crate) struct Kept {
-    pub bounds: Vec<BusBounds>,
+    pub buses: Vec<BusKept>,
     pub offsets: Vec<FrameOffsets>,
 }
 
@@ -36,10 +37,11 @@ pub(crate) fn make_kept(alloc: Global, rows: &Rows) -> Result<Kept, AllocError>
     requires few { length rows.now.streams.items ≤ MOST_STREAMS }
     requires bounded { All (λ s. (1 ≤ s.minimum) × (s.jitter ≤ WIDEST_JITTER)) rows.now.streams.items }
     requires there { All (λ b. b.first + b.streams ≤ length rows.now.streams.items) rows.now.buses.items }
-    ensures bounds { IfOk result (λ k. AreBounds k.bounds.items rows.now.buses.items rows.now.streams.items) }
+    requires members { All (λ b. b.streams ≤ MOST_MEMBERS) rows.now.buses.items }
+    ensures buses { IfOk result (λ k. AreKept k.buses.items rows.now.buses.items rows.now.streams.items) }
     ensures offsets { IfOk result (λ k. k.offsets.items ≡ frame_offsets rows.now.outputs.items) }
 {
-    let bounds = bus_bounds(alloc, &rows.buses, &rows.streams)?;
+    let buses = kept_of_buses(alloc, &rows.buses, &rows.streams)?;
     let offsets = output_offsets(alloc, &rows.outputs)?;
-    Ok(Kept { bounds, offsets })
+    Ok(Kept { buses, offsets })
 }

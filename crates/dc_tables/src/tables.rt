@@ -1,13 +1,15 @@
 //! Valid tables.
 
-ghost use Rattle.std.specs.Prelude.{◌≡◌, ◌+◌, ◌%◌, ◌<◌, length, position, IfSome};
+ghost use Rattle.std.specs.Prelude.{All, ◌≡◌, ◌+◌, ◌%◌, ◌<◌, length, position, IfSome};
 ghost use Rattle.dc_tables.specs.TableRows.{visited, bus_row, router_row, bus_streams};
 ghost use Rattle.dc_tables.specs.Declares.{declares, stream_of, fits};
+ghost use Rattle.dc_tables.specs.Places.{AreFirst};
 
-use crate::alike::BusBounds;
+use crate::alike::BusKept;
 use crate::bounds::{FrameOffsets, piece, wire_of};
 use crate::index::Names;
 use crate::made::{Rows, make_kept};
+use crate::places::StreamPlaces;
 use crate::rows::{Bus, Output, OutputLabel, Router, Stream};
 use dc_bound::{Alike, ArrivalBound, Capped, Cyclic, Paced, ServiceBound, SumOf, Visits};
 use dc_document::Name;
@@ -21,21 +23,22 @@ pub struct Tables {
     tick_us: u32,
     rows: Rows,
     names: Names,
-    bounds: Vec<BusBounds>,
+    kept: Vec<BusKept>,
     offsets: Vec<FrameOffsets>,
 }
 
 impl Model for Tables {
     ghost use Rattle.std.specs.Prelude.{◌≡◌};
     ghost use Rattle.dc_tables.specs.TableRows.{TableRows};
-    ghost use Rattle.dc_tables.specs.Bounds.{AreBounds, frame_offsets, table_names, table_rows};
+    ghost use Rattle.dc_tables.specs.Bounds.{frame_offsets, table_names, table_rows};
+    ghost use Rattle.dc_tables.specs.KeptOfBuses.{AreKept};
     ghost use Rattle.dc_tables.specs.Named.{AreSound};
 
     ghost Value = { TableRows };
 
     ghost view = { λ t. table_rows t.tick_us (table_names t.names) t.rows };
 
-    ghost invariant = { λ t. AreBounds t.bounds.items t.rows.buses.items t.rows.streams.items × (t.offsets.items ≡ frame_offsets t.rows.outputs.items)
+    ghost invariant = { λ t. AreKept t.kept.items t.rows.buses.items t.rows.streams.items × (t.offsets.items ≡ frame_offsets t.rows.outputs.items)
         × AreSound (table_rows t.tick_us (table_names t.names) t.rows) };
 }
 
@@ -56,7 +59,7 @@ impl Tables {
             tick_us,
             rows,
             names,
-            bounds: kept.bounds,
+            kept: kept.buses,
             offsets: kept.offsets,
         })
     }
@@ -261,7 +264,7 @@ impl Tables {
         ensures { (d : ℕ) → ⟦<Capped<SumOf<'static, Alike>> as ArrivalBound>⟧.cap result d ≡ bus_cap self.now bus d }
     {
         let row = &self.rows.buses[bus];
-        let streams = SumOf::new(0, self.bounds[bus].as_slice());
+        let streams = SumOf::new(0, self.kept[bus].bounds.as_slice());
         Capped::new(streams, wire_of(self.tick_us, row))
     }
 
@@ -320,6 +323,7 @@ impl Tables {
     }
 
     /// The number of the stream of the bus that declares the word; a bus that is not there has none.
+    #[inline]
     pub fn stream_of(&self, bus: usize, word: Word) -> Option<usize>
         ensures stream { result ≡ stream_of self.now bus word }
         ensures there { IfSome result (λ s. s < length self.now.streams) }
@@ -328,21 +332,29 @@ impl Tables {
         if self.bus_count() <= bus {
             return None;
         }
-        let at = declaring(self.bus_streams(bus), bus, word)?;
+        let at = declaring(self.bus_streams(bus), &self.kept[bus].places, bus, word)?;
         Some(self.bus(bus).first + at)
     }
 }
 
-/// The first of the streams that is of the bus and declares the word.
-fn declaring(streams: &[Stream], bus: usize, word: Word) -> Option<usize>
+/// The first of the streams that is of the bus and declares the word: the one at its place, or none.
+#[inline]
+fn declaring(streams: &[Stream], places: &StreamPlaces, bus: usize, word: Word) -> Option<usize>
+    requires placed { AreFirst places.now.places streams.now 0 }
+    requires own { All (λ s. s.bus ≡ bus) streams.now }
     ensures first { result ≡ position (declares bus word) streams.now }
     ensures there { IfSome result (λ k. k < length streams.now) }
 {
-    streams.iter().position(|stream| stream.declares(bus, word))
+    let at = places.of_word(word);
+    if at < streams.len() && streams[at].declares(bus, word) {
+        return Some(at);
+    }
+    None
 }
 
 impl Stream {
     /// Whether the stream is of the bus and declares the word's label and SDI.
+    #[inline]
     pub fn declares(&self, bus: usize, word: Word) -> bool
         ensures { result ≡ declares bus word self.now }
     {
@@ -353,6 +365,7 @@ impl Stream {
 }
 
 /// Whether a stream that declares this SDI, or any, takes words of that one.
+#[inline]
 fn fits_sdi(declared: Option<Sdi>, sdi: u32) -> bool
     ensures { result ≡ fits declared sdi }
 {
