@@ -10,4 +10,5 @@ pub mod TraceSteps
 pub mod TraceNext
 mod HexValues
 mod FoundNames
+mod LongKeys
 mod LinesAhead

@@ -1,5 +1,5 @@
 -- Lines that stand whole among bytes.
-use Rattle.std.proofs.Common.{◌≡◌, ◌≢◌, ℕ, ◌+◌, ◌-◌, ◌*◌, ◌<◌, ◌≤◌, ◌==◌, List, [], ◌∷◌, ◌++◌, length, length-append, length-take, length-drop, take, take_all, drop, get_or, get_or-drop, take-append-drop, append_assoc, refl, sym, ap, subst, ◌∙◌, arith, Option, Some, None, Ok, option_and_then, false}
+use Rattle.std.proofs.Common.{◌≡◌, ◌≢◌, ℕ, ◌+◌, ◌-◌, ◌*◌, ◌<◌, ◌≤◌, ◌==◌, List, [], ◌∷◌, ◌++◌, length, length-append, length-take, length-drop, take, take_all, drop, get_or, take-append-drop, append_assoc, refl, sym, ap, ◌∙◌, arith, Option, Some, None, Ok, option_and_then, false}
 use Rattle.std.proofs.lemmas.Bool.Decides.{nat_tests}
 use Rattle.std.proofs.lemmas.List.{drop_more}
 use Rattle.dc_word.specs.Digits.{digit_in}
@@ -7,7 +7,8 @@ use Rattle.dc_device.specs.Lines.{Held, NoFeed}
 use Rattle.dc_device.specs.lemmas.LineLemmas.{NoFeed-append}
 use Rattle.dc_tables.specs.TableRows.{TableRows}
 use Rattle.dc_event.specs.Ahead.{HoldsEvent, StartsWithLine}
-use Rattle.dc_event.specs.Names.{AreLetters, StartsWithName}
+use Rattle.dc_event.specs.LongNames.{StartsWithAnyName}
+use Rattle.dc_event.specs.Names.{AreLetters}
 use Rattle.dc_event.specs.TraceText.{fields_of, line_event, number_named}
 use Rattle.dc_event.specs.WordText.{number_behind, word_of}
 use Rattle.dc_event.specs.declared.event.Event.{Event}
@@ -124,7 +125,7 @@ starts_tick t held p first second =
 -- a kind and a name alone in a line
 named_line : (t : TableRows) (names : List (List ℕ)) (held text : List ℕ) (kind number letters : ℕ) (event : Event) → kind ≢ 10 → 2 ≤ length held
     → get_or held 0 0 ≡ kind → get_or held 1 0 ≡ 32 → text ≡ drop 2 held
-    → StartsWithName names text number letters → get_or text letters 0 ≡ 10
+    → StartsWithAnyName names text number letters → get_or text letters 0 ≡ 10
     → line_event t (kind ∷ 32 ∷ take letters text) ≡ Ok event
     → StartsWithLine t held event (letters + 3)
 named_line t names held text kind number letters event other p first second rest (within, few, plain, named) feed says =
@@ -139,13 +140,13 @@ named_line t names held text kind number letters event other p first second rest
     )
 
 pub starts_route : (t : TableRows) (held text : List ℕ) (router letters : ℕ) → 2 ≤ length held → get_or held 0 0 ≡ 82 → get_or held 1 0 ≡ 32 → text ≡ drop 2 held
-    → StartsWithName t.names.routers text router letters → get_or text letters 0 ≡ 10 → StartsWithLine t held (Route router) (letters + 3)
+    → StartsWithAnyName t.names.routers text router letters → get_or text letters 0 ≡ 10 → StartsWithLine t held (Route router) (letters + 3)
 starts_route t held text router letters p first second rest starts feed =
     named_line t t.names.routers held text 82 router letters (Route router) (omega arith) p first second rest starts feed
     (route_event t (take letters text) router (letters_no_space (take letters text) starts.2) starts.3)
 
 pub starts_send : (t : TableRows) (held text : List ℕ) (output letters : ℕ) → 2 ≤ length held → get_or held 0 0 ≡ 83 → get_or held 1 0 ≡ 32 → text ≡ drop 2 held
-    → StartsWithName t.names.outputs text output letters → get_or text letters 0 ≡ 10 → StartsWithLine t held (Send output) (letters + 3)
+    → StartsWithAnyName t.names.outputs text output letters → get_or text letters 0 ≡ 10 → StartsWithLine t held (Send output) (letters + 3)
 starts_send t held text output letters p first second rest starts feed =
     named_line t t.names.outputs held text 83 output letters (Send output) (omega arith) p first second rest starts feed
     (send_event t (take letters text) output (letters_no_space (take letters text) starts.2) starts.3)
@@ -160,7 +161,7 @@ word_split (c ∷ cs) word (long, space, is, feed) =
     ap (λ (n : ℕ). n ∷ cs) space ∙ ap (λ (l : List ℕ). 32 ∷ l) (split_at cs 8 10 (omega arith) feed)
 
 pub starts_arrival : (t : TableRows) (held text behind : List ℕ) (bus word letters : ℕ) → 2 ≤ length held → get_or held 0 0 ≡ 65 → get_or held 1 0 ≡ 32 → text ≡ drop 2 held
-    → StartsWithName t.names.buses text bus letters → behind ≡ drop letters text → StartsWithWord behind word
+    → StartsWithAnyName t.names.buses text bus letters → behind ≡ drop letters text → StartsWithWord behind word
     → StartsWithLine t held (Arrive word bus) (letters + 12)
 starts_arrival t held text behind bus word letters p first second rest (within, few, plain, named) back (long, space, reads, feed) =
     let name = take letters text in

@@ -21,6 +21,7 @@ pub mod ReplyText
 pub mod Reading
 pub mod ReadingFits
 pub mod Names
+pub mod LongNames
 pub mod Ahead
 -- lemmas that laws and crates above cite
 pub mod lemmas

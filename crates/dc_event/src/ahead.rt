@@ -44,7 +44,7 @@ fn route_ahead(names: &KnownNames, held: &[u8]) -> Option<(Event, usize)>
         return None;
     }
     let text = &held[2..];
-    let (router, letters) = names.router_ahead(text)?;
+    let (router, letters) = names.any_router_ahead(text)?;
     if text[letters] != b'\n' {
         return None;
     }
@@ -62,7 +62,7 @@ fn send_ahead(names: &KnownNames, held: &[u8]) -> Option<(Event, usize)>
         return None;
     }
     let text = &held[2..];
-    let (output, letters) = names.output_ahead(text)?;
+    let (output, letters) = names.any_output_ahead(text)?;
     if text[letters] != b'\n' {
         return None;
     }
@@ -80,13 +80,13 @@ fn arrival_ahead(names: &KnownNames, held: &[u8]) -> Option<(Event, usize)>
         return None;
     }
     let text = &held[2..];
-    let (bus, letters) = names.bus_ahead(text)?;
+    let (bus, letters) = names.any_bus_ahead(text)?;
     let word = word_ahead(&text[letters..])?;
     Some((Event::Arrive(word, bus), letters + 12))
 }
 
-/// The event of the line that the bytes begin with, where it is well formed and its name is short, and how many bytes
-/// it takes with its line feed.
+/// The event of the line that the bytes begin with, where it is well formed, and how many bytes it takes with its
+/// line feed.
 #[inline(always)]
 pub fn event_ahead(names: &KnownNames, held: &[u8]) -> Option<(Event, usize)>
     ensures { IfSome result (λ ahead. StartsWithLine names.now held.now ahead.0 ahead.1) }

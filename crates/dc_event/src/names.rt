@@ -1,16 +1,16 @@
 //! The names of tables, found by their letters.
 ghost use Rattle.std.specs.Prelude.{◌≡◌, ℕ, List, ◌<◌, ◌≤◌, length, take, IfSome};
+ghost use Rattle.dc_event.specs.LongNames.{AreNamesFound, StartsWithAnyName};
 ghost use Rattle.dc_event.specs.Names.{AreFound, AreLetters, IsFound, StartsWithName, key_of};
 ghost use Rattle.dc_event.specs.TraceText.{number_named};
 
 use crate::line::{bus_named, output_named, router_named};
+use crate::long_names::LongNames;
+use crate::places::{PLACES, first_place, next_place};
 use dc_tables::Tables;
 use std::marker::Model;
 
-/// How many places there are for the names of a kind: this project's own number.
-const PLACES: usize = 256;
-
-/// The most letters of a name that has a place: a byte of the key each.
+/// The most letters of a short name: a byte of the key each.
 const KEY_LETTERS: usize = 8;
 
 /// A place of no name. No name has this key.
@@ -21,22 +21,6 @@ const NO_NAME: Place = Place { key: 1, number: 0 };
 struct Place {
     key: u64,
     number: usize,
-}
-
-/// Where a key is looked for first.
-#[inline(always)]
-fn first_place(key: u64) -> usize
-    ensures { result < PLACES }
-{
-    (key.wrapping_mul(0x9E37_79B9_7F4A_7C15) / 0x0100_0000_0000_0000) as usize
-}
-
-/// Where a key is looked for that does not stand at its first place.
-#[inline(always)]
-fn next_place(first: usize) -> usize
-    ensures { result < PLACES }
-{
-    first.wrapping_add(1) % PLACES
 }
 
 /// The key of a name of letters, where the name is short.
@@ -143,64 +127,91 @@ impl ShortNames {
     }
 }
 
-/// The short names of the buses.
-fn short_buses(tables: &Tables) -> ShortNames
-    ensures { AreFound tables.now.names.buses result.places }
+/// The names of a kind, by how many letters they have.
+#[derive(Drop)]
+struct NamesOfKind {
+    short: ShortNames,
+    long: LongNames,
+}
+
+impl NamesOfKind {
+    /// No names.
+    fn new() -> Self
+        ensures { (names : List (List ℕ)) → AreNamesFound names result }
+    {
+        NamesOfKind {
+            short: ShortNames::new(),
+            long: LongNames::new(),
+        }
+    }
+
+    /// Puts a name of this number, if it has one.
+    fn learn(&mut self, name: &[u8], number: Option<usize>)
+        ensures { (names : List (List ℕ)) → AreNamesFound names self.old → number ≡ number_named names name.now → AreNamesFound names self.new }
+    {
+        self.short.learn(name, number);
+        self.long.learn(name, number);
+    }
+}
+
+/// The names of the buses.
+fn names_of_buses(tables: &Tables) -> NamesOfKind
+    ensures { AreNamesFound tables.now.names.buses result }
 {
     tables.named();
-    let mut short = ShortNames::new();
+    let mut names = NamesOfKind::new();
     for bus in 0..tables.bus_count() {
         let name = tables.bus_name(bus).text();
-        short.learn(name, bus_named(tables, name));
+        names.learn(name, bus_named(tables, name));
     }
-    short
+    names
 }
 
-/// The short names of the routers.
-fn short_routers(tables: &Tables) -> ShortNames
-    ensures { AreFound tables.now.names.routers result.places }
+/// The names of the routers.
+fn names_of_routers(tables: &Tables) -> NamesOfKind
+    ensures { AreNamesFound tables.now.names.routers result }
 {
     tables.named();
-    let mut short = ShortNames::new();
+    let mut names = NamesOfKind::new();
     for router in 0..tables.router_count() {
         let name = tables.router_name(router).text();
-        short.learn(name, router_named(tables, name));
+        names.learn(name, router_named(tables, name));
     }
-    short
+    names
 }
 
-/// The short names of the outputs.
-fn short_outputs(tables: &Tables) -> ShortNames
-    ensures { AreFound tables.now.names.outputs result.places }
+/// The names of the outputs.
+fn names_of_outputs(tables: &Tables) -> NamesOfKind
+    ensures { AreNamesFound tables.now.names.outputs result }
 {
     tables.named();
-    let mut short = ShortNames::new();
+    let mut names = NamesOfKind::new();
     for output in 0..tables.output_count() {
         let name = tables.output_name(output).text();
-        short.learn(name, output_named(tables, name));
+        names.learn(name, output_named(tables, name));
     }
-    short
+    names
 }
 
-/// Tables, and the short names of those that make steps. A clause sees the tables.
+/// Tables, and the names of those that make steps. A clause sees the tables.
 #[derive(Drop)]
 pub struct KnownNames<'t> {
     tables: &'t Tables,
-    buses: ShortNames,
-    routers: ShortNames,
-    outputs: ShortNames,
+    buses: NamesOfKind,
+    routers: NamesOfKind,
+    outputs: NamesOfKind,
 }
 
 impl<'t> Model for KnownNames<'t> {
     ghost use Rattle.dc_tables.specs.TableRows.{TableRows};
-    ghost use Rattle.dc_event.specs.Names.{AreFound};
+    ghost use Rattle.dc_event.specs.LongNames.{AreNamesFound};
 
     ghost Value = { TableRows };
 
     ghost view = { λ k. k.tables.now };
 
-    ghost invariant = { λ k. AreFound k.tables.now.names.buses k.buses.places × AreFound k.tables.now.names.routers k.routers.places
-        × AreFound k.tables.now.names.outputs k.outputs.places };
+    ghost invariant = { λ k. AreNamesFound k.tables.now.names.buses k.buses × AreNamesFound k.tables.now.names.routers k.routers
+        × AreNamesFound k.tables.now.names.outputs k.outputs };
 }
 
 impl<'t> KnownNames<'t> {
@@ -210,9 +221,9 @@ impl<'t> KnownNames<'t> {
     {
         KnownNames {
             tables,
-            buses: short_buses(tables),
-            routers: short_routers(tables),
-            outputs: short_outputs(tables),
+            buses: names_of_buses(tables),
+            routers: names_of_routers(tables),
+            outputs: names_of_outputs(tables),
         }
     }
 
@@ -229,7 +240,7 @@ impl<'t> KnownNames<'t> {
     pub fn bus_ahead(&self, text: &[u8]) -> Option<(usize, usize)>
         ensures { IfSome result (λ ahead. StartsWithName self.now.names.buses text.now ahead.0 ahead.1) }
     {
-        self.buses.name_ahead(text)
+        self.buses.short.name_ahead(text)
     }
 
     /// The number of the router whose name a text begins with, and how many letters that has.
@@ -237,7 +248,7 @@ impl<'t> KnownNames<'t> {
     pub fn router_ahead(&self, text: &[u8]) -> Option<(usize, usize)>
         ensures { IfSome result (λ ahead. StartsWithName self.now.names.routers text.now ahead.0 ahead.1) }
     {
-        self.routers.name_ahead(text)
+        self.routers.short.name_ahead(text)
     }
 
     /// The number of the output whose name a text begins with, and how many letters that has.
@@ -245,6 +256,39 @@ impl<'t> KnownNames<'t> {
     pub fn output_ahead(&self, text: &[u8]) -> Option<(usize, usize)>
         ensures { IfSome result (λ ahead. StartsWithName self.now.names.outputs text.now ahead.0 ahead.1) }
     {
-        self.outputs.name_ahead(text)
+        self.outputs.short.name_ahead(text)
+    }
+
+    /// The number of the bus whose name, short or long, a text begins with, and how many letters that has.
+    #[inline(always)]
+    pub fn any_bus_ahead(&self, text: &[u8]) -> Option<(usize, usize)>
+        ensures { IfSome result (λ ahead. StartsWithAnyName self.now.names.buses text.now ahead.0 ahead.1) }
+    {
+        if let Some(ahead) = self.bus_ahead(text) {
+            return Some(ahead);
+        }
+        self.buses.long.name_ahead(text)
+    }
+
+    /// The number of the router whose name, short or long, a text begins with, and how many letters that has.
+    #[inline(always)]
+    pub fn any_router_ahead(&self, text: &[u8]) -> Option<(usize, usize)>
+        ensures { IfSome result (λ ahead. StartsWithAnyName self.now.names.routers text.now ahead.0 ahead.1) }
+    {
+        if let Some(ahead) = self.router_ahead(text) {
+            return Some(ahead);
+        }
+        self.routers.long.name_ahead(text)
+    }
+
+    /// The number of the output whose name, short or long, a text begins with, and how many letters that has.
+    #[inline(always)]
+    pub fn any_output_ahead(&self, text: &[u8]) -> Option<(usize, usize)>
+        ensures { IfSome result (λ ahead. StartsWithAnyName self.now.names.outputs text.now ahead.0 ahead.1) }
+    {
+        if let Some(ahead) = self.output_ahead(text) {
+            return Some(ahead);
+        }
+        self.outputs.long.name_ahead(text)
     }
 }
