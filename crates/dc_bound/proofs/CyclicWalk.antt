@@ -15,17 +15,6 @@ use Rattle.dc_bound.specs.lemmas.Spans.{HasSpan, cap-span, span_least, span_roun
 pub split_first : (frame n count : ℕ) → 1 ≤ n → IsSplit frame n count (count / n * frame) (count % n)
 split_first frame n count some = record { rounds = count / n; whole_is = omega arith; count_is = div-add-mod' count n; part = mod-lt count some }
 
-pub split_inside : (frame n count whole rest : ℕ) → rest + 1 < n → IsSplit frame n count whole rest → IsSplit frame n (count + 1) whole (rest + 1)
-split_inside frame n count whole rest inside s = record { rounds = s.rounds; whole_is = s.whole_is; count_is = omega (arith, s.count_is); part = inside }
-
-pub split_over : (frame n count whole rest : ℕ) → n ≤ rest + 1 → IsSplit frame n count whole rest → IsSplit frame n (count + 1) (whole + frame) 0
-split_over frame n count whole rest over s = record {
-  rounds = s.rounds + 1;
-  whole_is = omega (arith, s.whole_is);
-  count_is = omega (arith, s.count_is, s.part);
-  part = omega (arith, s.part);
-}
-
 -- ---- what is known of spans
 
 pub none_known : (frame : ℕ) (offsets : List ℕ) (n : ℕ) → length offsets ≤ n → ArePastSpans frame offsets (replicate n 0)
