@@ -1,6 +1,6 @@
 //! The lesser of a bound and a wire's, stretch by stretch.
 
-ghost use Rattle.std.specs.Prelude.{◌≡◌, ℕ, ◌+◌, ◌<◌, ◌≤◌};
+ghost use Rattle.std.specs.Prelude.{◌≡◌, ℕ, ◌+◌, ◌<◌, ◌≤◌, MatchBool};
 ghost use Rattle.dc_bound.specs.Window.{Shown, wire_cap};
 ghost use Rattle.dc_bound.specs.Under.{under};
 ghost use Rattle.dc_bound.specs.declared.limits.TheConstants.{LONGEST_WALK};
@@ -16,6 +16,7 @@ pub(crate) fn lesser(
     last: u32,
     most: u64,
 ) -> (u64, u32)
+    requires first { 1 ≤ ticks }
     requires some { ticks ≤ last }
     requires far { last ≤ LONGEST_WALK }
     requires later { ticks < until }
@@ -28,9 +29,18 @@ pub(crate) fn lesser(
     let Some(wire) = wire else {
         return (most, until);
     };
-    if most <= wire.at_most(ticks) {
+    if carries(wire, ticks, most) {
         return (most, until);
     }
     let (carried, jump) = wire.at_most_and_jump(ticks);
     (carried, jump.unwrap_or(last + 1).min(last + 1))
+}
+
+/// Whether a wire carries as many in so many ticks, at least 1: told without a division.
+fn carries(wire: &Wire, ticks: u32, most: u64) -> bool
+    requires { 1 ≤ ticks }
+    ensures { MatchBool result (most ≤ wire_cap wire.now.tick wire.now.spacing ticks) (wire_cap wire.now.tick wire.now.spacing ticks < most) }
+{
+    let words = most.saturating_sub(1);
+    words.saturating_mul(wire.spacing as u64) <= ticks as u64 * wire.tick as u64
 }
