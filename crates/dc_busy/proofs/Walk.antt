@@ -19,6 +19,18 @@ more_backlog a s grows ticks until most greatest next some ahead is known shown 
   (λ m each. omega (arith, known.1 m (λ v first below. each v first (omega arith)), each ticks some ahead, shown ticks (omega arith) ahead)),
 )
 
+-- the greatest backlog, where one stretch more has none greater
+pub same_backlog : (a s : ℕ → ℕ) → Grows s → (ticks until most greatest : ℕ) → ticks < until → most ≤ greatest + s (ticks - 2) → IsLeast (λ b. EachBelow (BacklogAt a s b) 1 ticks) greatest →
+    Shown a ticks until most → IsLeast (λ b. EachBelow (BacklogAt a s b) 1 until) greatest
+same_backlog a s grows ticks until most greatest ahead enough known shown = (
+  (λ v first below.
+      elim (cases_lt v ticks) [
+        | inl k ↦ known.0 v first k
+        | inr k ↦ omega (arith, shown v k below, enough, grows (ticks - 2) (v - 2) (omega arith))
+      ]),
+  (λ m each. known.1 m (λ v first below. each v first (omega arith))),
+)
+
 -- the greatest backlog of the whole window
 pub all_backlogs : (a s t : ℕ → ℕ) → s ≡ t → (window greatest : ℕ) → (seen : Bool) → (seen ≡ true → IsLeast (λ b. EachBelow (BacklogAt a s b) 1 (window + 1)) greatest) → (seen ≡ false → ⊥) →
     IsLeast (BacklogBounded a t window) greatest

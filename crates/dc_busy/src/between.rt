@@ -1,5 +1,5 @@
 //! The first failing windows of a stretch, by one walk along the jumps of the arrival bound: between two jumps no later
-//! window fails where the first does not.
+//! window fails where the first does not, and what was taken in a shorter window is taken in a longer one.
 
 ghost use Rattle.std.specs.Prelude.{◌≡◌, ℕ, ◌+◌, ◌-◌, ◌<◌, ◌≤◌, Some, None, MatchOption};
 ghost use Rattle.dc_busy.specs.BusyWindow.{BacklogAt, DelayAt, IsFirstBetween};
@@ -57,7 +57,9 @@ fn failures_asked<A: ArrivalBound, S: ServiceBound, K: Asked>(
         service,
         backlog,
         delay,
+        held: backlog,
         overfull: None,
+        taken: 0,
         overdue: None,
         of: PhantomData,
     };
@@ -68,13 +70,16 @@ fn failures_asked<A: ArrivalBound, S: ServiceBound, K: Asked>(
     )
 }
 
-/// The first failing windows that a walk has found.
+/// The first failing windows that a walk has found, and the greatest counts that are known to pass from here on: the
+/// service is asked only where more may come.
 #[derive(Drop)]
 struct Failures<'a, S: ServiceBound, K: Asked> {
     service: &'a S,
     backlog: u64,
     delay: u32,
+    held: u64,
     overfull: Option<u32>,
+    taken: u64,
     overdue: Option<u32>,
     of: PhantomData<K>,
     ghost short: { delay ≤ LONGEST_WINDOW },
@@ -85,6 +90,8 @@ struct Failures<'a, S: ServiceBound, K: Asked> {
 
 impl<'a, S: ServiceBound, K: Asked> Watcher for Failures<'a, S, K> {
     ghost knows = { λ w cap ticks. (K.first ≤ ticks)
+        × (w.held ≤ w.backlog + S.floor w.service.now (ticks - 2))
+        × (w.taken ≤ S.floor w.service.now (ticks - 1 + w.delay))
         × IsFirstSoFar (BacklogAt cap (S.floor w.service.now) w.backlog) K.first ticks w.overfull
         × IsFirstSoFar (DelayAt cap (S.floor w.service.now) w.delay) K.first ticks w.overdue };
 
@@ -93,9 +100,13 @@ impl<'a, S: ServiceBound, K: Asked> Watcher for Failures<'a, S, K> {
 
     #[inline(always)]
     fn see(&mut self, ticks: u32, until: u32, most: u64) -> bool {
-        self.overfull = self.overfull_by(ticks, most);
-        self.overdue = self.overdue_by(ticks, most);
-        if self.overfull.is_some() && self.overdue.is_some() {
+        let (held, overfull) = self.overfull_by(ticks, most);
+        self.held = held;
+        self.overfull = overfull;
+        let (taken, overdue) = self.overdue_by(ticks, most);
+        self.taken = taken;
+        self.overdue = overdue;
+        if overfull.is_some() && overdue.is_some() {
             return false;
         }
         true
@@ -103,37 +114,44 @@ impl<'a, S: ServiceBound, K: Asked> Watcher for Failures<'a, S, K> {
 }
 
 impl<'a, S: ServiceBound, K: Asked> Failures<'a, S, K> {
-    /// What was found before, else this number of ticks where more than the backlog may wait.
+    /// The count that is known to pass, and what was found before, else this number of ticks where more than the
+    /// backlog may wait.
     #[inline(always)]
-    fn overfull_by(&self, ticks: u32, most: u64) -> Option<u32>
+    fn overfull_by(&self, ticks: u32, most: u64) -> (u64, Option<u32>)
         requires { ticks ≤ LONGEST_WINDOW }
-        ensures { MatchOption self.now.overfull
-            (MatchOption result (most - S.floor self.now.service.now (ticks - 2) ≤ self.now.backlog)
+        ensures held { self.now.held ≤ self.now.backlog + S.floor self.now.service.now (ticks - 2)
+            → result.0 ≤ self.now.backlog + S.floor self.now.service.now (ticks - 2) }
+        ensures found { MatchOption self.now.overfull
+            (MatchOption result.1 (most ≤ result.0)
             (λ w. (w ≡ ticks) × (self.now.backlog < most - S.floor self.now.service.now (ticks - 2))))
-            (λ w. result ≡ Some w) }
+            (λ w. result.1 ≡ Some w) }
     {
-        if self.overfull.is_some() {
-            return self.overfull;
+        if self.overfull.is_some() || most <= self.held {
+            return (self.held, self.overfull);
         }
-        let waiting = most.saturating_sub(self.service.at_least(ticks.saturating_sub(2)));
-        above(ticks, waiting, self.backlog)
+        let served = self.service.at_least(ticks.saturating_sub(2));
+        let held = self.backlog.saturating_add(served);
+        (held, above(ticks, most, held))
     }
 
-    /// What was found before, else this number of ticks where more may come than is taken in time.
+    /// The count that is known to pass, and what was found before, else this number of ticks where more may come than
+    /// is taken in time.
     #[inline(always)]
-    fn overdue_by(&self, ticks: u32, most: u64) -> Option<u32>
+    fn overdue_by(&self, ticks: u32, most: u64) -> (u64, Option<u32>)
         requires least { 1 ≤ ticks }
         requires most { ticks ≤ LONGEST_WINDOW }
-        ensures { MatchOption self.now.overdue
-            (MatchOption result (most ≤ S.floor self.now.service.now (ticks - 1 + self.now.delay))
+        ensures taken { self.now.taken ≤ S.floor self.now.service.now (ticks - 1 + self.now.delay)
+            → result.0 ≤ S.floor self.now.service.now (ticks - 1 + self.now.delay) }
+        ensures found { MatchOption self.now.overdue
+            (MatchOption result.1 (most ≤ result.0)
             (λ w. (w ≡ ticks) × (S.floor self.now.service.now (ticks - 1 + self.now.delay) < most)))
-            (λ w. result ≡ Some w) }
+            (λ w. result.1 ≡ Some w) }
     {
-        if self.overdue.is_some() {
-            return self.overdue;
+        if self.overdue.is_some() || most <= self.taken {
+            return (self.taken, self.overdue);
         }
         let taken = self.service.at_least(ticks - 1 + self.delay);
-        above(ticks, most, taken)
+        (taken, above(ticks, most, taken))
     }
 }
 

@@ -1,6 +1,6 @@
 //! The first window that fails one of the two tests, by a walk along the jumps of the arrival bound.
 
-ghost use Rattle.std.specs.Prelude.{◌≡◌, ℕ, ◌≤◌, MatchOption};
+ghost use Rattle.std.specs.Prelude.{◌≡◌, ℕ, ◌+◌, ◌-◌, ◌≤◌, MatchOption};
 ghost use Rattle.dc_busy.specs.BusyWindow.{BacklogAt, BacklogBounded, DelayAt, DelayBounded, IsLeastFailing};
 ghost use Rattle.dc_busy.specs.Watched.{EachBelow, IsFound};
 ghost use Rattle.dc_busy.specs.declared.limits.TheConstants.{LONGEST_WINDOW};
@@ -27,6 +27,7 @@ pub(crate) fn first_overfull<A: ArrivalBound, S: ServiceBound, K: Asked>(
     let mut watcher: Overfull<S, K> = Overfull {
         service,
         backlog,
+        held: backlog,
         found: None,
         of: PhantomData,
     };
@@ -54,6 +55,7 @@ pub(crate) fn first_overdue<A: ArrivalBound, S: ServiceBound, K: Asked>(
     let mut watcher: Overdue<S, K> = Overdue {
         service,
         delay,
+        taken: 0,
         found: None,
         of: PhantomData,
     };
@@ -63,11 +65,12 @@ pub(crate) fn first_overdue<A: ArrivalBound, S: ServiceBound, K: Asked>(
     up_to(window, watcher.found)
 }
 
-/// Looks for the first window in which more than the backlog may wait.
+/// Looks for the first window in which more than the backlog may wait. As many as `held` are known to pass from here on.
 #[derive(Drop)]
 struct Overfull<'a, S: ServiceBound, K: Asked> {
     service: &'a S,
     backlog: u64,
+    held: u64,
     found: Option<u32>,
     of: PhantomData<K>,
     ghost floor_is: { S.floor service.now ≡ K.floor },
@@ -75,13 +78,19 @@ struct Overfull<'a, S: ServiceBound, K: Asked> {
 }
 
 impl<'a, S: ServiceBound, K: Asked> Watcher for Overfull<'a, S, K> {
-    ghost knows = { λ w cap ticks. EachBelow (BacklogAt cap (S.floor w.service.now) w.backlog) 1 ticks };
+    ghost knows = { λ w cap ticks. (w.held ≤ w.backlog + S.floor w.service.now (ticks - 2))
+        × EachBelow (BacklogAt cap (S.floor w.service.now) w.backlog) 1 ticks };
 
     ghost ends = { λ w cap. IsFound (BacklogAt cap (S.floor w.service.now) w.backlog) 1 w.found };
 
     #[inline(always)]
     fn see(&mut self, ticks: u32, until: u32, most: u64) -> bool {
-        if most.saturating_sub(self.service.at_least(ticks.saturating_sub(2))) > self.backlog {
+        if most <= self.held {
+            return true;
+        }
+        let served = self.service.at_least(ticks.saturating_sub(2));
+        self.held = self.backlog.saturating_add(served);
+        if most > self.held {
             self.found = Some(ticks);
             return false;
         }
@@ -89,11 +98,13 @@ impl<'a, S: ServiceBound, K: Asked> Watcher for Overfull<'a, S, K> {
     }
 }
 
-/// Looks for the first window in which more may come than is taken in time.
+/// Looks for the first window in which more may come than is taken in time. As many as `taken` are known to be, from
+/// here on.
 #[derive(Drop)]
 struct Overdue<'a, S: ServiceBound, K: Asked> {
     service: &'a S,
     delay: u32,
+    taken: u64,
     found: Option<u32>,
     of: PhantomData<K>,
     ghost short: { delay ≤ LONGEST_WINDOW },
@@ -102,13 +113,18 @@ struct Overdue<'a, S: ServiceBound, K: Asked> {
 }
 
 impl<'a, S: ServiceBound, K: Asked> Watcher for Overdue<'a, S, K> {
-    ghost knows = { λ w cap ticks. EachBelow (DelayAt cap (S.floor w.service.now) w.delay) 1 ticks };
+    ghost knows = { λ w cap ticks. (w.taken ≤ S.floor w.service.now (ticks - 1 + w.delay))
+        × EachBelow (DelayAt cap (S.floor w.service.now) w.delay) 1 ticks };
 
     ghost ends = { λ w cap. IsFound (DelayAt cap (S.floor w.service.now) w.delay) 1 w.found };
 
     #[inline(always)]
     fn see(&mut self, ticks: u32, until: u32, most: u64) -> bool {
-        if most > self.service.at_least(ticks - 1 + self.delay) {
+        if most <= self.taken {
+            return true;
+        }
+        self.taken = self.service.at_least(ticks - 1 + self.delay);
+        if most > self.taken {
             self.found = Some(ticks);
             return false;
         }

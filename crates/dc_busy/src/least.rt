@@ -1,7 +1,7 @@
 //! The least numbers of a queue. Each is found by a walk along the jumps of the arrival bound; between two jumps the
 //! bound stays, and the least number of ticks that are visited so often is found by halves.
 
-ghost use Rattle.std.specs.Prelude.{◌≡◌, ℕ, ◌<◌, ◌≤◌, Some, MatchOption};
+ghost use Rattle.std.specs.Prelude.{◌≡◌, ℕ, ◌+◌, ◌-◌, ◌<◌, ◌≤◌, Some, MatchOption};
 ghost use Rattle.dc_busy.specs.BusyWindow.{Closes, BacklogAt, BacklogBounded, DelayAt, DelayBounded};
 ghost use Rattle.dc_busy.specs.Least.{IsLeast, IsLeastUpToLongest, ClosesWithin};
 ghost use Rattle.dc_busy.specs.Watched.{EachBelow, DelayedBelow};
@@ -38,6 +38,7 @@ fn greatest_backlog<A: ArrivalBound, S: ServiceBound, K: Served>(
     let mut backlogs: Greatest<S, K> = Greatest {
         service,
         greatest: 0,
+        held: 0,
         of: PhantomData,
     };
     arrivals.walk(1, window, &mut backlogs);
@@ -74,6 +75,7 @@ fn smallest_delay<A: ArrivalBound, S: ServiceBound, K: Served>(
         service,
         window,
         delay: 0,
+        taken: 0,
         of: PhantomData,
     };
     if arrivals.walk(1, window, &mut delays) {
@@ -108,34 +110,42 @@ fn first_closing<A: ArrivalBound, S: ServiceBound, K: Served>(
     Some(closing.found)
 }
 
-/// The greatest backlog so far.
+/// The greatest backlog so far. As many as `held` are known to leave it so from here on.
 #[derive(Drop)]
 struct Greatest<'a, S: ServiceBound, K: Served> {
     service: &'a S,
     greatest: u64,
+    held: u64,
     of: PhantomData<K>,
     ghost floor_is: { S.floor service.now ≡ K.floor },
 }
 
 impl<'a, S: ServiceBound, K: Served> Watcher for Greatest<'a, S, K> {
-    ghost knows = { λ w cap ticks. IsLeast (λ b. EachBelow (BacklogAt cap (S.floor w.service.now) b) 1 ticks) w.greatest };
+    ghost knows = { λ w cap ticks. (w.held ≤ w.greatest + S.floor w.service.now (ticks - 2))
+        × IsLeast (λ b. EachBelow (BacklogAt cap (S.floor w.service.now) b) 1 ticks) w.greatest };
 
     ghost ends = { λ w cap. ⊥ };
 
     #[inline(always)]
     fn see(&mut self, ticks: u32, until: u32, most: u64) -> bool {
-        let waiting = most.saturating_sub(self.service.at_least(ticks.saturating_sub(2)));
+        if most <= self.held {
+            return true;
+        }
+        let served = self.service.at_least(ticks.saturating_sub(2));
+        let waiting = most.saturating_sub(served);
         self.greatest = self.greatest.max(waiting);
+        self.held = self.greatest.saturating_add(served);
         true
     }
 }
 
-/// The least delay of what was seen up to the window.
+/// The least delay of what was seen up to the window. As many as `taken` are known to be taken in time from here on.
 #[derive(Drop)]
 struct Delays<'a, S: ServiceBound, K: Served> {
     service: &'a S,
     window: u32,
     delay: u32,
+    taken: u64,
     of: PhantomData<K>,
     ghost short: { delay ≤ LONGEST_WINDOW },
     ghost floor_is: { S.floor service.now ≡ K.floor },
@@ -143,16 +153,21 @@ struct Delays<'a, S: ServiceBound, K: Served> {
 }
 
 impl<'a, S: ServiceBound, K: Served> Watcher for Delays<'a, S, K> {
-    ghost knows = { λ w cap ticks. IsLeast (λ d. DelayedBelow cap (S.floor w.service.now) w.window d ticks) w.delay };
+    ghost knows = { λ w cap ticks. (w.taken ≤ S.floor w.service.now (ticks - 1 + w.delay))
+        × IsLeast (λ d. DelayedBelow cap (S.floor w.service.now) w.window d ticks) w.delay };
 
     ghost ends = { λ w cap. (d : ℕ) → d ≤ LONGEST_WINDOW → ¬ DelayBounded cap (S.floor w.service.now) w.window d };
 
-    /// In one look where the delay is enough. What is behind the window asks for none.
+    /// What is behind the window asks for no delay.
     #[inline(always)]
     fn see(&mut self, ticks: u32, until: u32, most: u64) -> bool {
+        if most <= self.taken {
+            return true;
+        }
         let before = ticks - 1;
         let from = before + self.delay;
-        if self.service.at_least(from) >= most {
+        self.taken = self.service.at_least(from);
+        if most <= self.taken {
             return true;
         }
         if ticks > self.window {
