@@ -1,6 +1,6 @@
 //! Valid tables.
 
-ghost use Rattle.std.specs.Prelude.{All, ◌≡◌, ◌+◌, ◌%◌, ◌<◌, length, position, IfSome};
+ghost use Rattle.std.specs.Prelude.{All, ◌≡◌, ◌+◌, ◌%◌, ◌<◌, ◌≤◌, length, position, IfSome};
 ghost use Rattle.dc_tables.specs.TableRows.{visited, bus_row, router_row, bus_streams};
 ghost use Rattle.dc_tables.specs.Declares.{declares, stream_of, fits};
 ghost use Rattle.dc_tables.specs.Places.{AreFirst};
@@ -308,9 +308,9 @@ impl Tables {
         let row = &self.rows.routers[router];
         let visits = row.visits.as_slice();
         let len = visits.len();
-        let at = cursor % len;
+        let at = place_in_round(cursor, len);
         let bus = visits[at];
-        (bus, (at + 1) % len)
+        (bus, next_in_round(at, len))
     }
 
     /// The streams of a bus; the first has the number `bus(bus).first`.
@@ -335,6 +335,25 @@ impl Tables {
         let at = declaring(self.bus_streams(bus), &self.kept[bus].places, bus, word)?;
         Some(self.bus(bus).first + at)
     }
+}
+
+/// The place in a round of so many that a cursor comes to. A cursor is mostly a place, which takes no division.
+#[inline]
+fn place_in_round(cursor: usize, len: usize) -> usize
+    requires { 1 ≤ len }
+    ensures { result ≡ cursor % len }
+{
+    if cursor < len { cursor } else { cursor % len }
+}
+
+/// The place after this one in a round of so many, found with no division.
+#[inline]
+fn next_in_round(at: usize, len: usize) -> usize
+    requires { at < len }
+    ensures { result ≡ (at + 1) % len }
+{
+    let next = at + 1;
+    if next == len { 0 } else { next }
 }
 
 /// The first of the streams that is of the bus and declares the word: the one at its place, or none.
