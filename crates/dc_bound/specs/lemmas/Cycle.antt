@@ -1,5 +1,5 @@
 -- Sums of a weight that comes again after each period.
-use Rattle.std.proofs.Common.{◌≡◌, ℕ, zero, suc, ◌+◌, ◌-◌, ◌*◌, ◌/◌, ◌%◌, ◌≤◌, ◌<◌, cond, true, false, eqb, List, length, get_or, refl, sym, ap, ◌∙◌, arith, inl, inr, add_assoc, add-zero}
+use Rattle.std.proofs.Common.{◌≡◌, ℕ, zero, suc, ◌+◌, ◌-◌, ◌*◌, ◌/◌, ◌%◌, ◌≤◌, ◌<◌, min, cond, true, false, eqb, List, length, get_or, refl, sym, ap, ◌∙◌, arith, inl, inr, add_assoc, add-zero}
 use Rattle.std.proofs.Math.Nat.{div-add-mod', mod-lt, add-mod_right}
 use Rattle.std.proofs.lemmas.Bool.{cases_lt}
 use Rattle.dc_bound.specs.Places.{least}
@@ -126,6 +126,17 @@ fewest_visits_mono table bus steps per d e p h = fewest_mono (λ i. is_at table 
 
 pub fewest_grows : (table : List ℕ) (bus j k : ℕ) → j ≤ k → fewest_visits table bus j ≤ fewest_visits table bus k
 fewest_grows table bus j k h = fewest_mono (λ i. is_at table bus i) (length table) j k h
+
+-- a step of a window that slides along
+pub slide_step : (f : ℕ → ℕ) (period n k here : ℕ) → here ≡ among f period n k → among f period (n + 1) k + f (n % period) ≡ here + f ((n + k) % period)
+slide_step f period n k here h =
+    let e : n + 1 ≡ suc n = omega arith in
+    omega (arith, among_slide f period n k, ap (λ x. among f period x k) e)
+
+pub least_step : (n : ℕ) (g : ℕ → ℕ) (fewest here : ℕ) → fewest ≡ least g n → here ≡ g (n + 1) → min fewest here ≡ least g (n + 1)
+least_step n g fewest here h k =
+    let e : n + 1 ≡ suc n = omega arith in
+    omega (arith, ap g e, ap (λ x. least g x) e)
 
 least_shift : (n : ℕ) (f g : ℕ → ℕ) (b : ℕ) → ((k : ℕ) → f k ≡ b + g k) → least f n ≡ b + least g n
 least_shift zero f g b h = h 0
