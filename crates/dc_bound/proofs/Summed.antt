@@ -1,10 +1,11 @@
 -- The sum of what is kept of a sum's members.
-use Rattle.std.proofs.Common.{◌≡◌, ℕ, zero, suc, ◌+◌, ◌-◌, ◌<◌, ◌≤◌, Option, Some, None, inl, inr, replicate, List, [], ◌∷◌, length, take, set, get_or, refl, sym, ◌∙◌, ap, arith}
+use Rattle.std.proofs.Common.{◌≡◌, ℕ, zero, suc, ◌+◌, ◌-◌, ◌*◌, ◌/◌, ◌<◌, ◌≤◌, Option, Some, None, inl, inr, replicate, List, [], ◌∷◌, length, take, set, get_or, refl, sym, ◌∙◌, ap, arith}
 use Rattle.std.specs.List.{sum, sum_by}
 use Rattle.std.proofs.lemmas.List.Sums.{sum_by-cons}
 use Rattle.std.specs.Option.{unwrap_or}
 use Rattle.std.proofs.lemmas.List.{get_or_read, get_or-set_same, get_or-set_other, length-set, length-replicate, get_or-replicate}
 use Rattle.std.proofs.lemmas.Bool.{cases_eq}
+use Rattle.std.proofs.Math.Nat.{le-div_iff_mul-le, div-mul-le_self}
 use Rattle.dc_bound.specs.Window.{IsNextJump, Shown}
 use Rattle.dc_bound.specs.Terms.{IsTerm, AreKept}
 
@@ -64,36 +65,36 @@ moved_term cap b x ticks count end most to same_b same_count same_end h = (
   (λ k from before. omega (arith, h.1 k from (omega (arith, same_end)), ap (λ c. cap c k) same_b, same_count)),
 )
 
-module _ {B : Type 0} (cap : B → ℕ → ℕ) (members : List B) (ticks total : ℕ) (counts ends : List ℕ) (kept : AreKept cap members ticks total counts ends) (few : length members ≤ 256) where
+module _ {B : Type 0} (cap : B → ℕ → ℕ) (members : List B) (ticks total : ℕ) (counts marks : List ℕ) (kept : AreKept cap members ticks total counts marks) (few : length members ≤ 256) where
   -- one member is asked anew
   pub asked : ((b : B) (m n : ℕ) → m ≤ n → cap b m ≤ cap b n) → (i : ℕ) (x : B) (most end : ℕ) (jump : Option ℕ) → i < length members → x ≡ get_or members i x →
-      ticks ≤ 1000000 → most ≡ cap x ticks → IsNextJump (cap x) ticks jump → end ≡ unwrap_or jump 1000001 →
-      AreKept cap members ticks (total - get_or counts i 0 + most) (set counts i most) (set ends i end)
+      ticks ≤ 1000000 → most ≡ cap x ticks → IsNextJump (cap x) ticks jump → end / 256 ≡ unwrap_or jump 1000001 →
+      AreKept cap members ticks (total - get_or counts i 0 + most) (set counts i most) (set marks i end)
   asked grows i x most end jump inside here short is next at =
       let changed = sum_set (length members) i most counts inside (omega (arith, kept.0)) in
       let without = sum_set (length members) i 0 counts inside (omega (arith, kept.0)) in
-      let term : IsTerm (cap x) ticks most end = (term_of (cap x) (grows x) ticks most end jump short is next at).0 in (
+      let term : IsTerm (cap x) ticks most (end / 256) = (term_of (cap x) (grows x) ticks most (end / 256) jump short is next at).0 in (
         omega (arith, length-set counts i most, kept.0),
-        omega (arith, length-set ends i end, kept.1),
+        omega (arith, length-set marks i end, kept.1),
         omega (arith, changed, without, kept.2),
         (λ j d within. elim (cases_eq j i) [
           | inl e ↦
-              moved_term cap (get_or members j d) x ticks (get_or (set counts i most) j 0) (get_or (set ends i end) j 0) most end
+              moved_term cap (get_or members j d) x ticks (get_or (set counts i most) j 0) (get_or (set marks i end) j 0 / 256) most (end / 256)
               (ap (λ n. get_or members n d) e ∙ sym (get_or_read members i x inside here d))
               (ap (λ n. get_or (set counts i most) n 0) e ∙ get_or-set_same counts i most 0 (omega (arith, kept.0)))
-              (ap (λ n. get_or (set ends i end) n 0) e ∙ get_or-set_same ends i end 0 (omega (arith, kept.1)))
+              (ap (λ n. n / 256) (ap (λ n. get_or (set marks i end) n 0) e ∙ get_or-set_same marks i end 0 (omega (arith, kept.1))))
               term
           | inr ne ↦
-              moved_term cap (get_or members j d) (get_or members j d) ticks (get_or (set counts i most) j 0) (get_or (set ends i end) j 0) (get_or counts j 0) (get_or ends j 0)
-              refl (get_or-set_other counts i j most 0 ne) (get_or-set_other ends i j end 0 ne) (kept.3 j d within)
+              moved_term cap (get_or members j d) (get_or members j d) ticks (get_or (set counts i most) j 0) (get_or (set marks i end) j 0 / 256) (get_or counts j 0) (get_or marks j 0 / 256)
+              refl (get_or-set_other counts i j most 0 ne) (ap (λ n. n / 256) (get_or-set_other marks i j end 0 ne)) (kept.3 j d within)
         ]),
       )
 
   pub kept_bounded : total ≤ sum_by (λ b. cap b 1000000) members
   kept_bounded = omega (arith, kept.2, sum_below (λ b. cap b 1000000) members counts (omega (arith, kept.0)) (λ i d inside. (kept.3 i d inside).0))
 
-  -- the sum of the members is their counts' up to where the first of these ends
-  pub kept_shown : (until : ℕ) → ((i : ℕ) → i < length members → until ≤ get_or ends i 0) → Shown (λ k. sum_by (λ b. cap b k) members) ticks until total
+  -- the sum of the members is their counts' up to where the first of these marks
+  pub kept_shown : (until : ℕ) → ((i : ℕ) → i < length members → until ≤ get_or marks i 0 / 256) → Shown (λ k. sum_by (λ b. cap b k) members) ticks until total
   kept_shown until first k from to =
       omega (
         arith,
@@ -101,7 +102,7 @@ module _ {B : Type 0} (cap : B → ℕ → ℕ) (members : List B) (ticks total 
         sum_same (λ b. cap b k) members counts (omega (arith, kept.0)) (λ i d inside. (kept.3 i d inside).1 k from (omega (arith, first i inside))),
       )
 
-  pub kept_later : (later : ℕ) → ticks ≤ later → AreKept cap members later total counts ends
+  pub kept_later : (later : ℕ) → ticks ≤ later → AreKept cap members later total counts marks
   kept_later later h = (
     kept.0,
     kept.1,
@@ -115,14 +116,27 @@ zero_sum (suc n) zero = refl
 zero_sum (suc n) (suc m) = omega (arith, sum_by-cons (λ x. x) 0 (take n (replicate m 0)), zero_sum n m)
 
 -- of members that were not asked nothing is kept
-pub kept_fresh : {B : Type 0} (cap : B → ℕ → ℕ) (members : List B) (ticks total : ℕ) (counts ends : List ℕ) → length members ≤ 256 →
-    total ≡ 0 → counts ≡ replicate 256 0 → ends ≡ replicate 256 0 → AreKept cap members ticks total counts ends
-kept_fresh cap members ticks total counts ends few none no_counts no_ends = (
+pub kept_fresh : {B : Type 0} (cap : B → ℕ → ℕ) (members : List B) (ticks total : ℕ) (counts marks : List ℕ) → length members ≤ 256 →
+    total ≡ 0 → counts ≡ replicate 256 0 → marks ≡ replicate 256 0 → AreKept cap members ticks total counts marks
+kept_fresh cap members ticks total counts marks few none no_counts no_marks = (
   omega (arith, ap length no_counts, length-replicate {A = ℕ} 256 0),
-  omega (arith, ap length no_ends, length-replicate {A = ℕ} 256 0),
+  omega (arith, ap length no_marks, length-replicate {A = ℕ} 256 0),
   omega (arith, none, ap (λ cs. sum (take (length members) cs)) no_counts, zero_sum (length members) 256),
   (λ i d inside. (
     omega (arith, ap (λ cs. get_or cs i 0) no_counts, get_or-replicate {A = ℕ} 256 i 0 0 (omega arith)),
-    (λ k from to. absurd (omega (arith, ap (λ cs. get_or cs i 0) no_ends, get_or-replicate {A = ℕ} 256 i 0 0 (omega arith)))),
+    (λ k from to.
+        let none_yet : get_or marks i 0 / 256 ≡ 0 = ap (λ cs. get_or cs i 0 / 256) no_marks ∙ ap (λ n. n / 256) (get_or-replicate {A = ℕ} 256 i 0 0 (omega arith)) in
+        absurd (omega (arith, none_yet, to))),
   )),
 )
+
+-- ---- marks, of which each is 256 times a number of ticks and a place
+
+pub least_later : (ticks least end : ℕ) (mark : ℕ → ℕ) (members : ℕ) →
+    ((x : ℕ) → x < end * 256 → ((i : ℕ) → i < members → x < mark i) → x < least) →
+    ticks < end → ((i : ℕ) → i < members → ticks < mark i / 256) → ticks < least / 256
+least_later ticks least end mark members later short ahead =
+    let above : ticks * 256 + 255 < least =
+    later (ticks * 256 + 255) (omega arith) (λ i inside. omega (arith, ahead i inside, div-mul-le_self (mark i) 256)) in
+    let le : suc ticks ≤ least / 256 = (le-div_iff_mul-le {k = 256} {x = suc ticks} {y = least} (omega arith)).1 (omega (arith, above)) in
+    omega (arith, le)

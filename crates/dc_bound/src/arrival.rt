@@ -260,8 +260,8 @@ impl<'a, B: ArrivalBound> SumOf<'a, B> {
             let (most, jump) = self.at_most_and_jump(ticks);
             return (most, jump.unwrap_or(last + 1).min(last + 1));
         }
-        terms.renew(self.members, ticks);
-        (terms.total, terms.until(self.members.len(), last + 1))
+        let until = terms.next(self.members, ticks, last + 1);
+        (terms.total, until)
     }
 }
 

@@ -16,8 +16,5 @@ returns-then-self-gt-MOST_TERMS-clause-later g c =
 
 pub returns-clause-shown : goal.returns-clause-shown
 returns-clause-shown g c =
-    let terms = c.renew.new.self in
-    kept_shown g.B.ArrivalBound.cap c.args.self.now.members.now c.args.ticks terms.total terms.counts terms.ends c.renew.ensures.kept c.if-self-gt-MOST_TERMS.false c.until.result c.until.ensures.first
-
-pub returns-clause-later : goal.returns-clause-later
-returns-clause-later g c = c.until.ensures.later c.args.ticks (omega (arith, c.requires.some)) c.renew.ensures.ahead
+    let terms = c.next-until.new.self in
+    kept_shown g.B.ArrivalBound.cap c.args.self.now.members.now c.args.ticks terms.total terms.counts terms.marks c.next-until.ensures.kept c.if-self-gt-MOST_TERMS.false c.next-until.result c.next-until.ensures.first

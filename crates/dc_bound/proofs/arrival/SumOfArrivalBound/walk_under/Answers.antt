@@ -12,8 +12,8 @@ loop-ticks-init g c = record {
   some = c.requires.first;
   inside = c.requires.order;
   kept = λ few.
-      kept_fresh g.B.ArrivalBound.cap c.args.self.now.members.now c.args.first c.new-terms.result.total c.new-terms.result.counts c.new-terms.result.ends few
-      c.new-terms.ensures.total c.new-terms.ensures.counts c.new-terms.ensures.ends;
+      kept_fresh g.B.ArrivalBound.cap c.args.self.now.members.now c.args.first c.new-terms.result.total c.new-terms.result.counts c.new-terms.result.marks few
+      c.new-terms.ensures.total c.new-terms.ensures.counts c.new-terms.ensures.marks;
   knows = c.requires.knows;
 }
 
@@ -32,7 +32,7 @@ loop-ticks-preserved g c =
     record {
       some = omega (arith, c.lesser-shown.ensures.later);
       inside = c.lesser-shown.ensures.inside;
-      kept = λ few. kept_later cap members c.loop-ticks.ticks terms.total terms.counts terms.ends (c.stretch-most.ensures.kept few) few c.lesser-shown.result.1 (omega (arith, c.lesser-shown.ensures.later));
+      kept = λ few. kept_later cap members c.loop-ticks.ticks terms.total terms.counts terms.marks (c.stretch-most.ensures.kept few) few c.lesser-shown.result.1 (omega (arith, c.lesser-shown.ensures.later));
       knows = c.if-not-see.ensures.goes refl (λ d. under (λ (w : Wire) e. wire_cap w.tick w.spacing e) c.args.wire.now d (sum_by (λ b. cap b d) members)) c.loop-ticks.invariant.knows
           (c.lesser-shown.ensures.shown (λ d. sum_by (λ b. cap b d) members) (λ m n h. sum_monotone cap g.met.B.ArrivalBound.cap_monotone members m n h) c.stretch-most.ensures.shown);
     }

@@ -1,4 +1,4 @@
-use Rattle.std.proofs.Common.{◌≡◌, ◌+◌, ◌<◌, ℕ, get_or, inl, inr, sym, ap, subst, arith}
+use Rattle.std.proofs.Common.{◌≡◌, ◌+◌, ◌/◌, ◌<◌, ℕ, get_or, inl, inr, sym, ap, subst, arith}
 use Rattle.std.proofs.lemmas.Bool.{cases_lt}
 use Rattle.dc_bound.specs.Terms.{KeepsTerms}
 use Rattle.dc_bound.specs.declared.terms.Terms.{Terms}
@@ -8,17 +8,17 @@ use Rattle.dc_bound.proofs.terms.Terms.renew.Goals as goal
 pub loop-i-preserved : goal.loop-i-preserved
 loop-i-preserved g c =
     let P : Terms → Type 0 = λ t.
-    KeepsTerms g.B.ArrivalBound.cap c.args.members.now c.args.ticks t × ((j : ℕ) → j < c.loop-i.i + 1 → c.args.ticks < get_or t.ends j 0) in
+    KeepsTerms g.B.ArrivalBound.cap c.args.members.now c.args.ticks t × ((j : ℕ) → j < c.loop-i.i + 1 → c.args.ticks < get_or t.marks j 0 / 256) in
     let both : P c.if-self-i.self =
     elim c.if-self-i.branch [
       | then-self-i w ↦
           subst P (sym w.self-is) (
             w.ask.ensures.kept,
             (λ j h. elim (cases_lt j c.loop-i.i) [
-              | inl l ↦ omega (arith, w.ask.ensures.others j (λ e. omega (arith, e)), c.loop-i.invariant.ahead j l)
+              | inl l ↦ omega (arith, ap (λ n. n / 256) (w.ask.ensures.others j (λ e. omega (arith, e))), c.loop-i.invariant.ahead j l)
               | inr l ↦
                   let e : j ≡ c.loop-i.i = omega arith in
-                  omega (arith, w.ask.ensures.ahead, ap (λ n. get_or w.ask.new.self.ends n 0) e)
+                  omega (arith, w.ask.ensures.ahead, ap (λ n. get_or w.ask.new.self.marks n 0 / 256) e)
             ]),
           )
       | else-self-i w ↦
@@ -28,7 +28,7 @@ loop-i-preserved g c =
               | inl l ↦ c.loop-i.invariant.ahead j l
               | inr l ↦
                   let e : j ≡ c.loop-i.i = omega arith in
-                  omega (arith, w.if-self-i.false, ap (λ n. get_or c.loop-i.self.ends n 0) e)
+                  omega (arith, w.if-self-i.false, ap (λ n. get_or c.loop-i.self.marks n 0 / 256) e)
             ]),
           )
     ] in

@@ -1,9 +1,0 @@
-use Rattle.std.proofs.Common.{ℕ, ◌<◌, ◌≤◌, get_or}
-use Rattle.dc_bound.proofs.terms.Terms.until.Given as goal
-
-abbrev pub invariant-loop-i : goal.invariant-loop-i
-invariant-loop-i l = record {
-  end : l.least ≤ l.end;
-  first : (j : ℕ) → j < l.i → l.least ≤ get_or l.self.ends j 0;
-  later : (ticks : ℕ) → ticks < l.end → ((j : ℕ) → j < l.i → ticks < get_or l.self.ends j 0) → ticks < l.least;
-}
