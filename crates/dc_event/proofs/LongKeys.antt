@@ -1,9 +1,10 @@
 -- Lemmas on the keys of long names.
-use Rattle.std.proofs.Common.{◌≡◌, ℕ, ◌+◌, ◌-◌, ◌<◌, ◌≤◌, zero, suc, List, [], ◌∷◌, ◌++◌, length, length-take, length-drop, take, take_all, drop, get_or, get_or-drop, take-append-drop, refl, sym, ap, subst, ◌∙◌, arith, Some}
+use Rattle.std.proofs.Common.{◌≡◌, ℕ, ◌+◌, ◌-◌, ◌<◌, ◌≤◌, zero, suc, List, [], ◌∷◌, ◌++◌, length, length-take, length-drop, take, take_all, drop, get_or, get_or-drop, set, replicate, length-set, take-append-drop, refl, sym, ap, subst, ◌∙◌, arith, Some, inl, inr}
 use Rattle.std.specs.Int.{w64, to_le_bytes}
-use Rattle.std.proofs.lemmas.List.{drop-drop, get_or-take, get_or_past}
+use Rattle.std.proofs.lemmas.List.{drop-drop, get_or-take, get_or_past, get_or-replicate, length-replicate, get_or-set_same, get_or-set_other}
+use Rattle.std.proofs.lemmas.Bool.{cases_eq}
 use Rattle.std.proofs.lemmas.Nat.{le_bytes_8}
-use Rattle.dc_event.specs.LongNames.{IsLongFound, StartsWithAnyName, eight_bytes_from, long_key_of}
+use Rattle.dc_event.specs.LongNames.{AreLongFound, IsLongFound, StartsWithAnyName, eight_bytes_from, long_key_of}
 use Rattle.dc_event.specs.Names.{AreLetters, StartsWithName}
 use Rattle.dc_event.specs.TraceText.{number_named}
 use Rattle.dc_event.specs.declared.long_names.LongKey.{LongKey}
@@ -87,3 +88,17 @@ starts_long names text key letters number window many few bytes is found =
 -- a short name is one of any length
 pub starts_any : (names : List (List ℕ)) (text : List ℕ) (number letters : ℕ) → StartsWithName names text number letters → StartsWithAnyName names text number letters
 starts_any names text number letters (within, few, plain, named) = (within, omega (arith, few), plain, named)
+
+-- numbers without keys
+pub long_none_each : (names : List (List ℕ)) (many : ℕ) → AreLongFound names (replicate many (record { letters = 0; first = 0; last = 0 }))
+long_none_each names many number key within =
+    let none : LongKey = record { letters = 0; first = 0; last = 0 } in
+    rw (get_or-replicate many number none key (omega (arith, length-replicate many none))) (long_none names number)
+
+-- a key that is put
+pub long_put : (names : List (List ℕ)) (keys : List LongKey) (key : LongKey) (number : ℕ) → number < length keys → AreLongFound names keys → IsLongFound names key number
+    → AreLongFound names (set keys number key)
+long_put names keys key number within found is other at inside = elim (cases_eq other number) [
+  | inl same ↦ subst (λ (n : ℕ). IsLongFound names (get_or (set keys number key) n at) n) (sym same) (rw (get_or-set_same keys number key at within) is)
+  | inr apart ↦ rw (get_or-set_other keys number other key at apart) (found other at (omega (arith, length-set keys number key)))
+]

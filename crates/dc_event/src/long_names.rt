@@ -19,22 +19,18 @@ struct LongKey {
     last: u64,
 }
 
-/// A long name's place: its key, and its number in the tables.
-#[derive(Clone, Copy, Debug, PartialEq, Eq)]
-struct LongPlace {
-    key: LongKey,
-    number: usize,
-}
+/// How many numbers have a key: as many as a kind has names.
+const MOST_NAMES: usize = 64;
 
-/// A place of no name. No long name has no letters.
-const NO_NAME: LongPlace = LongPlace {
-    key: LongKey {
-        letters: 0,
-        first: 0,
-        last: 0,
-    },
-    number: 0,
+/// The key of a number whose name is not long. No long name has no letters.
+const NO_NAME: LongKey = LongKey {
+    letters: 0,
+    first: 0,
+    last: 0,
 };
+
+/// A place where no number is guessed yet.
+const NO_GUESS: u8 = 255;
 
 /// Eight bytes of a text from a place on as a number: one load.
 #[inline(always)]
@@ -87,37 +83,42 @@ fn many_letters_ahead(text: &[u8]) -> Option<usize>
     None
 }
 
-/// Long names by their keys. One may have lost its place to another one.
+/// The keys of long names by number, and a number that is guessed at each place. A clause says nothing of guesses: one may
+/// have lost its place to another one.
 #[derive(Drop)]
 pub struct LongNames {
-    places: [LongPlace; PLACES],
+    keys: [LongKey; MOST_NAMES],
+    guesses: [u8; PLACES],
 }
 
 impl LongNames {
     /// No names.
     pub fn new() -> Self
-        ensures { (names : List (List ℕ)) → AreLongFound names result.places }
+        ensures { (names : List (List ℕ)) → AreLongFound names result.keys }
     {
         LongNames {
-            places: [NO_NAME; PLACES],
+            keys: [NO_NAME; MOST_NAMES],
+            guesses: [NO_GUESS; PLACES],
         }
     }
 
-    /// Puts a name's number at its first place, if that is free, else at the next one.
+    /// Puts the key of a number, and guesses that at its first place, if that is free, else at the next one.
     fn put(&mut self, key: LongKey, number: usize)
-        ensures { (names : List (List ℕ)) → AreLongFound names self.old.places → IsLongFound names key number → AreLongFound names self.new.places }
+        requires { number < MOST_NAMES }
+        ensures { (names : List (List ℕ)) → AreLongFound names self.old.keys → IsLongFound names key number → AreLongFound names self.new.keys }
     {
+        self.keys[number] = key;
         let first = first_place(key.first ^ key.last);
-        if self.places[first].key == NO_NAME.key {
-            self.places[first] = LongPlace { key, number };
+        if self.guesses[first] == NO_GUESS {
+            self.guesses[first] = number as u8;
             return;
         }
-        self.places[next_place(first)] = LongPlace { key, number };
+        self.guesses[next_place(first)] = number as u8;
     }
 
     /// Puts a name of this number, if it has one and is long.
     pub fn learn(&mut self, name: &[u8], number: Option<usize>)
-        ensures { (names : List (List ℕ)) → AreLongFound names self.old.places → number ≡ number_named names name.now → AreLongFound names self.new.places }
+        ensures { (names : List (List ℕ)) → AreLongFound names self.old.keys → number ≡ number_named names name.now → AreLongFound names self.new.keys }
     {
         let Some(number) = number else {
             return;
@@ -125,31 +126,42 @@ impl LongNames {
         if name.len() <= END_LETTERS || name.len() > NAME_LIMIT || !are_letters(name) {
             return;
         }
+        if number >= MOST_NAMES {
+            return;
+        }
         self.put(long_key(name), number);
     }
 
-    /// The number of the name of a key, where it has a place.
+    /// The number that is guessed at a place, where the key of its name is this.
+    #[inline(always)]
+    fn number_at(&self, place: usize, key: LongKey) -> Option<usize>
+        requires { place < PLACES }
+        ensures { (names : List (List ℕ)) → AreLongFound names self.now.keys → IfSome result (λ number. IsLongFound names key number) }
+    {
+        let number = self.guesses[place] as usize % MOST_NAMES;
+        if self.keys[number] != key {
+            return None;
+        }
+        Some(number)
+    }
+
+    /// The number of the name of a key, where it is guessed.
     #[inline(always)]
     fn number_of(&self, key: LongKey) -> Option<usize>
-        ensures { (names : List (List ℕ)) → AreLongFound names self.now.places → IfSome result (λ number. IsLongFound names key number) }
+        ensures { (names : List (List ℕ)) → AreLongFound names self.now.keys → IfSome result (λ number. IsLongFound names key number) }
     {
         let first = first_place(key.first ^ key.last);
-        let place = self.places[first];
-        if place.key == key {
-            return Some(place.number);
+        if let Some(number) = self.number_at(first, key) {
+            return Some(number);
         }
-        let place = self.places[next_place(first)];
-        if place.key == key {
-            return Some(place.number);
-        }
-        None
+        self.number_at(next_place(first), key)
     }
 
     /// The number of the long name that a text begins with, and how many letters that has, where as many bytes are
     /// ahead as the longest name has and one more.
     #[inline(always)]
     pub fn name_ahead(&self, text: &[u8]) -> Option<(usize, usize)>
-        ensures { (names : List (List ℕ)) → AreLongFound names self.now.places → IfSome result (λ ahead. StartsWithAnyName names text.now ahead.0 ahead.1) }
+        ensures { (names : List (List ℕ)) → AreLongFound names self.now.keys → IfSome result (λ ahead. StartsWithAnyName names text.now ahead.0 ahead.1) }
     {
         if text.len() <= NAME_LIMIT {
             return None;
