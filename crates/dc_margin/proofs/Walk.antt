@@ -1,19 +1,12 @@
 -- A walk along the jumps of a cap, and the greatest height so far.
-use Rattle.std.proofs.Common.{◌≡◌, ℕ, zero, suc, ◌+◌, ◌-◌, ◌≤◌, ◌<◌, Bool, true, false, Option, Some, None, refl, sym, ap, subst, arith, inl, inr, ◌⊎◌, ◌∙◌}
+use Rattle.std.proofs.Common.{◌≡◌, ℕ, zero, suc, ◌+◌, ◌-◌, ◌≤◌, ◌<◌, Bool, true, false, refl, sym, ap, subst, arith, inl, inr, ◌⊎◌, ◌∙◌}
 use Rattle.std.specs.Prelude.{nat_lt, nat_le, if◌then◌else◌}
-use Rattle.std.specs.Option.{unwrap_or}
 use Rattle.std.proofs.lemmas.Bool.{cases_lt, lt-ltb, le-ltb, lt-leb, le-leb, leb-true}
-use Rattle.dc_bound.specs.Window.{IsNextJump}
-use Rattle.dc_margin.specs.Peaks.{waiting, least_below, needed}
+use Rattle.dc_bound.specs.Window.{Shown}
+use Rattle.dc_margin.specs.Peaks.{waiting, least_below, needed, IsPeak}
+use Rattle.dc_margin.specs.Rising.{IsPeakSoFar}
 use Rattle.dc_margin.specs.declared.peaks.Peak.{Peak}
 use Rattle.dc_margin.specs.lemmas.Heights.{above-failing, below-count, below-least}
-
--- h is the greatest height of f at the numbers from 1 to below `end`, w the first of them that has it; 0 and 1 before any
-pub record IsPeakSoFar (f : ℕ → ℕ) (window end w h : ℕ) : Type 0 where
-  pub some : 1 ≤ w
-  pub at : ((w ≤ window) × (h ≡ f w)) ⊎ ((w ≡ 1) × (h ≡ 0))
-  pub greatest : (v : ℕ) → 1 ≤ v → v < end → f v ≤ h
-  pub first : (v : ℕ) → 1 ≤ v → v < w → f v < h
 
 module _ (f : ℕ → ℕ) (window : ℕ) where
   -- one more that is higher, or not, up to the next one at which f may be higher
@@ -22,8 +15,8 @@ module _ (f : ℕ → ℕ) (window : ℕ) where
     higher-peak w h l p = record {
       some = some;
       at = inl (inside, refl);
-      greatest = λ v low high. elim (cases_lt v end) [
-        | inl below ↦ omega (arith, p.greatest v low below, l)
+      greatest = λ v low high near. elim (cases_lt v end) [
+        | inl below ↦ omega (arith, p.greatest v low below near, l)
         | inr past ↦ flat v past high
       ];
       first = λ v low high. omega (arith, p.greatest v low high, l);
@@ -33,8 +26,8 @@ module _ (f : ℕ → ℕ) (window : ℕ) where
     same-peak w h g p = record {
       some = p.some;
       at = p.at;
-      greatest = λ v low high. elim (cases_lt v end) [
-        | inl below ↦ p.greatest v low below
+      greatest = λ v low high near. elim (cases_lt v end) [
+        | inl below ↦ p.greatest v low below near
         | inr past ↦ omega (arith, flat v past high, g)
       ];
       first = p.first;
@@ -51,6 +44,43 @@ module _ (f : ℕ → ℕ) (window : ℕ) where
               let there : q ≡ p = is ∙ ap (λ b. if b then record { ticks = end; height = height } else p) (le-ltb p.height height g) in
               subst (λ r. IsPeakSoFar f window next r.ticks r.height) (sym there) (same-peak p.ticks p.height (omega (arith, g, at)) known)
         ]
+
+  -- behind the window nothing is looked at
+  pub peak-behind : (end next : ℕ) → window < end → end ≤ next → (p : Peak) → IsPeakSoFar f window end p.ticks p.height → IsPeakSoFar f window next p.ticks p.height
+  peak-behind end next behind ahead p known = record {
+    some = known.some;
+    at = known.at;
+    greatest = λ v low high near. known.greatest v low (omega (arith, near, behind)) near;
+    first = known.first;
+  }
+
+  peak-at : (w h : ℕ) → 1 ≤ window → ((w ≤ window) × (h ≡ f w)) ⊎ ((w ≡ 1) × (h ≡ 0)) → f 1 ≤ h → (w ≤ window) × (h ≡ f w)
+  peak-at w h whole at below =
+      elim at [
+        | inl here ↦ here
+        | inr none ↦ (omega (arith, none.0, whole), omega (arith, none.1, below, ap f none.0))
+      ]
+
+  -- the greatest of the whole window
+  pub peak-whole : (w h : ℕ) → 1 ≤ window → IsPeakSoFar f window (window + 1) w h → IsPeak f window w h
+  peak-whole w h whole known =
+      let met = peak-at w h whole known.at (known.greatest 1 (omega arith) (omega (arith, whole)) whole) in
+      record {
+        some = known.some;
+        within = met.0;
+        height = met.1;
+        greatest = λ v low near. known.greatest v low (omega (arith, near)) near;
+        first = known.first;
+      }
+
+-- the greatest of the whole window, by the floor and the window that a type says
+pub all-peaks : (height : (ℕ → ℕ) → ℕ → ℕ) (floor told : ℕ → ℕ) → floor ≡ told → (held window last : ℕ) → held ≡ window → last ≡ window → 1 ≤ last → (w h : ℕ) → (seen : Bool)
+    → (seen ≡ true → IsPeakSoFar (height floor) held (last + 1) w h) → (seen ≡ false → ⊥) → IsPeak (height told) window w h
+all-peaks height floor told same held window last is end whole w h true all ended =
+    let here = subst (λ n. IsPeakSoFar (height floor) n (last + 1) w h) is (all refl) in
+    let there = subst (λ n. IsPeakSoFar (height floor) window (n + 1) w h) end here in
+    subst (λ f. IsPeak (height f) window w h) same (peak-whole (height floor) window w h (omega (arith, whole, end)) there)
+all-peaks height floor told same held window last is end whole w h false all ended = absurd (ended refl)
 
 -- ---- the least number that passes
 
@@ -110,19 +140,12 @@ module _ (floor : ℕ → ℕ) (grows : (d e : ℕ) → d ≤ e → floor d ≤ 
       above-passing 100001 (λ d. nat_le most (floor (ticks - 1 + d))) (λ d. nat_le most (floor (later - 1 + d)))
       (λ d passes. le-leb _ _ (omega (arith, leb-true most (floor (ticks - 1 + d)) passes, grows (ticks - 1 + d) (later - 1 + d) (omega arith))))
 
--- ---- between two jumps
+-- ---- a stretch of one cap
 
--- the cap stays from one jump to before the next one
-pub flat-between : (cap : ℕ → ℕ) (ticks window next : ℕ) (jump : Option ℕ) → window ≤ 100000 → IsNextJump cap ticks jump → next ≡ unwrap_or jump (window + 1) → (v : ℕ) → ticks ≤ v → v < next → cap v ≡ cap ticks
-flat-between cap ticks window next None short flat is v low high = flat v low (omega (arith, is, high, short))
-flat-between cap ticks window next (Some j) short jumps is v low high = jumps.2 v low (omega (arith, is, high))
+module _ (cap floor : ℕ → ℕ) (grows : (d e : ℕ) → d ≤ e → floor d ≤ floor e) (ticks next most : ℕ) (ahead : ticks < next) (shown : Shown cap ticks next most) where
+  flat : (v : ℕ) → ticks ≤ v → v < next → cap v ≡ cap ticks
+  flat v low high = shown v low high ∙ sym (shown ticks (omega arith) ahead)
 
--- and it is a later one
-pub later-next : (cap : ℕ → ℕ) (ticks window next : ℕ) (jump : Option ℕ) → ticks ≤ window → IsNextJump cap ticks jump → next ≡ unwrap_or jump (window + 1) → ticks < next
-later-next cap ticks window next None inside flat is = omega (arith, inside, is)
-later-next cap ticks window next (Some j) inside jumps is = omega (arith, jumps.0, is)
-
-module _ (cap floor : ℕ → ℕ) (grows : (d e : ℕ) → d ≤ e → floor d ≤ floor e) (ticks next : ℕ) (flat : (v : ℕ) → ticks ≤ v → v < next → cap v ≡ cap ticks) where
   -- so no more waits, and no longer delay is needed
   pub waiting-flat : (v : ℕ) → ticks ≤ v → v < next → waiting cap floor v ≤ waiting cap floor ticks
   waiting-flat v low high = omega (arith, flat v low high, grows (ticks - 2) (v - 2) (omega (arith, low)))

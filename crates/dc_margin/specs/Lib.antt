@@ -1,4 +1,5 @@
 pub mod Peaks
+pub mod Rising
 pub mod Margins
 pub mod Lines
 -- the lines of what the finder found

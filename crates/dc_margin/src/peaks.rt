@@ -1,11 +1,13 @@
 //! Where in a window most may wait, and where the longest delay is needed.
 
-ghost use Rattle.std.specs.Prelude.{◌≡◌, ◌+◌, ◌-◌, ◌<◌, ◌≤◌};
+ghost use Rattle.std.specs.Prelude.{◌≡◌, ℕ, ◌+◌, ◌-◌, ◌<◌, ◌≤◌};
 ghost use Rattle.dc_busy.specs.declared.limits.TheConstants.{LONGEST_WINDOW};
 ghost use Rattle.dc_margin.specs.Peaks.{IsPeak, higher, needed, waiting};
+ghost use Rattle.dc_margin.specs.Rising.{IsPeakSoFar};
 
-use dc_bound::{ArrivalBound, ServiceBound};
+use dc_bound::{ArrivalBound, ServiceBound, Watcher};
 use dc_busy::LONGEST_WINDOW;
+use std::marker::{Brand, PhantomData};
 
 /// A greatest height, and the first number of ticks that has it.
 #[derive(Clone, Copy, Debug, PartialEq, Eq)]
@@ -26,27 +28,92 @@ pub struct Peaks {
 }
 
 /// The most that may wait in a window of 1 to [`LONGEST_WINDOW`] ticks, and the least delay that it needs, each with
-/// the first number of its ticks that has it.
+/// the first number of its ticks that has it. The bound shows its jumps, between which neither grows.
 pub fn peaks_of<A: ArrivalBound, S: ServiceBound>(arrivals: &A, service: &S, window: u32) -> Peaks
     requires least { 1 ≤ window }
     requires most { window ≤ LONGEST_WINDOW }
     ensures backlog { IsPeak (waiting (A.cap arrivals.now) (S.floor service.now)) window result.backlog.ticks result.backlog.height }
     ensures delay { IsPeak (needed (A.cap arrivals.now) (S.floor service.now)) window result.delay.ticks result.delay.height }
 {
-    let mut backlog = Peak {
+    peaks_asked::<A, S, Brand>(arrivals, service, window)
+}
+
+/// What a walk is asked. It exists in proofs alone: who walks picks it, and the watcher says it by its type.
+trait Asked {
+    // the service floor
+    ghost floor: { ℕ → ℕ };
+
+    // the number of ticks up to which the walk goes
+    ghost window: { ℕ };
+}
+
+impl Asked for Brand {
+    ghost floor = { λ d. 0 };
+
+    ghost window = { 0 };
+}
+
+/// The same, where what is asked is known by a type.
+fn peaks_asked<A: ArrivalBound, S: ServiceBound, K: Asked>(
+    arrivals: &A,
+    service: &S,
+    window: u32,
+) -> Peaks
+    requires least { 1 ≤ window }
+    requires most { window ≤ LONGEST_WINDOW }
+    requires floor_is { S.floor service.now ≡ K.floor }
+    requires window_is { window ≡ K.window }
+    ensures backlog { IsPeak (waiting (A.cap arrivals.now) K.floor) K.window result.backlog.ticks result.backlog.height }
+    ensures delay { IsPeak (needed (A.cap arrivals.now) K.floor) K.window result.delay.ticks result.delay.height }
+{
+    let none = Peak {
         ticks: 1,
         height: 0,
     };
-    let mut delay = backlog;
-    let mut ticks = 1;
-    while ticks <= window {
-        let (most, jump) = arrivals.at_most_and_jump(ticks);
-        let waiting = most.saturating_sub(service.at_least(ticks.saturating_sub(2)));
-        backlog = higher(backlog, ticks, waiting);
-        delay = later(service, delay, ticks, most);
-        ticks = jump.unwrap_or(window + 1);
+    let mut heights: Heights<S, K> = Heights {
+        service,
+        window,
+        backlog: none,
+        delay: none,
+        of: PhantomData,
+    };
+    arrivals.walk(1, window, &mut heights);
+    Peaks {
+        backlog: heights.backlog,
+        delay: heights.delay,
     }
-    Peaks { backlog, delay }
+}
+
+/// The greatest heights so far along a walk.
+#[derive(Drop)]
+struct Heights<'a, S: ServiceBound, K: Asked> {
+    service: &'a S,
+    window: u32,
+    backlog: Peak,
+    delay: Peak,
+    of: PhantomData<K>,
+    ghost low: { delay.height ≤ LONGEST_WINDOW + 1 },
+    ghost floor_is: { S.floor service.now ≡ K.floor },
+    ghost window_is: { window ≡ K.window },
+}
+
+impl<'a, S: ServiceBound, K: Asked> Watcher for Heights<'a, S, K> {
+    ghost knows = { λ w cap ticks. IsPeakSoFar (waiting cap (S.floor w.service.now)) w.window ticks w.backlog.ticks w.backlog.height
+        × IsPeakSoFar (needed cap (S.floor w.service.now)) w.window ticks w.delay.ticks w.delay.height };
+
+    ghost ends = { λ w cap. ⊥ };
+
+    /// What is behind the window is not looked at.
+    #[inline(always)]
+    fn see(&mut self, ticks: u32, until: u32, most: u64) -> bool {
+        if ticks > self.window {
+            return true;
+        }
+        let served = self.service.at_least(ticks.saturating_sub(2));
+        self.backlog = higher(self.backlog, ticks, most.saturating_sub(served));
+        self.delay = later(self.service, self.delay, ticks, most);
+        true
+    }
 }
 
 /// The peak with this height at so many ticks, where it is above that so far.
