@@ -116,7 +116,7 @@ impl<A: ArrivalBound> ArrivalBound for Capped<A> {
         (first, later(first_jump, second_jump))
     }
 
-    // one walk along the sum, which asks the wire at each step, and of its members those that jump
+    // one walk along the sum, which asks of its members those that jump, and the wire where it does not carry all
     fn walk<W: Watcher>(&self, first: u32, last: u32, watcher: &mut W) -> bool {
         self.sum.walk_under(&self.wire, first, last, watcher)
     }

@@ -1,4 +1,5 @@
-//! What a walk along a sum keeps of its members, so that at a jump only those are asked that jump there.
+//! What a walk along a sum keeps of its members, so that a step asks the one that was found to end first, and of the
+//! others those alone that end there too.
 
 ghost use Rattle.std.specs.Prelude.{◌/◌, ◌≡◌, IfSome, ◌≢◌, ℕ, ◌<◌, ◌≤◌, length, get_or, replicate};
 ghost use Rattle.std.specs.Option.{unwrap_or};
@@ -41,8 +42,9 @@ impl Terms {
         }
     }
 
-    /// Asks the members that end at so many ticks or before, and tells where the next of them ends, at most at `end`.
-    /// Mostly one ends there, the one that was found to; then the others are looked over once, for the least mark.
+    /// Asks the member that was found to end first, and those that end at so many ticks or before. Tells a number of
+    /// ticks above these before which none ends, at most `end`. Mostly no other ends there; then all are looked over
+    /// once, for the least mark.
     pub(crate) fn next<B: ArrivalBound>(&mut self, members: &[B], ticks: u32, end: u32) -> u32
         requires few { length members.now ≤ MOST_TERMS }
         requires small { sum_by (λ (b : B). B.cap b LONGEST_SPAN) members.now ≤ GREATEST_CAP }
