@@ -1,3 +1,4 @@
 pub mod Pushed
 pub mod Spelling
 pub mod Ascii
+pub mod Letters
