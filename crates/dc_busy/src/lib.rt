@@ -13,12 +13,14 @@ ghost use Rattle.dc_busy.specs.declared.limits.TheConstants.{LONGEST_WINDOW};
 mod asked;
 mod between;
 mod first;
+mod leaps;
 mod least;
 mod limits;
 
 pub use between::failures_between;
 use dc_bound::{ArrivalBound, ServiceBound};
 use first::{first_overdue, first_overfull};
+pub use leaps::{Patient, walk_by_leaps};
 pub use least::{least_delay, least_window, most_backlog};
 pub use limits::LONGEST_WINDOW;
 use std::marker::Brand;

@@ -1,0 +1,12 @@
+use Rattle.std.proofs.Common.{◌≤◌, ◌+◌, ◌-◌}
+use Rattle.dc_busy.proofs.leaps.leap.Given as goal
+
+abbrev pub invariant-loop-ticks : goal.invariant-loop-ticks
+invariant-loop-ticks g l = record {
+  later : l.first ≤ l.ticks;
+  inside : l.ticks ≤ l.last + 1;
+  knows : g.W.Watcher.knows l.watcher (g.A.ArrivalBound.cap l.arrivals) l.ticks;
+}
+
+abbrev pub decreases-loop-ticks : goal.decreases-loop-ticks
+decreases-loop-ticks g l = l.last + 1 - l.ticks
