@@ -1,10 +1,11 @@
 -- What a watcher knows after one stretch more, and at the end of its walk.
-use Rattle.std.proofs.Common.{◌≡◌, ℕ, ◌+◌, ◌-◌, ◌<◌, ◌≤◌, max, Bool, true, false, refl, subst, arith, inl, inr}
+use Rattle.std.proofs.Common.{◌≡◌, ℕ, ◌+◌, ◌-◌, ◌<◌, ◌≤◌, max, Bool, true, false, refl, sym, subst, ◌∙◌, arith, inl, inr}
 use Rattle.std.proofs.lemmas.Bool.{cases_lt}
 use Rattle.dc_bound.specs.Window.{Shown}
 use Rattle.dc_bound.specs.lemmas.Jumps.{Grows}
-use Rattle.dc_busy.specs.BusyWindow.{BacklogAt, BacklogBounded, DelayBounded}
+use Rattle.dc_busy.specs.BusyWindow.{Closes, BacklogAt, BacklogBounded, DelayBounded}
 use Rattle.dc_busy.specs.Least.{IsLeast}
+use Rattle.dc_busy.specs.lemmas.Least.{closing-bounds_delay}
 use Rattle.dc_busy.specs.Watched.{EachBelow, DelayedBelow}
 
 -- the greatest backlog, with one stretch more
@@ -92,3 +93,39 @@ past_window a s window ticks until delay behind ahead known = (
   (λ v first below near. known.0 v first (omega arith) near),
   (λ m each. known.1 m (λ v first below near. each v first (omega arith) near)),
 )
+
+-- the greatest backlog, where no more come at the end of a leap than pass
+pub patient_backlog : (a s : ℕ → ℕ) → Grows a → Grows s → (ticks until passes greatest : ℕ) → ticks ≤ until → passes ≤ greatest + s (ticks - 2) → a until ≤ passes →
+    IsLeast (λ b. EachBelow (BacklogAt a s b) 1 ticks) greatest → IsLeast (λ b. EachBelow (BacklogAt a s b) 1 (until + 1)) greatest
+patient_backlog a s a_grows s_grows ticks until passes greatest ahead enough few known = (
+  (λ v first below.
+      elim (cases_lt v ticks) [
+        | inl k ↦ known.0 v first k
+        | inr k ↦ omega (arith, a_grows v until (omega arith), few, enough, s_grows (ticks - 2) (v - 2) (omega arith))
+      ]),
+  (λ m each. known.1 m (λ v first below. each v first (omega arith))),
+)
+
+-- the least delay, where no more come at the end of a leap than pass
+pub patient_delay : (a s : ℕ → ℕ) → Grows a → Grows s → (window ticks until passes delay : ℕ) → ticks ≤ until → passes ≤ s (ticks - 1 + delay) → a until ≤ passes →
+    IsLeast (λ d. DelayedBelow a s window d ticks) delay → IsLeast (λ d. DelayedBelow a s window d (until + 1)) delay
+patient_delay a s a_grows s_grows window ticks until passes delay ahead enough few known = (
+  (λ v first below near.
+      elim (cases_lt v ticks) [
+        | inl k ↦ known.0 v first k near
+        | inr k ↦ omega (arith, a_grows v until (omega arith), few, enough, s_grows (ticks - 1 + delay) (v - 1 + delay) (omega arith))
+      ]),
+  (λ m each. known.1 m (λ v first below near. each v first (omega arith) near)),
+)
+
+-- what is known at the end, where the walk cannot have ended before
+pub to_the_end : {P : Type 0} (seen : Bool) → (seen ≡ true → P) → (seen ≡ false → ⊥) → P
+to_the_end true all ended = all refl
+to_the_end false all ended = absurd (ended refl)
+
+-- in a window that closes, some delay is enough
+pub some_delay : (a s t u : ℕ → ℕ) → s ≡ t → u ≡ t → Grows a → Grows s → (held window last : ℕ) → held ≡ window → last ≡ window → 1 ≤ last → last ≤ 100000 → Closes a u last →
+    ((d : ℕ) → d ≤ 100000 → ¬ DelayBounded a s held d) → ⊥
+some_delay a s t u same asked a_grows s_grows held window last is end some most closes never =
+    let here : Closes a s last = subst (λ f. Closes a f last) (asked ∙ sym same) closes in
+    never (last - 1) (omega arith) (λ w first inside. closing-bounds_delay a s a_grows s_grows last here w first (omega arith))

@@ -1,5 +1,5 @@
-//! The first failing windows of a stretch, by one walk along the jumps of the arrival bound: between two jumps no later
-//! window fails where the first does not, and what was taken in a shorter window is taken in a longer one.
+//! The first failing windows of a stretch, by one walk along the arrival bound by leaps: between two jumps no later window
+//! fails where the first does not, and what was taken in a shorter window is taken in a longer one.
 
 ghost use Rattle.std.specs.Prelude.{◌≡◌, ℕ, ◌+◌, ◌-◌, ◌<◌, ◌≤◌, Some, None, MatchOption};
 ghost use Rattle.dc_busy.specs.BusyWindow.{BacklogAt, DelayAt, IsFirstBetween};
@@ -7,6 +7,7 @@ ghost use Rattle.dc_busy.specs.Watched.{IsFirstSoFar, IsFound};
 ghost use Rattle.dc_busy.specs.declared.limits.TheConstants.{LONGEST_WINDOW};
 
 use crate::asked::Asked;
+use crate::leaps::{Patient, walk_by_leaps};
 use dc_bound::{ArrivalBound, ServiceBound, Watcher};
 use std::marker::{Brand, PhantomData};
 
@@ -53,7 +54,7 @@ fn failures_asked<A: ArrivalBound, S: ServiceBound, K: Asked>(
     if first > last {
         return (None, None);
     }
-    let mut failures: Failures<S, K> = Failures {
+    let watcher: Failures<S, K> = Failures {
         service,
         backlog,
         delay,
@@ -63,7 +64,7 @@ fn failures_asked<A: ArrivalBound, S: ServiceBound, K: Asked>(
         overdue: None,
         of: PhantomData,
     };
-    arrivals.walk(first, last, &mut failures);
+    let (failures, _) = walk_by_leaps(arrivals, first, last, watcher);
     (
         up_to(last, failures.overfull),
         up_to(last, failures.overdue),
@@ -113,7 +114,39 @@ impl<'a, S: ServiceBound, K: Asked> Watcher for Failures<'a, S, K> {
     }
 }
 
+impl<'a, S: ServiceBound, K: Asked> Patient for Failures<'a, S, K> {
+    fn passes(&self, ticks: u32) -> u64 {
+        self.held_from(ticks).min(self.taken_from(ticks))
+    }
+}
+
 impl<'a, S: ServiceBound, K: Asked> Failures<'a, S, K> {
+    /// As many as may come, in so many ticks and in more, with no more than the backlog waiting; any number of them once
+    /// a window was found in which more wait.
+    fn held_from(&self, ticks: u32) -> u64
+        requires { ticks ≤ LONGEST_WINDOW }
+        ensures { MatchOption self.now.overfull (result ≤ self.now.backlog + S.floor self.now.service.now (ticks - 2)) (λ _. Unit {0}) }
+    {
+        if self.overfull.is_some() {
+            return u64::MAX;
+        }
+        let visits = self.service.at_least(ticks.saturating_sub(2));
+        self.backlog.saturating_add(visits)
+    }
+
+    /// As many as may come, in so many ticks and in more, and are taken in time; any number of them once a window was
+    /// found in which more come.
+    fn taken_from(&self, ticks: u32) -> u64
+        requires least { 1 ≤ ticks }
+        requires most { ticks ≤ LONGEST_WINDOW }
+        ensures { MatchOption self.now.overdue (result ≤ S.floor self.now.service.now (ticks - 1 + self.now.delay)) (λ _. Unit {0}) }
+    {
+        if self.overdue.is_some() {
+            return u64::MAX;
+        }
+        self.service.at_least(ticks - 1 + self.delay)
+    }
+
     /// The count that is known to pass, and what was found before, else this number of ticks where more than the
     /// backlog may wait.
     #[inline(always)]

@@ -1,4 +1,4 @@
-//! The first window that fails one of the two tests, by a walk along the jumps of the arrival bound.
+//! The first window that fails one of the two tests, by a walk along the arrival bound by leaps.
 
 ghost use Rattle.std.specs.Prelude.{◌≡◌, ℕ, ◌+◌, ◌-◌, ◌≤◌, MatchOption};
 ghost use Rattle.dc_busy.specs.BusyWindow.{BacklogAt, BacklogBounded, DelayAt, DelayBounded, IsLeastFailing};
@@ -7,6 +7,7 @@ ghost use Rattle.dc_busy.specs.declared.limits.TheConstants.{LONGEST_WINDOW};
 
 use crate::asked::Asked;
 use crate::between::up_to;
+use crate::leaps::{Patient, walk_by_leaps};
 use dc_bound::{ArrivalBound, ServiceBound, Watcher};
 use std::marker::PhantomData;
 
@@ -24,17 +25,18 @@ pub(crate) fn first_overfull<A: ArrivalBound, S: ServiceBound, K: Asked>(
     ensures { MatchOption result (BacklogBounded (A.cap arrivals.now) K.floor window K.backlog)
         (λ w. IsLeastFailing (BacklogAt (A.cap arrivals.now) K.floor K.backlog) window w) }
 {
-    let mut watcher: Overfull<S, K> = Overfull {
+    let watcher: Overfull<S, K> = Overfull {
         service,
         backlog,
         held: backlog,
         found: None,
         of: PhantomData,
     };
-    if arrivals.walk(1, window, &mut watcher) {
+    let (watched, more) = walk_by_leaps(arrivals, 1, window, watcher);
+    if more {
         return None;
     }
-    up_to(window, watcher.found)
+    up_to(window, watched.found)
 }
 
 /// What [`crate::delay_fails`] finds, where what is asked is known by a type.
@@ -52,17 +54,18 @@ pub(crate) fn first_overdue<A: ArrivalBound, S: ServiceBound, K: Asked>(
     ensures { MatchOption result (DelayBounded (A.cap arrivals.now) K.floor window K.delay)
         (λ w. IsLeastFailing (DelayAt (A.cap arrivals.now) K.floor K.delay) window w) }
 {
-    let mut watcher: Overdue<S, K> = Overdue {
+    let watcher: Overdue<S, K> = Overdue {
         service,
         delay,
         taken: 0,
         found: None,
         of: PhantomData,
     };
-    if arrivals.walk(1, window, &mut watcher) {
+    let (watched, more) = walk_by_leaps(arrivals, 1, window, watcher);
+    if more {
         return None;
     }
-    up_to(window, watcher.found)
+    up_to(window, watched.found)
 }
 
 /// Looks for the first window in which more than the backlog may wait. As many as `held` are known to pass from here on.
@@ -98,6 +101,13 @@ impl<'a, S: ServiceBound, K: Asked> Watcher for Overfull<'a, S, K> {
     }
 }
 
+impl<'a, S: ServiceBound, K: Asked> Patient for Overfull<'a, S, K> {
+    fn passes(&self, ticks: u32) -> u64 {
+        let visits = self.service.at_least(ticks.saturating_sub(2));
+        self.backlog.saturating_add(visits)
+    }
+}
+
 /// Looks for the first window in which more may come than is taken in time. As many as `taken` are known to be, from
 /// here on.
 #[derive(Drop)]
@@ -129,5 +139,11 @@ impl<'a, S: ServiceBound, K: Asked> Watcher for Overdue<'a, S, K> {
             return false;
         }
         true
+    }
+}
+
+impl<'a, S: ServiceBound, K: Asked> Patient for Overdue<'a, S, K> {
+    fn passes(&self, ticks: u32) -> u64 {
+        self.service.at_least(ticks - 1 + self.delay)
     }
 }

@@ -1,5 +1,5 @@
-//! The least numbers of a queue. Each is found by a walk along the jumps of the arrival bound; between two jumps the
-//! bound stays, and the least number of ticks that are visited so often is found by halves.
+//! The least numbers of a queue. Backlog and delay are found by a walk along the arrival bound by leaps, the window from one
+//! that is too short to the next that may close.
 
 ghost use Rattle.std.specs.Prelude.{◌≡◌, ℕ, ◌+◌, ◌-◌, ◌<◌, ◌≤◌, Some, MatchOption};
 ghost use Rattle.dc_busy.specs.BusyWindow.{Closes, BacklogAt, BacklogBounded, DelayAt, DelayBounded};
@@ -10,6 +10,7 @@ ghost use Rattle.dc_busy.specs.declared.limits.TheConstants.{LONGEST_WINDOW};
 
 use crate::LONGEST_WINDOW;
 use crate::asked::Served;
+use crate::leaps::{Patient, walk_by_leaps};
 use dc_bound::{ArrivalBound, ServiceBound, Watcher};
 use std::marker::{Brand, PhantomData};
 
@@ -35,13 +36,13 @@ fn greatest_backlog<A: ArrivalBound, S: ServiceBound, K: Served>(
     requires floor_is { S.floor service.now ≡ K.floor }
     ensures { IsLeast (BacklogBounded (A.cap arrivals.now) K.floor window) result }
 {
-    let mut backlogs: Greatest<S, K> = Greatest {
+    let watcher: Greatest<S, K> = Greatest {
         service,
         greatest: 0,
         held: 0,
         of: PhantomData,
     };
-    arrivals.walk(1, window, &mut backlogs);
+    let (backlogs, _) = walk_by_leaps(arrivals, 1, window, watcher);
     backlogs.greatest
 }
 
@@ -71,52 +72,46 @@ fn smallest_delay<A: ArrivalBound, S: ServiceBound, K: Served>(
     requires window_is { window ≡ K.window }
     ensures { IsLeastUpToLongest (DelayBounded (A.cap arrivals.now) K.floor K.window) result }
 {
-    let mut delays: Delays<S, K> = Delays {
+    let watcher: Delays<S, K> = Delays {
         service,
         window,
         delay: 0,
         taken: 0,
         of: PhantomData,
     };
-    if arrivals.walk(1, window, &mut delays) {
+    let (delays, all) = walk_by_leaps(arrivals, 1, window, watcher);
+    if all {
         return Some(delays.delay);
     }
     None
 }
 
-/// The least window of 1 to [`LONGEST_WINDOW`] ticks that closes; `None` where there is none.
+/// The least window of 1 to [`LONGEST_WINDOW`] ticks that closes; `None` where there is none. A window that closes is
+/// longer than the number of ticks that are visited as often as words may come in a shorter one.
 pub fn least_window<A: ArrivalBound, S: ServiceBound>(arrivals: &A, service: &S) -> Option<u32>
     ensures { IsLeastUpToLongest (ClosesWithin (A.cap arrivals.now) (S.floor service.now)) result }
 {
-    first_closing::<A, S, Brand>(arrivals, service)
-}
-
-/// The same, where the floor is known by a type.
-fn first_closing<A: ArrivalBound, S: ServiceBound, K: Served>(
-    arrivals: &A,
-    service: &S,
-) -> Option<u32>
-    requires floor_is { S.floor service.now ≡ K.floor }
-    ensures { IsLeastUpToLongest (ClosesWithin (A.cap arrivals.now) K.floor) result }
-{
-    let mut closing: Closing<S, K> = Closing {
-        service,
-        found: 0,
-        of: PhantomData,
-    };
-    if arrivals.walk(1, LONGEST_WINDOW, &mut closing) {
-        return None;
+    let mut window = 1;
+    while window <= LONGEST_WINDOW {
+        let most = arrivals.at_most(window);
+        let Some(served) = least_ticks(service, most, window - 1, LONGEST_WINDOW) else {
+            return None;
+        };
+        if served < window {
+            return Some(window);
+        }
+        window = served + 1;
     }
-    Some(closing.found)
+    None
 }
 
 /// The greatest backlog so far. As many as `held` are known to leave it so from here on.
 #[derive(Drop)]
-struct Greatest<'a, S: ServiceBound, K: Served> {
-    service: &'a S,
-    greatest: u64,
-    held: u64,
-    of: PhantomData<K>,
+pub(crate) struct Greatest<'a, S: ServiceBound, K: Served> {
+    pub(crate) service: &'a S,
+    pub(crate) greatest: u64,
+    pub(crate) held: u64,
+    pub(crate) of: PhantomData<K>,
     ghost floor_is: { S.floor service.now ≡ K.floor },
 }
 
@@ -139,14 +134,21 @@ impl<'a, S: ServiceBound, K: Served> Watcher for Greatest<'a, S, K> {
     }
 }
 
+impl<'a, S: ServiceBound, K: Served> Patient for Greatest<'a, S, K> {
+    fn passes(&self, ticks: u32) -> u64 {
+        let visits = self.service.at_least(ticks.saturating_sub(2));
+        self.greatest.saturating_add(visits)
+    }
+}
+
 /// The least delay of what was seen up to the window. As many as `taken` are known to be taken in time from here on.
 #[derive(Drop)]
-struct Delays<'a, S: ServiceBound, K: Served> {
-    service: &'a S,
-    window: u32,
-    delay: u32,
-    taken: u64,
-    of: PhantomData<K>,
+pub(crate) struct Delays<'a, S: ServiceBound, K: Served> {
+    pub(crate) service: &'a S,
+    pub(crate) window: u32,
+    pub(crate) delay: u32,
+    pub(crate) taken: u64,
+    pub(crate) of: PhantomData<K>,
     ghost short: { delay ≤ LONGEST_WINDOW },
     ghost floor_is: { S.floor service.now ≡ K.floor },
     ghost window_is: { window ≡ K.window },
@@ -181,41 +183,44 @@ impl<'a, S: ServiceBound, K: Served> Watcher for Delays<'a, S, K> {
     }
 }
 
-/// The least window that closes, once it is found.
-#[derive(Drop)]
-struct Closing<'a, S: ServiceBound, K: Served> {
-    service: &'a S,
-    found: u32,
-    of: PhantomData<K>,
-    ghost floor_is: { S.floor service.now ≡ K.floor },
-}
-
-impl<'a, S: ServiceBound, K: Served> Watcher for Closing<'a, S, K> {
-    ghost knows = { λ w cap ticks. (v : ℕ) → 1 ≤ v → v < ticks → ¬ Closes cap (S.floor w.service.now) v };
-
-    ghost ends = { λ w cap. (w.found ≤ LONGEST_WINDOW) × IsLeast (ClosesWithin cap (S.floor w.service.now)) w.found };
-
-    #[inline(always)]
-    fn see(&mut self, ticks: u32, until: u32, most: u64) -> bool {
-        if let Some(served) = least_ticks(self.service, most, ticks - 1, until - 2) {
-            self.found = served + 1;
-            return false;
-        }
-        true
+impl<'a, S: ServiceBound, K: Served> Patient for Delays<'a, S, K> {
+    fn passes(&self, ticks: u32) -> u64 {
+        self.service.at_least(ticks - 1 + self.delay)
     }
 }
 
 /// The least number of ticks from `from` to `to`, at most the longest span, that hold at least `count` visits; `None`
-/// where there is none.
+/// where there is none. Mostly it is near: each look is twice as far on as the one before, until one finds as many.
 fn least_ticks<S: ServiceBound>(service: &S, count: u64, from: u32, to: u32) -> Option<u32>
     requires order { from ≤ to }
     requires far { to ≤ LONGEST_SPAN }
     ensures { MatchOption result (S.floor service.now to < count) (λ d. (from ≤ d) × (d ≤ to) × (count ≤ S.floor service.now d)
         × ((e : ℕ) → from ≤ e → e < d → S.floor service.now e < count)) }
 {
-    if service.at_least(to) < count {
-        return None;
+    let mut low = from;
+    let mut ahead = from;
+    let mut step: u32 = 1;
+    while service.at_least(ahead) < count {
+        if ahead == to {
+            return None;
+        }
+        low = ahead + 1;
+        ahead = ahead.saturating_add(step).min(to);
+        step = step.saturating_mul(2);
     }
+    Some(least_between(service, count, low, ahead))
+}
+
+/// The same, where `to` ticks are known to hold as many, by halves.
+fn least_between<S: ServiceBound>(service: &S, count: u64, from: u32, to: u32) -> u32
+    requires order { from ≤ to }
+    requires far { to ≤ LONGEST_SPAN }
+    requires enough { count ≤ S.floor service.now to }
+    ensures above { from ≤ result }
+    ensures below { result ≤ to }
+    ensures enough { count ≤ S.floor service.now result }
+    ensures least { (e : ℕ) → from ≤ e → e < result → S.floor service.now e < count }
+{
     let mut low = from;
     let mut high = to;
     while low < high {
@@ -226,5 +231,5 @@ fn least_ticks<S: ServiceBound>(service: &S, count: u64, from: u32, to: u32) -> 
             high = middle;
         }
     }
-    Some(high)
+    high
 }

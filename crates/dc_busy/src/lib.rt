@@ -16,6 +16,7 @@ mod first;
 mod leaps;
 mod least;
 mod limits;
+mod numbers;
 
 pub use between::failures_between;
 use dc_bound::{ArrivalBound, ServiceBound};
@@ -23,6 +24,7 @@ use first::{first_overdue, first_overfull};
 pub use leaps::{Patient, walk_by_leaps};
 pub use least::{least_delay, least_window, most_backlog};
 pub use limits::LONGEST_WINDOW;
+pub use numbers::{LeastNumbers, least_numbers};
 use std::marker::Brand;
 
 /// Whether a window closes: at least as many visits in its ticks but the first as may come in all of them. `window` is

@@ -1,14 +1,14 @@
 use Rattle.std.proofs.Common.{ℕ, ◌-◌, ◌<◌, ◌≤◌}
 use Rattle.dc_busy.proofs.least.least_ticks.Given as goal
 
-abbrev pub invariant-loop-low : goal.invariant-loop-low
-invariant-loop-low g l = record {
+abbrev pub invariant-loop-count : goal.invariant-loop-count
+invariant-loop-count g l = record {
   above : l.from ≤ l.low;
-  order : l.low ≤ l.high;
-  below : l.high ≤ l.to;
-  enough : l.count ≤ g.S.ServiceBound.floor l.service l.high;
+  order : l.low ≤ l.ahead;
+  below : l.ahead ≤ l.to;
+  some : 1 ≤ l.step;
   too_few : (e : ℕ) → l.from ≤ e → e < l.low → g.S.ServiceBound.floor l.service e < l.count;
 }
 
-abbrev pub decreases-loop-low : goal.decreases-loop-low
-decreases-loop-low g l = l.high - l.low
+abbrev pub decreases-loop-count : goal.decreases-loop-count
+decreases-loop-count g l = l.to - l.ahead
