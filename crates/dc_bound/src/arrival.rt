@@ -51,6 +51,11 @@ pub trait ArrivalBound {
         jump
     }
 
+    /// Whether a walk may leap: whether a look by `at_most` costs no more than some tens of steps. Any answer is right.
+    fn may_leap(&self) -> bool {
+        true
+    }
+
     /// Shows a watcher the numbers of ticks from `first`, at least 1, to `last`, at most
     /// [`LONGEST_WALK`](crate::LONGEST_WALK), stretch by stretch of one cap each, until it wants to see no more. Whether
     /// it wants to see more.

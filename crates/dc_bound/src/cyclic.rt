@@ -13,6 +13,9 @@ use crate::arrival::ArrivalBound;
 use crate::limits::{LONGEST_SPAN, MOST_ENTRIES};
 use crate::walk::Watcher;
 
+/// The most entries of a frame for which a walk leaps.
+const FEW_ENTRIES: usize = 64;
+
 /// Entries that are due at offsets in a frame that comes again and again.
 #[derive(Drop)]
 pub struct Cyclic<'a> {
@@ -57,6 +60,11 @@ impl<'a> ArrivalBound for Cyclic<'a> {
         } else {
             (count, None)
         }
+    }
+
+    // A look passes over all entries twice, a step over none once its span is known.
+    fn may_leap(&self) -> bool {
+        self.offsets.len() <= FEW_ENTRIES
     }
 
     // Due ticks ascend strictly, so that at each jump one more may come; and each frame says the same again, so that a

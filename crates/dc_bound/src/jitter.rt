@@ -116,6 +116,10 @@ impl<A: ArrivalBound> ArrivalBound for Capped<A> {
         (first, later(first_jump, second_jump))
     }
 
+    fn may_leap(&self) -> bool {
+        self.sum.may_leap()
+    }
+
     // one walk along the sum, which asks of its members those that jump, and the wire where it does not carry all
     fn walk<W: Watcher>(&self, first: u32, last: u32, watcher: &mut W) -> bool {
         self.sum.walk_under(&self.wire, first, last, watcher)

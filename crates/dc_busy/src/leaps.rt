@@ -40,7 +40,7 @@ pub fn walk_by_leaps<A: ArrivalBound, W: Patient>(
 {
     let mut watcher = watcher;
     let mut ticks = first;
-    let mut few = FEW_TICKS;
+    let mut few = first_walk(arrivals);
     while ticks <= last {
         let end = ticks.saturating_add(few).min(last);
         if !arrivals.walk(ticks, end, &mut watcher) {
@@ -50,6 +50,14 @@ pub fn walk_by_leaps<A: ArrivalBound, W: Patient>(
         few = walked_next(few, ticks - end);
     }
     (watcher, true)
+}
+
+/// How many ticks are walked step by step at first: all, where a leap does not pay.
+fn first_walk<A: ArrivalBound>(arrivals: &A) -> u32 {
+    if arrivals.may_leap() {
+        return FEW_TICKS;
+    }
+    LONGEST_WINDOW
 }
 
 /// How many ticks are walked step by step after a leap over so many: twice as many as before where it was short.
@@ -70,6 +78,9 @@ fn leap<A: ArrivalBound, W: Patient>(arrivals: &A, watcher: &W, first: u32, last
     ensures later { first ≤ result }
     ensures inside { result ≤ last + 1 }
 {
+    if last < first {
+        return first;
+    }
     let mut most = arrivals.at_most(first);
     let mut ticks = first;
     while ticks <= last {
