@@ -1,14 +1,26 @@
 -- A walk along the jumps of a cap, and the greatest height so far.
-use Rattle.std.proofs.Common.{◌≡◌, ℕ, zero, suc, ◌+◌, ◌-◌, ◌≤◌, ◌<◌, Bool, true, false, refl, sym, ap, subst, arith, inl, inr, ◌⊎◌, ◌∙◌}
+use Rattle.std.proofs.Common.{◌≡◌, ℕ, zero, suc, ◌+◌, ◌-◌, ◌^◌, ◌≤◌, ◌<◌, Bool, true, false, refl, sym, ap, subst, arith, inl, inr, ◌∙◌}
 use Rattle.std.specs.Prelude.{nat_lt, nat_le, if◌then◌else◌}
 use Rattle.std.proofs.lemmas.Bool.{cases_lt, lt-ltb, le-ltb, lt-leb, le-leb, leb-true}
 use Rattle.dc_bound.specs.Window.{Shown}
-use Rattle.dc_margin.specs.Peaks.{waiting, least_below, needed, IsPeak}
+use Rattle.dc_margin.specs.Peaks.{waiting, least_below, needed}
 use Rattle.dc_margin.specs.Rising.{IsPeakSoFar}
 use Rattle.dc_margin.specs.declared.peaks.Peak.{Peak}
 use Rattle.dc_margin.specs.lemmas.Heights.{above-failing, below-count, below-least}
 
 module _ (f : ℕ → ℕ) (window : ℕ) where
+  -- where nothing is higher from here up to the next one
+  pub peak-kept : (end next w h : ℕ) → ((v : ℕ) → end ≤ v → v < next → f v ≤ h) → IsPeakSoFar f window end w h → IsPeakSoFar f window next w h
+  peak-kept end next w h low-enough p = record {
+    some = p.some;
+    at = p.at;
+    greatest = λ v low high near. elim (cases_lt v end) [
+      | inl below ↦ p.greatest v low below near
+      | inr past ↦ low-enough v past high
+    ];
+    first = p.first;
+  }
+
   -- one more that is higher, or not, up to the next one at which f may be higher
   module _ (end next : ℕ) (some : 1 ≤ end) (inside : end ≤ window) (flat : (v : ℕ) → end ≤ v → v < next → f v ≤ f end) where
     higher-peak : (w h : ℕ) → h < f end → IsPeakSoFar f window end w h → IsPeakSoFar f window next end (f end)
@@ -23,15 +35,7 @@ module _ (f : ℕ → ℕ) (window : ℕ) where
     }
 
     same-peak : (w h : ℕ) → f end ≤ h → IsPeakSoFar f window end w h → IsPeakSoFar f window next w h
-    same-peak w h g p = record {
-      some = p.some;
-      at = p.at;
-      greatest = λ v low high near. elim (cases_lt v end) [
-        | inl below ↦ p.greatest v low below near
-        | inr past ↦ omega (arith, flat v past high, g)
-      ];
-      first = p.first;
-    }
+    same-peak w h g p = peak-kept end next w h (λ v past high. omega (arith, flat v past high, g)) p
 
     pub peak-more : (p q : Peak) (height : ℕ) → height ≡ f end → q ≡ (if nat_lt p.height height then record { ticks = end; height = height } else p) → IsPeakSoFar f window end p.ticks p.height
         → IsPeakSoFar f window next q.ticks q.height
@@ -44,43 +48,6 @@ module _ (f : ℕ → ℕ) (window : ℕ) where
               let there : q ≡ p = is ∙ ap (λ b. if b then record { ticks = end; height = height } else p) (le-ltb p.height height g) in
               subst (λ r. IsPeakSoFar f window next r.ticks r.height) (sym there) (same-peak p.ticks p.height (omega (arith, g, at)) known)
         ]
-
-  -- behind the window nothing is looked at
-  pub peak-behind : (end next : ℕ) → window < end → end ≤ next → (p : Peak) → IsPeakSoFar f window end p.ticks p.height → IsPeakSoFar f window next p.ticks p.height
-  peak-behind end next behind ahead p known = record {
-    some = known.some;
-    at = known.at;
-    greatest = λ v low high near. known.greatest v low (omega (arith, near, behind)) near;
-    first = known.first;
-  }
-
-  peak-at : (w h : ℕ) → 1 ≤ window → ((w ≤ window) × (h ≡ f w)) ⊎ ((w ≡ 1) × (h ≡ 0)) → f 1 ≤ h → (w ≤ window) × (h ≡ f w)
-  peak-at w h whole at below =
-      elim at [
-        | inl here ↦ here
-        | inr none ↦ (omega (arith, none.0, whole), omega (arith, none.1, below, ap f none.0))
-      ]
-
-  -- the greatest of the whole window
-  pub peak-whole : (w h : ℕ) → 1 ≤ window → IsPeakSoFar f window (window + 1) w h → IsPeak f window w h
-  peak-whole w h whole known =
-      let met = peak-at w h whole known.at (known.greatest 1 (omega arith) (omega (arith, whole)) whole) in
-      record {
-        some = known.some;
-        within = met.0;
-        height = met.1;
-        greatest = λ v low near. known.greatest v low (omega (arith, near)) near;
-        first = known.first;
-      }
-
--- the greatest of the whole window, by the floor and the window that a type says
-pub all-peaks : (height : (ℕ → ℕ) → ℕ → ℕ) (floor told : ℕ → ℕ) → floor ≡ told → (held window last : ℕ) → held ≡ window → last ≡ window → 1 ≤ last → (w h : ℕ) → (seen : Bool)
-    → (seen ≡ true → IsPeakSoFar (height floor) held (last + 1) w h) → (seen ≡ false → ⊥) → IsPeak (height told) window w h
-all-peaks height floor told same held window last is end whole w h true all ended =
-    let here = subst (λ n. IsPeakSoFar (height floor) n (last + 1) w h) is (all refl) in
-    let there = subst (λ n. IsPeakSoFar (height floor) window (n + 1) w h) end here in
-    subst (λ f. IsPeak (height f) window w h) same (peak-whole (height floor) window w h (omega (arith, whole, end)) there)
-all-peaks height floor told same held window last is end whole w h false all ended = absurd (ended refl)
 
 -- ---- the least number that passes
 
@@ -118,7 +85,7 @@ module _ (floor : ℕ → ℕ) (grows : (d e : ℕ) → d ≤ e → floor d ≤ 
       least-at 100001 (λ d. nat_le most (floor (ticks - 1 + d))) high end (λ e below. lt-leb _ _ (fails e below)) (λ inside. le-leb _ _ (passes inside))
 
   -- each delay up to one that is too short is too short
-  pub all-short : (most before delay : ℕ) → floor (before + delay) < most → (e : ℕ) → e < delay + 1 → floor (before + e) < most
+  all-short : (most before delay : ℕ) → floor (before + delay) < most → (e : ℕ) → e < delay + 1 → floor (before + e) < most
   all-short most before delay fails e below = omega (arith, fails, grows (before + e) (before + delay) (omega arith))
 
   -- no delay above 100,001 is needed
@@ -126,8 +93,22 @@ module _ (floor : ℕ → ℕ) (grows : (d e : ℕ) → d ≤ e → floor d ≤ 
   needs-most most ticks = below-count 100001 (λ d. nat_le most (floor (ticks - 1 + d)))
 
   -- none above one that is enough
-  pub needs-less : (most ticks delay : ℕ) → delay ≤ 100000 → most ≤ floor (ticks - 1 + delay) → needed (λ _. most) floor ticks ≤ delay
+  needs-less : (most ticks delay : ℕ) → delay ≤ 100000 → most ≤ floor (ticks - 1 + delay) → needed (λ _. most) floor ticks ≤ delay
   needs-less most ticks delay short enough = below-least 100001 (λ d. nat_le most (floor (ticks - 1 + d))) delay (omega arith) (le-leb _ _ enough)
+
+  -- none above one that is enough unless it is over 100,000
+  pub needs-within : (most ticks height : ℕ) → (height ≤ 100000 → most ≤ floor (ticks - 1 + height)) → needed (λ _. most) floor ticks ≤ height
+  needs-within most ticks height enough =
+      elim (cases_lt height 100001) [
+        | inl l ↦ needs-less most ticks height (omega (arith, l)) (enough (omega (arith, l)))
+        | inr g ↦ omega (arith, needs-most most ticks, g)
+      ]
+
+  -- the one that is needed is enough unless it is over 100,000
+  pub needs-enough : (most ticks height : ℕ) → height ≡ needed (λ _. most) floor ticks → height ≤ 100000 → most ≤ floor (ticks - 1 + height)
+  needs-enough most ticks height is short =
+      subst (λ d. most ≤ floor (ticks - 1 + d)) (sym is)
+      (leb-true _ _ (least-passes 100001 (λ d. nat_le most (floor (ticks - 1 + d))) (omega (arith, is, short))))
 
   -- more than one that is too short
   pub needs-more : (most ticks delay : ℕ) → delay ≤ 100000 → floor (ticks - 1 + delay) < most → delay < needed (λ _. most) floor ticks
@@ -154,7 +135,26 @@ module _ (cap floor : ℕ → ℕ) (grows : (d e : ℕ) → d ≤ e → floor d 
   needed-flat v low high =
       omega (arith, ap (λ n. needed (λ _. n) floor v) (flat v low high), needs-fewer floor grows (cap ticks) ticks v low)
 
+-- ---- no more than passes
+
+module _ (cap floor : ℕ → ℕ) (rises : (d e : ℕ) → d ≤ e → cap d ≤ cap e) (grows : (d e : ℕ) → d ≤ e → floor d ≤ floor e) (ticks until passes height : ℕ) (few : cap until ≤ passes) where
+  pub waiting-kept : passes ≤ height + floor (ticks - 2) → (v : ℕ) → ticks ≤ v → v < until + 1 → waiting cap floor v ≤ height
+  waiting-kept held v low high = omega (arith, few, held, rises v until (omega (arith, high)), grows (ticks - 2) (v - 2) (omega (arith, low)))
+
+  pub needed-kept : (height ≤ 100000 → passes ≤ floor (ticks - 1 + height)) → (v : ℕ) → ticks ≤ v → v < until + 1 → needed cap floor v ≤ height
+  needed-kept taken v low high =
+      needs-within floor grows (cap v) v height
+      (λ short. omega (arith, few, taken short, rises v until (omega (arith, high)), grows (ticks - 1 + height) (v - 1 + height) (omega (arith, low))))
+
 -- ---- the longer delay
+
+-- a height at which not all pass is 100,000 at most, where above that all do
+pub still-short : (height most passes : ℕ) → (100000 < height → (n : ℕ) → n < 2 ^ 64 → n ≤ passes) → most < 2 ^ 64 → passes < most → height ≤ 100000
+still-short height most passes all fits fails =
+    elim (cases_lt height 100001) [
+      | inl l ↦ omega (arith, l)
+      | inr past ↦ absurd (omega (arith, fails, all (omega (arith, past)) most fits))
+    ]
 
 module _ (floor : ℕ → ℕ) (grows : (d e : ℕ) → d ≤ e → floor d ≤ floor e) (most ticks : ℕ) (peak : Peak) where
   -- none is longer than the one at hand
@@ -167,15 +167,3 @@ module _ (floor : ℕ → ℕ) (grows : (d e : ℕ) → d ≤ e → floor d ≤ 
   grows-late height is l =
       ap (λ h. record { ticks = ticks; height = h }) is
       ∙ sym (ap (λ b. if b then record { ticks = ticks; height = needed (λ _. most) floor ticks } else peak) (lt-ltb peak.height (needed (λ _. most) floor ticks) l))
-
-  -- it is 100,001 at most
-  pub late-low : (q : Peak) → q ≡ (if nat_lt peak.height (needed (λ _. most) floor ticks) then record { ticks = ticks; height = needed (λ _. most) floor ticks } else peak) → peak.height ≤ 100001 → q.height ≤ 100001
-  late-low q is low =
-      elim (cases_lt peak.height (needed (λ _. most) floor ticks)) [
-        | inl l ↦
-            let here : q ≡ record { ticks = ticks; height = needed (λ _. most) floor ticks } = is ∙ ap (λ b. if b then record { ticks = ticks; height = needed (λ _. most) floor ticks } else peak) (lt-ltb peak.height _ l) in
-            omega (arith, ap (λ r. r.height) here, needs-most floor grows most ticks)
-        | inr g ↦
-            let there : q ≡ peak = is ∙ ap (λ b. if b then record { ticks = ticks; height = needed (λ _. most) floor ticks } else peak) (le-ltb peak.height _ g) in
-            omega (arith, ap (λ r. r.height) there, low)
-      ]

@@ -1,23 +1,45 @@
-use Rattle.std.proofs.Common.{arith, ◌∙◌}
-use Rattle.dc_margin.proofs.Walk.{needs-most, needs-less, needs-more, stays-late, grows-late}
+use Rattle.std.proofs.Common.{◌∙◌, arith}
+use Rattle.dc_margin.proofs.Walk.{needs-most, needs-within, needs-enough, needs-more, still-short, stays-late, grows-late}
 use Rattle.dc_margin.proofs.peaks.later.Goals as goal
 
-pub returns-then-peak-from : goal.returns-then-peak-from
-returns-then-peak-from g c =
+pub returns-then-most-taken-clause-peak : goal.returns-then-most-taken-clause-peak
+returns-then-most-taken-clause-peak g c =
     let floor = g.S.ServiceBound.floor c.args.service.now in
     let grows = g.met.S.ServiceBound.floor_monotone c.args.service.now in
-    stays-late floor grows c.args.most c.args.ticks c.args.peak (omega (arith, needs-most floor grows c.args.most c.args.ticks, c.if-peak-from.true, c.from.ensures))
+    λ known. stays-late floor grows c.args.most c.args.ticks c.args.peak
+    (needs-within floor grows c.args.most c.args.ticks c.args.peak.height (λ short. omega (arith, c.if-most-taken.true, known short)))
 
-pub returns-then-at_least-most : goal.returns-then-at_least-most
-returns-then-at_least-most g c =
+pub returns-then-most-served-clause-peak : goal.returns-then-most-served-clause-peak
+returns-then-most-served-clause-peak g c =
     let floor = g.S.ServiceBound.floor c.args.service.now in
     let grows = g.met.S.ServiceBound.floor_monotone c.args.service.now in
-    stays-late floor grows c.args.most c.args.ticks c.args.peak
-    (needs-less floor grows c.args.most c.args.ticks c.args.peak.height (omega (arith, c.if-peak-from.false, c.from.ensures)) (omega (arith, c.if-at_least-most.true, c.at_least.ensures)))
+    λ known. stays-late floor grows c.args.most c.args.ticks c.args.peak
+    (needs-within floor grows c.args.most c.args.ticks c.args.peak.height (λ short. omega (arith, c.if-most-served.true, c.in_time-served.ensures.some short)))
 
-pub returns : goal.returns
-returns g c =
+pub longer-requires-clause-low : goal.longer-requires-clause-low
+longer-requires-clause-low g c = still-short c.args.peak.height c.args.most c.in_time-served.result c.in_time-served.ensures.all (omega (arith, c.ranges.most.fits)) (omega (arith, c.if-most-served.false))
+
+pub longer-requires-clause-fails : goal.longer-requires-clause-fails
+longer-requires-clause-fails g c =
+    let low = still-short c.args.peak.height c.args.most c.in_time-served.result c.in_time-served.ensures.all (omega (arith, c.ranges.most.fits)) (omega (arith, c.if-most-served.false)) in
+    omega (arith, c.if-most-served.false, c.in_time-served.ensures.some low)
+
+pub returns-clause-peak : goal.returns-clause-peak
+returns-clause-peak g c =
     let floor = g.S.ServiceBound.floor c.args.service.now in
     let grows = g.met.S.ServiceBound.floor_monotone c.args.service.now in
-    grows-late floor grows c.args.most c.args.ticks c.args.peak c.from-2.result (c.from-2.ensures ∙ c.longer.ensures)
-    (needs-more floor grows c.args.most c.args.ticks c.args.peak.height (omega (arith, c.if-peak-from.false, c.from.ensures)) (omega (arith, c.if-at_least-most.false, c.at_least.ensures)))
+    let low = still-short c.args.peak.height c.args.most c.in_time-served.result c.in_time-served.ensures.all (omega (arith, c.ranges.most.fits)) (omega (arith, c.if-most-served.false)) in
+    λ known. grows-late floor grows c.args.most c.args.ticks c.args.peak c.from-height.result (c.from-height.ensures ∙ c.longer.ensures)
+    (needs-more floor grows c.args.most c.args.ticks c.args.peak.height low (omega (arith, c.if-most-served.false, c.in_time-served.ensures.some low)))
+
+pub returns-clause-taken : goal.returns-clause-taken
+returns-clause-taken g c =
+    let floor = g.S.ServiceBound.floor c.args.service.now in
+    let grows = g.met.S.ServiceBound.floor_monotone c.args.service.now in
+    λ known short. needs-enough floor grows c.args.most c.args.ticks c.from-height.result (c.from-height.ensures ∙ c.longer.ensures) short
+
+pub returns-clause-low : goal.returns-clause-low
+returns-clause-low g c =
+    let floor = g.S.ServiceBound.floor c.args.service.now in
+    let grows = g.met.S.ServiceBound.floor_monotone c.args.service.now in
+    omega (arith, c.from-height.ensures, c.longer.ensures, needs-most floor grows c.args.most c.args.ticks)

@@ -1,14 +1,6 @@
-use Rattle.std.proofs.Common.{◌-◌, arith}
-use Rattle.dc_margin.proofs.Walk.{needed-at, all-short}
+use Rattle.std.proofs.Common.{arith}
+use Rattle.dc_margin.proofs.Walk.{needed-at}
 use Rattle.dc_margin.proofs.peaks.longer.Goals as goal
-
-pub loop-low-init : goal.loop-low-init
-loop-low-init g c = record {
-  order = omega (arith, c.requires.low);
-  end = omega arith;
-  enough = λ inside. absurd (omega (arith, inside));
-  too_few = all-short (g.S.ServiceBound.floor c.args.service.now) (g.met.S.ServiceBound.floor_monotone c.args.service.now) c.args.most (c.args.ticks - 1) c.args.delay c.requires.fails;
-}
 
 pub returns : goal.returns
 returns g c =

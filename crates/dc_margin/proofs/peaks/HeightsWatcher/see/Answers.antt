@@ -1,12 +1,7 @@
-use Rattle.std.proofs.Common.{◌-◌, ◌≤◌, ap, sym, arith}
+use Rattle.std.proofs.Common.{◌+◌, ◌-◌, ◌≤◌, ap, sym, arith}
 use Rattle.dc_margin.specs.Peaks.{needed, waiting}
-use Rattle.dc_margin.proofs.Walk.{late-low, needed-flat, peak-more, waiting-flat}
+use Rattle.dc_margin.proofs.Walk.{needed-flat, peak-more, waiting-flat}
 use Rattle.dc_margin.proofs.peaks.HeightsWatcher.see.Goals as goal
-
-pub invariant_of-self-clause-low : goal.invariant_of-self-clause-low
-invariant_of-self-clause-low g c =
-    late-low (g.S.ServiceBound.floor c.args.self.now.service.now) (g.met.S.ServiceBound.floor_monotone c.args.self.now.service.now) c.args.most c.args.ticks c.args.self.now.delay
-    c.later-self.result c.later-self.ensures c.args.self.now.low
 
 pub returns-clause-goes : goal.returns-clause-goes
 returns-clause-goes g c =
@@ -14,11 +9,17 @@ returns-clause-goes g c =
     let floor = g.S.ServiceBound.floor now.service.now in
     let grows = g.met.S.ServiceBound.floor_monotone now.service.now in
     let ticks = c.args.ticks in
+    let until = c.args.until in
+    let most = c.args.most in
     let inside : ticks ≤ now.window = omega (arith, c.if-ticks-self.false) in
+    let backlog = c.fuller-held.result.0 in
+    let delay = c.later-taken.result.0 in
     λ e cap known shown.
     let here = shown ticks (omega arith) c.requires.some in (
-      peak-more (waiting cap floor) now.window ticks c.args.until c.requires.first inside (waiting-flat cap floor grows ticks c.args.until c.args.most c.requires.some shown) now.backlog c.higher-self.result
-          c.saturating_sub-2.result (omega (arith, c.saturating_sub-2.ensures, c.at_least-served.ensures, ap floor c.saturating_sub.ensures, here)) c.higher-self.ensures known.0,
-      peak-more (needed cap floor) now.window ticks c.args.until c.requires.first inside (needed-flat cap floor grows ticks c.args.until c.args.most c.requires.some shown) now.delay c.later-self.result
-          (needed (λ _. c.args.most) floor ticks) (ap (λ n. needed (λ _. n) floor ticks) (sym here)) c.later-self.ensures known.1,
+      omega (arith, c.fuller-held.ensures.held known.0, grows (ticks - 2) (until - 2) (omega (arith, c.requires.some))),
+      (λ short. omega (arith, c.later-taken.ensures.taken known.1 short, grows (ticks - 1 + delay.height) (until - 1 + delay.height) (omega (arith, c.requires.some)))),
+      peak-more (waiting cap floor) now.window ticks until c.requires.first inside (waiting-flat cap floor grows ticks until most c.requires.some shown) now.backlog backlog
+          (most - floor (ticks - 2)) (omega (arith, here)) (c.fuller-held.ensures.peak known.0) known.2,
+      peak-more (needed cap floor) now.window ticks until c.requires.first inside (needed-flat cap floor grows ticks until most c.requires.some shown) now.delay delay
+          (needed (λ _. most) floor ticks) (ap (λ n. needed (λ _. n) floor ticks) (sym here)) (c.later-taken.ensures.peak known.1) known.3,
     )
