@@ -70,7 +70,7 @@ pub(crate) fn kept_of_buses(
     requires members { All (λ b. b.streams ≤ MOST_MEMBERS) buses.now }
     ensures { IfOk result (λ v. AreKept v.items buses.now streams.now) }
 {
-    let mut rows = Vec::new(alloc);
+    let mut rows = Vec::with_capacity(alloc, buses.len())?;
     for bus in buses {
         let own = piece(streams, bus.first, bus.streams);
         let places = StreamPlaces::of(own);
