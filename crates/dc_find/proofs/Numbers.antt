@@ -1,11 +1,13 @@
 -- The least numbers of a queue, as those of the tables.
-use Rattle.std.proofs.Common.{◌≡◌, ℕ, ◌+◌, ◌-◌, ◌≤◌, ◌<◌, length, Some, refl, sym, subst, arith}
+use Rattle.std.proofs.Common.{◌≡◌, ℕ, ◌+◌, ◌-◌, ◌≤◌, ◌<◌, length, Option, Some, None, refl, sym, subst, arith}
+use Rattle.std.specs.Prelude.{IfSome, MatchOption}
 use Rattle.dc_busy.specs.BusyWindow.{BacklogBounded, DelayBounded}
 use Rattle.dc_busy.specs.Least.{IsLeast, IsLeastUpToLongest, ClosesWithin}
+use Rattle.dc_busy.specs.declared.numbers.LeastNumbers.{LeastNumbers}
 use Rattle.dc_busy.specs.lemmas.Least.{shorter-backlog, shorter-delay}
 use Rattle.dc_check.specs.Accepts.{WindowCloses, DelayHolds}
 use Rattle.dc_find.specs.Rows.{AreLeastTimes, IsLeastInput, IsLeastOutput}
-use Rattle.dc_find.specs.Ways.{NeverFits, StandsInTheWay, job_of, rank_of, IsFirstOfJob}
+use Rattle.dc_find.specs.Ways.{NeverCloses, NeverFits, StandsInTheWay, job_of, rank_of, IsFirstOfJob}
 use Rattle.dc_find.specs.declared.fault.FindFault.{FindFault}
 use Rattle.dc_find.specs.declared.fault.FindFault.TheVariants.{WindowNeverCloses, QueueTooShort, LabelRule, Memory}
 use Rattle.dc_find.specs.declared.fault.Queue.TheVariants.{Input, Output}
@@ -19,6 +21,12 @@ least-times cap floor window delay w d = record {
   least_window = λ v ok. w.1.1 v (ok.some, ok.closes);
   least_delay = λ v e ok holds. d.1.1 e (shorter-delay cap floor window v e (w.1.1 v (ok.some, ok.closes)) holds.bounded);
 }
+
+-- what one walk finds
+pub times-of : (cap floor : ℕ → ℕ) (found : Option LeastNumbers) → MatchOption found ((w : ℕ) → w ≤ 100000 → ¬ ClosesWithin cap floor w) (λ n. (n.window ≤ 100000) × IsLeast (ClosesWithin cap floor) n.window) →
+    IfSome found (λ n. IsLeastUpToLongest (DelayBounded cap floor n.window) (Some n.delay)) → MatchOption found (NeverCloses cap floor) (λ n. AreLeastTimes cap floor n.window n.delay)
+times-of cap floor None never delay = λ window ok. never window ok.most (ok.some, ok.closes)
+times-of cap floor (Some n) window delay = least-times cap floor n.window n.delay window delay
 
 -- two bounds and two floors that agree
 module _ (a s cap floor : ℕ → ℕ) (same_cap : (d : ℕ) → a d ≡ cap d) (same_floor : (d : ℕ) → s d ≡ floor d) where

@@ -1,13 +1,15 @@
 //! The least numbers of an input and of an output, by the bounds of their queues.
 
-ghost use Rattle.std.specs.Prelude.{◌≡◌, ◌≢◌, ℕ, ◌+◌, ◌<◌, length, IfOk, IfErr, MatchOption};
+ghost use Rattle.std.specs.Prelude.{◌≡◌, ◌≢◌, ℕ, ◌+◌, ◌<◌, length, IfOk, IfErr, IfSome, MatchOption};
+ghost use Rattle.dc_busy.specs.BusyWindow.{BacklogBounded};
+ghost use Rattle.dc_busy.specs.Least.{IsLeast};
 ghost use Rattle.dc_find.specs.Rows.{AreLeastTimes, AreLeastNumbers, IsLeastInput, IsLeastOutput};
 ghost use Rattle.dc_find.specs.Ways.{NeverCloses, IsFirstOfJob};
 ghost use Rattle.dc_tables.specs.TableRows.{bus_cap, bus_floor, output_cap, output_floor};
 
 use crate::fault::{FindFault, Queue};
 use dc_bound::{ArrivalBound, ServiceBound};
-use dc_busy::{least_delay, least_window, most_backlog};
+use dc_busy::{LeastNumbers, least_delay, least_numbers, least_window};
 use dc_tables::Tables;
 
 /// A window of a queue that closes, and a delay, in ticks.
@@ -36,6 +38,15 @@ fn least_times<A: ArrivalBound, S: ServiceBound>(arrivals: &A, service: &S) -> O
     Some(Times { window, delay })
 }
 
+/// The same with the least backlog of that window, which one walk finds with the delay.
+fn least_of<A: ArrivalBound, S: ServiceBound>(arrivals: &A, service: &S) -> Option<LeastNumbers>
+    ensures times { MatchOption result (NeverCloses (A.cap arrivals.now) (S.floor service.now))
+        (λ n. AreLeastTimes (A.cap arrivals.now) (S.floor service.now) n.window n.delay) }
+    ensures backlog { IfSome result (λ n. IsLeast (BacklogBounded (A.cap arrivals.now) (S.floor service.now) n.window) n.backlog) }
+{
+    least_numbers(arrivals, service)
+}
+
 /// The least numbers of an input, given the bounds of its bus, whether or not its queue has room; `None` where no
 /// window closes.
 pub(crate) fn least_input<A: ArrivalBound, S: ServiceBound>(
@@ -51,10 +62,14 @@ pub(crate) fn least_input<A: ArrivalBound, S: ServiceBound>(
         (λ n. AreLeastNumbers tables.now bus (record { window = n.times.window; backlog = n.backlog; delay = n.times.delay })) }
 {
     tables.valid();
-    let Some(times) = least_times(arrivals, service) else {
+    let Some(least) = least_of(arrivals, service) else {
         return None;
     };
-    let backlog = most_backlog(arrivals, service, times.window) as u32;
+    let times = Times {
+        window: least.window,
+        delay: least.delay,
+    };
+    let backlog = least.backlog as u32;
     Some(InputNumbers { times, backlog })
 }
 
