@@ -1,17 +1,24 @@
 //! A walk along an arrival bound by leaps: since no less comes in more ticks, and what is known to pass does not fall, one
 //! look at a greater number of ticks tells of all numbers before it that nothing changes there.
 
-ghost use Rattle.std.specs.Prelude.{◌≡◌, ℕ, ◌+◌, ◌<◌, ◌≤◌, IfSome, true, false};
+ghost use Rattle.std.specs.Prelude.{◌≡◌, ℕ, ◌+◌, ◌<◌, ◌≤◌, IfSome, MatchBool, true, false};
 ghost use Rattle.dc_busy.specs.declared.limits.TheConstants.{LONGEST_WINDOW};
 
 use crate::LONGEST_WINDOW;
 use dc_bound::{ArrivalBound, Watcher};
+use std::marker::{Brand, PhantomData};
 
-/// The number of ticks that are walked step by step at first, and after each leap over more.
-const FEW_TICKS: u32 = 64;
+/// The number of steps that are walked at first, and after each leap over more words.
+const FEW_STEPS: u32 = 32;
 
-/// A leap over fewer ticks is not tried.
-const SHORT_LEAP: u32 = 8;
+/// The greatest number of steps that are walked before the next leap is tried.
+const MANY_STEPS: u32 = 4096;
+
+/// Where fewer words more pass than may come, no leap is tried: steps cost less.
+const SHORT_LEAP: u64 = 4;
+
+/// How many numbers of ticks a leap looks at.
+const LOOKS: u32 = 3;
 
 /// A watcher that tells how many may come without a change of what it knows.
 pub trait Patient: Watcher {
@@ -40,62 +47,154 @@ pub fn walk_by_leaps<A: ArrivalBound, W: Patient>(
 {
     let mut watcher = watcher;
     let mut ticks = first;
-    let mut few = first_walk(arrivals);
+    let mut steps = first_steps(arrivals);
     while ticks <= last {
-        let end = ticks.saturating_add(few).min(last);
-        if !arrivals.walk(ticks, end, &mut watcher) {
+        let (walked, end, more) = walk_steps::<A, W, Brand>(arrivals, ticks, last, watcher, steps);
+        watcher = walked;
+        if !more {
             return (watcher, false);
         }
-        ticks = leap(arrivals, &watcher, end + 1, last);
-        few = walked_next(few, ticks - end);
+        let (next, words) = leap(arrivals, &watcher, end, last);
+        ticks = next;
+        steps = next_steps(steps, words);
     }
     (watcher, true)
 }
 
-/// How many ticks are walked step by step at first: all, where a leap does not pay.
-fn first_walk<A: ArrivalBound>(arrivals: &A) -> u32 {
+/// How many steps are walked at first: all, where leaps do not pay.
+fn first_steps<A: ArrivalBound>(arrivals: &A) -> u32 {
     if arrivals.may_leap() {
-        return FEW_TICKS;
+        return FEW_STEPS;
     }
     LONGEST_WINDOW
 }
 
-/// How many ticks are walked step by step after a leap over so many: twice as many as before where it was short.
-fn walked_next(few: u32, leapt: u32) -> u32 {
-    if leapt > FEW_TICKS {
-        return FEW_TICKS;
+/// How many steps are walked after a leap over so many words: twice as many as before where it was short.
+fn next_steps(steps: u32, words: u64) -> u32 {
+    if words > u64::from(FEW_STEPS) {
+        return FEW_STEPS;
     }
-    few.saturating_mul(2)
+    steps.saturating_mul(2).min(MANY_STEPS)
 }
 
-/// The number of ticks, at most one past the last, before which nothing of what is known changes.
-fn leap<A: ArrivalBound, W: Patient>(arrivals: &A, watcher: &W, first: u32, last: u32) -> u32
+/// What a walk of so many steps is asked. It exists in proofs alone: who walks picks it.
+trait Stretch {
+    // the number of ticks at which it begins
+    ghost first: { ℕ };
+
+    // the number of ticks up to which it goes
+    ghost last: { ℕ };
+}
+
+impl Stretch for Brand {
+    ghost first = { 0 };
+
+    ghost last = { 0 };
+}
+
+/// A watcher that wants a pause after so many steps.
+struct Counted<W, K: Stretch> {
+    inner: W,
+    left: u32,
+    last: u32,
+    ticks: u32,
+    pauses: bool,
+    of: PhantomData<K>,
+    ghost last_is: { last ≡ K.last },
+}
+
+impl<W: Watcher, K: Stretch> Watcher for Counted<W, K> {
+    ghost knows = { λ w cap ticks. (K.first ≤ ticks) × W.knows w.inner cap ticks };
+
+    ghost ends = { λ w cap. MatchBool w.pauses ((K.first < w.ticks) × (w.ticks ≤ K.last) × W.knows w.inner cap w.ticks) (W.ends w.inner cap) };
+
+    #[inline(always)]
+    fn see(&mut self, ticks: u32, until: u32, most: u64) -> bool {
+        if !self.inner.see(ticks, until, most) {
+            self.pauses = false;
+            return false;
+        }
+        if self.left == 0 && until <= self.last {
+            self.ticks = until;
+            self.pauses = true;
+            return false;
+        }
+        self.left = self.left.saturating_sub(1);
+        true
+    }
+}
+
+/// Walks about so many steps. Gives the watcher back, the number of ticks before which it has seen each, and whether it wants
+/// to see more.
+fn walk_steps<A: ArrivalBound, W: Watcher, K: Stretch>(
+    arrivals: &A,
+    first: u32,
+    last: u32,
+    watcher: W,
+    steps: u32,
+) -> (W, u32, bool)
+    requires first { 1 ≤ first }
+    requires some { first ≤ last }
+    requires far { last ≤ LONGEST_WINDOW }
+    requires knows { W.knows watcher (A.cap arrivals.now) first }
+    requires first_is { first ≡ K.first }
+    requires last_is { last ≡ K.last }
+    ensures more { result.2 ≡ true → (K.first < result.1) × (result.1 ≤ K.last + 1) × W.knows result.0 (A.cap arrivals.now) result.1 }
+    ensures ended { result.2 ≡ false → W.ends result.0 (A.cap arrivals.now) }
+{
+    let mut counted: Counted<W, K> = Counted {
+        inner: watcher,
+        left: steps,
+        last,
+        ticks: first,
+        pauses: false,
+        of: PhantomData,
+    };
+    let all = arrivals.walk(first, last, &mut counted);
+    let Counted {
+        inner,
+        left: _,
+        last: _,
+        ticks,
+        pauses,
+        of: _,
+    } = counted;
+    if all {
+        return (inner, last + 1, true);
+    }
+    (inner, ticks, pauses)
+}
+
+/// The number of ticks, at most one past the last, before which nothing of what is known changes, and how many more may come
+/// in it than in the first.
+fn leap<A: ArrivalBound, W: Patient>(arrivals: &A, watcher: &W, first: u32, last: u32) -> (u32, u64)
     requires first { 1 ≤ first }
     requires order { first ≤ last + 1 }
     requires far { last ≤ LONGEST_WINDOW }
     requires knows { W.knows watcher.now (A.cap arrivals.now) first }
-    ensures knows { W.knows watcher.now (A.cap arrivals.now) result }
-    ensures later { first ≤ result }
-    ensures inside { result ≤ last + 1 }
+    ensures knows { W.knows watcher.now (A.cap arrivals.now) result.0 }
+    ensures later { first ≤ result.0 }
+    ensures inside { result.0 ≤ last + 1 }
 {
     if last < first {
-        return first;
+        return (first, 0);
     }
-    let mut most = arrivals.at_most(first);
+    let before = arrivals.at_most(first);
+    let mut most = before;
     let mut ticks = first;
     while ticks <= last {
         let passes = watcher.passes(ticks);
-        let stride = guess(ticks, most, passes);
-        if stride < SHORT_LEAP {
-            return ticks;
+        if passes.saturating_sub(most) < SHORT_LEAP {
+            break;
         }
+        let stride = about(ticks, most, passes);
         let Some(seen) = reach(arrivals, ticks, last, stride, passes) else {
-            return ticks;
+            break;
         };
         most = seen.most;
         ticks = seen.ticks + 1;
     }
-    ticks
+    (ticks, most.saturating_sub(before))
 }
 
 /// A number of ticks, and what may come in it.
@@ -119,7 +218,7 @@ fn reach<A: ArrivalBound>(
     ensures { IfSome result (λ s. (ticks ≤ s.ticks) × (s.ticks ≤ last) × (A.cap arrivals.now s.ticks ≤ passes)) }
 {
     let mut stride = stride;
-    while stride >= SHORT_LEAP {
+    for _ in 0..LOOKS {
         let to = ticks.saturating_add(stride).min(last);
         let most = arrivals.at_most(to);
         if most <= passes {
@@ -130,10 +229,10 @@ fn reach<A: ArrivalBound>(
     None
 }
 
-/// How many ticks on about so many more come as pass beyond those that come in `ticks`, an eighth less. Any answer is
-/// right, since it is looked at.
-fn guess(ticks: u32, most: u64, passes: u64) -> u32 {
-    let slack = passes.saturating_sub(most);
-    let share = slack.saturating_mul(u64::from(ticks)) / most.max(1);
-    share.min(u64::from(LONGEST_WINDOW)) as u32 / 8 * 7
+/// How many ticks on about `wanted` words are reached, an eighth less, where there are so many in so many ticks. Any answer
+/// is right, since it is looked at.
+pub(crate) fn about(ticks: u32, words: u64, wanted: u64) -> u32 {
+    let more = wanted.saturating_sub(words);
+    let on = more.saturating_mul(u64::from(ticks)) / words.max(1);
+    (on - on / 8).min(u64::from(LONGEST_WINDOW)) as u32
 }

@@ -10,7 +10,7 @@ ghost use Rattle.dc_busy.specs.declared.limits.TheConstants.{LONGEST_WINDOW};
 
 use crate::LONGEST_WINDOW;
 use crate::asked::Served;
-use crate::leaps::{Patient, walk_by_leaps};
+use crate::leaps::{Patient, about, walk_by_leaps};
 use dc_bound::{ArrivalBound, ServiceBound, Watcher};
 use std::marker::{Brand, PhantomData};
 
@@ -86,23 +86,38 @@ fn smallest_delay<A: ArrivalBound, S: ServiceBound, K: Served>(
     None
 }
 
-/// The least window of 1 to [`LONGEST_WINDOW`] ticks that closes; `None` where there is none. A window that closes is
-/// longer than the number of ticks that are visited as often as words may come in a shorter one.
+/// The least window of 1 to [`LONGEST_WINDOW`] ticks that closes; `None` where there is none.
 pub fn least_window<A: ArrivalBound, S: ServiceBound>(arrivals: &A, service: &S) -> Option<u32>
     ensures { IsLeastUpToLongest (ClosesWithin (A.cap arrivals.now) (S.floor service.now)) result }
 {
     let mut window = 1;
     while window <= LONGEST_WINDOW {
         let most = arrivals.at_most(window);
-        let Some(served) = least_ticks(service, most, window - 1, LONGEST_WINDOW) else {
-            return None;
-        };
-        if served < window {
+        let served = service.at_least(window - 1);
+        if most <= served {
             return Some(window);
         }
-        window = served + 1;
+        window = next_window(service, window, served, most);
     }
     None
+}
+
+/// A longer window, at most one past [`LONGEST_WINDOW`], before which none has as many visits in its ticks but the first as
+/// may come in this one, which has fewer.
+fn next_window<S: ServiceBound>(service: &S, window: u32, served: u64, most: u64) -> u32
+    requires some { 1 ≤ window }
+    requires far { window ≤ LONGEST_WINDOW }
+    requires fewer { S.floor service.now (window - 1) < most }
+    ensures later { window < result }
+    ensures inside { result ≤ LONGEST_WINDOW + 1 }
+    ensures none { (v : ℕ) → v < result → S.floor service.now (v - 1) < most }
+{
+    let stride = about(window, served, most);
+    let ahead = (window - 1).saturating_add(stride).min(LONGEST_WINDOW - 1);
+    if service.at_least(ahead) < most {
+        return ahead + 2;
+    }
+    least_between(service, most, window, ahead) + 1
 }
 
 /// The greatest backlog so far. As many as `held` are known to leave it so from here on.

@@ -10,3 +10,6 @@ invariant-loop-ticks g l = record {
 
 abbrev pub decreases-loop-ticks : goal.decreases-loop-ticks
 decreases-loop-ticks g l = l.last + 1 - l.ticks
+
+abbrev pub ghosts-walk_steps : goal.ghosts-walk_steps
+ghosts-walk_steps g a = record { first = a.first; last = a.last }
