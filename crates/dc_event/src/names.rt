@@ -235,7 +235,7 @@ impl<'t> KnownNames<'t> {
         self.tables
     }
 
-    /// The number of the bus whose name a text begins with, and how many letters that has.
+    /// The number of the bus whose name, a short one, a text begins with, and how many letters that has.
     #[inline(always)]
     pub fn bus_ahead(&self, text: &[u8]) -> Option<(usize, usize)>
         ensures { IfSome result (λ ahead. StartsWithName self.now.names.buses text.now ahead.0 ahead.1) }
@@ -243,7 +243,7 @@ impl<'t> KnownNames<'t> {
         self.buses.short.name_ahead(text)
     }
 
-    /// The number of the router whose name a text begins with, and how many letters that has.
+    /// The number of the router whose name, a short one, a text begins with, and how many letters that has.
     #[inline(always)]
     pub fn router_ahead(&self, text: &[u8]) -> Option<(usize, usize)>
         ensures { IfSome result (λ ahead. StartsWithName self.now.names.routers text.now ahead.0 ahead.1) }
@@ -251,7 +251,7 @@ impl<'t> KnownNames<'t> {
         self.routers.short.name_ahead(text)
     }
 
-    /// The number of the output whose name a text begins with, and how many letters that has.
+    /// The number of the output whose name, a short one, a text begins with, and how many letters that has.
     #[inline(always)]
     pub fn output_ahead(&self, text: &[u8]) -> Option<(usize, usize)>
         ensures { IfSome result (λ ahead. StartsWithName self.now.names.outputs text.now ahead.0 ahead.1) }
