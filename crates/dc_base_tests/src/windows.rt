@@ -5,10 +5,10 @@ ghost use Rattle.dc_bound.specs.Window.{count_in, ticks_of, IsNextJump};
 ghost use Rattle.dc_bound.specs.Moves.{routed_tick, passed};
 ghost use Rattle.dc_bound.specs.Moves.Move.{Tick, In, Visit};
 
-use dc_bound::{ArrivalBound, Both, Capped, Jittered, Paced, Sporadic, SumOf, Wire};
+use dc_bound::{ArrivalBound, Both, Capped, Jittered, Paced, Sporadic, SumOf, Watcher, Wire};
 use dc_busy::{
-    backlog_fails, closes, delay_fails, failures_between, first_failures, least_delay,
-    least_window, most_backlog, queue_law,
+    Patient, backlog_fails, closes, delay_fails, failures_between, first_failures, least_delay,
+    least_numbers, least_window, most_backlog, queue_law, walk_by_leaps,
 };
 use std::cell::Cell;
 
@@ -62,6 +62,11 @@ fn small_bus_closes_at_three_ticks(rt: HostRuntime) {
     assert!(rt; least_window(&bus, &router) == Some(3));
     assert!(rt; most_backlog(&bus, &router, 3) == 2);
     assert!(rt; least_delay(&bus, &router, 3) == Some(2));
+    assert!(rt;
+        least_numbers(&bus, &router).is_some_and(|n| n.window == 3
+            && n.backlog == 2
+            && n.delay == 2)
+    );
 }
 
 #[test]
@@ -145,4 +150,80 @@ fn a_stretch_tells_its_own_first_failing_windows(rt: HostRuntime) {
     assert!(rt; failures_between(&bus, &router, 2, 3, 2, 0) == (None, Some(2)));
     assert!(rt; failures_between(&bus, &router, 3, 3, 1, 0) == (None, None));
     assert!(rt; failures_between(&bus, &router, 3, 2, 0, 0) == (None, None));
+}
+
+/// Looks for the first number of ticks in which more may come than `some` and one in each `per` ticks, and counts the
+/// stretches that it sees.
+#[derive(Drop)]
+struct Above {
+    some: u64,
+    per: u32,
+    found: u32,
+    seen: u64,
+}
+
+impl Above {
+    fn limit(&self, ticks: u32) -> u64 {
+        self.some.saturating_add(u64::from(ticks / self.per.max(1)))
+    }
+}
+
+impl Watcher for Above {
+    ghost knows = { λ w cap ticks. Unit {0} };
+
+    ghost ends = { λ w cap. Unit {0} };
+
+    fn see(&mut self, ticks: u32, until: u32, most: u64) -> bool {
+        self.seen = self.seen.saturating_add(1);
+        if most > self.limit(ticks) {
+            self.found = ticks;
+            return false;
+        }
+        true
+    }
+}
+
+impl Patient for Above {
+    fn passes(&self, ticks: u32) -> u64 {
+        self.limit(ticks)
+    }
+}
+
+/// Walks up to the longest window both ways; what was found, where both found the same and the leaps saw few stretches.
+fn found_both_ways<A: ArrivalBound>(arrivals: &A, some: u64, per: u32) -> Option<(bool, u32)> {
+    let mut stepped = Above {
+        some,
+        per,
+        found: 0,
+        seen: 0,
+    };
+    let all = arrivals.walk(1, 100_000, &mut stepped);
+    let leaps = Above {
+        some,
+        per,
+        found: 0,
+        seen: 0,
+    };
+    let (leapt, to_the_end) = walk_by_leaps(arrivals, 1, 100_000, leaps);
+    if all == to_the_end && stepped.found == leapt.found && leapt.seen < 250 {
+        return Some((all, stepped.found));
+    }
+    None
+}
+
+#[test]
+fn a_long_walk_by_leaps_finds_what_the_walk_by_steps_finds(rt: HostRuntime) {
+    let streams = [
+        Jittered::new(20, 10),
+        Jittered::new(27, 13),
+        Jittered::new(33, 16),
+        Jittered::new(41, 20),
+        Jittered::new(53, 26),
+        Jittered::new(67, 33),
+        Jittered::new(81, 40),
+    ];
+    let bus = SumOf::new(0, &streams);
+    assert!(rt; found_both_ways(&bus, 100, 5) == Some((true, 0)));
+    assert!(rt; found_both_ways(&bus, 100, 6) == Some((false, 4335)));
+    assert!(rt; found_both_ways(&bus, 0, 5) == Some((false, 1)));
 }

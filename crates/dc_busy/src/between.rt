@@ -1,5 +1,5 @@
-//! The first failing windows of a stretch, by one walk along the arrival bound by leaps: between two jumps no later window
-//! fails where the first does not, and what was taken in a shorter window is taken in a longer one.
+//! The first failing windows of a stretch, by one walk along the arrival bound by leaps: between two jumps no later
+//! window fails where the first does not, and what was taken in a shorter window is taken in a longer one.
 
 ghost use Rattle.std.specs.Prelude.{◌≡◌, ℕ, ◌+◌, ◌-◌, ◌<◌, ◌≤◌, Some, None, MatchOption};
 ghost use Rattle.dc_busy.specs.BusyWindow.{BacklogAt, DelayAt, IsFirstBetween};
@@ -121,8 +121,8 @@ impl<'a, S: ServiceBound, K: Asked> Patient for Failures<'a, S, K> {
 }
 
 impl<'a, S: ServiceBound, K: Asked> Failures<'a, S, K> {
-    /// As many as may come, in so many ticks and in more, with no more than the backlog waiting; any number of them once
-    /// a window was found in which more wait.
+    /// As many as may come, in so many ticks and in more, with no more than the backlog waiting; any number of them
+    /// once a window was found in which more wait.
     fn held_from(&self, ticks: u32) -> u64
         requires { ticks ≤ LONGEST_WINDOW }
         ensures { MatchOption self.now.overfull (result ≤ self.now.backlog + S.floor self.now.service.now (ticks - 2)) (λ _. Unit {0}) }

@@ -1,5 +1,5 @@
-//! A walk along an arrival bound by leaps: since no less comes in more ticks, and what is known to pass does not fall, one
-//! look at a greater number of ticks tells of all numbers before it that nothing changes there.
+//! A walk along an arrival bound by leaps: since no less comes in more ticks, one look at a greater number of ticks in
+//! which no more may come than passes tells of all numbers before it that nothing changes there.
 
 ghost use Rattle.std.specs.Prelude.{◌≡◌, ℕ, ◌+◌, ◌<◌, ◌≤◌, IfSome, MatchBool, true, false};
 ghost use Rattle.dc_busy.specs.declared.limits.TheConstants.{LONGEST_WINDOW};
@@ -124,8 +124,8 @@ impl<W: Watcher, K: Stretch> Watcher for Counted<W, K> {
     }
 }
 
-/// Walks about so many steps. Gives the watcher back, the number of ticks before which it has seen each, and whether it wants
-/// to see more.
+/// Walks about so many steps. Gives the watcher back, the number of ticks before which it has seen each, and whether it
+/// wants to see more.
 fn walk_steps<A: ArrivalBound, W: Watcher, K: Stretch>(
     arrivals: &A,
     first: u32,
@@ -165,8 +165,8 @@ fn walk_steps<A: ArrivalBound, W: Watcher, K: Stretch>(
     (inner, ticks, pauses)
 }
 
-/// The number of ticks, at most one past the last, before which nothing of what is known changes, and how many more may come
-/// in it than in the first.
+/// The number of ticks, at most one past the last, before which nothing of what is known changes, and about how many
+/// more may come in it than in the first.
 fn leap<A: ArrivalBound, W: Patient>(arrivals: &A, watcher: &W, first: u32, last: u32) -> (u32, u64)
     requires first { 1 ≤ first }
     requires order { first ≤ last + 1 }
@@ -229,8 +229,8 @@ fn reach<A: ArrivalBound>(
     None
 }
 
-/// How many ticks on about `wanted` words are reached, an eighth less, where there are so many in so many ticks. Any answer
-/// is right, since it is looked at.
+/// How many ticks on about `wanted` words are reached, an eighth less, where there are so many in so many ticks. Any
+/// answer is right, since it is looked at.
 pub(crate) fn about(ticks: u32, words: u64, wanted: u64) -> u32 {
     let more = wanted.saturating_sub(words);
     let on = more.saturating_mul(u64::from(ticks)) / words.max(1);

@@ -1,5 +1,5 @@
-//! The least numbers of a queue. Backlog and delay are found by a walk along the arrival bound by leaps, the window from one
-//! that is too short to the next that may close.
+//! The least numbers of a queue. Backlog and delay are found by a walk along the arrival bound by leaps, the window
+//! from one that is too short to the next that may close.
 
 ghost use Rattle.std.specs.Prelude.{◌≡◌, ℕ, ◌+◌, ◌-◌, ◌<◌, ◌≤◌, Some, MatchOption};
 ghost use Rattle.dc_busy.specs.BusyWindow.{Closes, BacklogAt, BacklogBounded, DelayAt, DelayBounded};
@@ -102,8 +102,8 @@ pub fn least_window<A: ArrivalBound, S: ServiceBound>(arrivals: &A, service: &S)
     None
 }
 
-/// A longer window, at most one past [`LONGEST_WINDOW`], before which none has as many visits in its ticks but the first as
-/// may come in this one, which has fewer.
+/// A longer window, at most one past [`LONGEST_WINDOW`], before which none has as many visits in its ticks but the first
+/// as may come in this one, which has fewer.
 fn next_window<S: ServiceBound>(service: &S, window: u32, served: u64, most: u64) -> u32
     requires some { 1 ≤ window }
     requires far { window ≤ LONGEST_WINDOW }
