@@ -14,7 +14,7 @@ use crate::limits::{LONGEST_SPAN, MOST_ENTRIES};
 use crate::walk::Watcher;
 
 /// The most entries of a frame for which a walk leaps.
-const FEW_ENTRIES: usize = 64;
+const FEW_ENTRIES: usize = 32;
 
 /// Entries that are due at offsets in a frame that comes again and again.
 #[derive(Drop)]

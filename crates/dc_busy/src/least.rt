@@ -90,6 +90,9 @@ fn smallest_delay<A: ArrivalBound, S: ServiceBound, K: Served>(
 pub fn least_window<A: ArrivalBound, S: ServiceBound>(arrivals: &A, service: &S) -> Option<u32>
     ensures { IsLeastUpToLongest (ClosesWithin (A.cap arrivals.now) (S.floor service.now)) result }
 {
+    if !arrivals.may_leap() {
+        return first_closing::<A, S, Brand>(arrivals, service);
+    }
     let mut window = 1;
     while window <= LONGEST_WINDOW {
         let most = arrivals.at_most(window);
@@ -100,6 +103,25 @@ pub fn least_window<A: ArrivalBound, S: ServiceBound>(arrivals: &A, service: &S)
         window = next_window(service, window, served, most);
     }
     None
+}
+
+/// The same by a walk along the jumps, where the floor is known by a type.
+fn first_closing<A: ArrivalBound, S: ServiceBound, K: Served>(
+    arrivals: &A,
+    service: &S,
+) -> Option<u32>
+    requires floor_is { S.floor service.now ≡ K.floor }
+    ensures { IsLeastUpToLongest (ClosesWithin (A.cap arrivals.now) K.floor) result }
+{
+    let mut closing: Closing<S, K> = Closing {
+        service,
+        found: 0,
+        of: PhantomData,
+    };
+    if arrivals.walk(1, LONGEST_WINDOW, &mut closing) {
+        return None;
+    }
+    Some(closing.found)
 }
 
 /// A longer window, at most one past [`LONGEST_WINDOW`], before which none has as many visits in its ticks but the first
@@ -201,6 +223,30 @@ impl<'a, S: ServiceBound, K: Served> Watcher for Delays<'a, S, K> {
 impl<'a, S: ServiceBound, K: Served> Patient for Delays<'a, S, K> {
     fn passes(&self, ticks: u32) -> u64 {
         self.service.at_least(ticks - 1 + self.delay)
+    }
+}
+
+/// The least window that closes, once it is found.
+#[derive(Drop)]
+struct Closing<'a, S: ServiceBound, K: Served> {
+    service: &'a S,
+    found: u32,
+    of: PhantomData<K>,
+    ghost floor_is: { S.floor service.now ≡ K.floor },
+}
+
+impl<'a, S: ServiceBound, K: Served> Watcher for Closing<'a, S, K> {
+    ghost knows = { λ w cap ticks. (v : ℕ) → 1 ≤ v → v < ticks → ¬ Closes cap (S.floor w.service.now) v };
+
+    ghost ends = { λ w cap. (w.found ≤ LONGEST_WINDOW) × IsLeast (ClosesWithin cap (S.floor w.service.now)) w.found };
+
+    #[inline(always)]
+    fn see(&mut self, ticks: u32, until: u32, most: u64) -> bool {
+        if let Some(served) = least_ticks(self.service, most, ticks - 1, until - 2) {
+            self.found = served + 1;
+            return false;
+        }
+        true
     }
 }
 

@@ -11,3 +11,6 @@ invariant-loop-window g l = record {
 
 abbrev pub decreases-loop-window : goal.decreases-loop-window
 decreases-loop-window g l = 100001 - l.window
+
+abbrev pub ghosts-first_closing : goal.ghosts-first_closing
+ghosts-first_closing g a = record { floor = g.S.ServiceBound.floor a.service.now; window = 100000 }
