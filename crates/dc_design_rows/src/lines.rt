@@ -1,6 +1,6 @@
 //! Lines that are told, as they grow.
 use crate::letters::Letters;
-use dc_tell::{Explanation, Value};
+use dc_tell::{Explanation, Value, hole_from};
 use std::alloc::Global;
 
 /// How many lines of a list are told; the others are counted.
@@ -62,14 +62,18 @@ impl Lines {
         if self.count > MOST_LINES {
             return;
         }
-        for (number, piece) in sentence.split("{}").enumerate() {
-            if number != 0 {
-                if let Some(fact) = facts.get(number.saturating_sub(1)) {
-                    self.put(fact);
-                }
+        let mut start = 0usize;
+        for number in 0..=sentence.len() {
+            let Some(hole) = hole_from(sentence, start) else {
+                break;
+            };
+            self.told.add(sentence.get(start..hole).unwrap_or(""));
+            if let Some(fact) = facts.get(number) {
+                self.put(fact);
             }
-            self.told.say(piece, &[]);
+            start = hole.saturating_add(2);
         }
+        self.told.add(sentence.get(start..).unwrap_or(""));
     }
 
     /// Writes a line whole.
@@ -105,7 +109,7 @@ impl Lines {
     /// Writes a number less another one.
     fn put_difference(&mut self, most: u64, less: u64) {
         if most < less {
-            self.told.say("-", &[]);
+            self.told.add("-");
         }
         self.told.put(Value::Number(most.abs_diff(less)));
     }
@@ -115,7 +119,7 @@ impl Lines {
         for scale in [base.saturating_mul(base), base, 1] {
             let digit = number.checked_div(scale).unwrap_or(0);
             let digit = digit.checked_rem(base).unwrap_or(0) as usize;
-            self.told.say(DIGITS.get(digit).copied().unwrap_or(""), &[]);
+            self.told.add(DIGITS.get(digit).copied().unwrap_or(""));
         }
     }
 

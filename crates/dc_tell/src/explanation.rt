@@ -1,5 +1,5 @@
 //! An explanation as it grows.
-use crate::letters::{is_seen, start_of, text_of};
+use crate::letters::{is_plain, is_seen, start_of, text_of};
 use crate::likeness::nearest;
 use crate::place::{around, begins_letter, line_of, place_at};
 use std::alloc::Global;
@@ -47,35 +47,25 @@ static DIGITS: [&'static str; 22] = [
     "D", "E", "F",
 ];
 
-/// What each digit of a decimal number stands for, the greatest first.
-static POWERS: [u64; 20] = [
-    10_000_000_000_000_000_000,
-    1_000_000_000_000_000_000,
-    100_000_000_000_000_000,
-    10_000_000_000_000_000,
-    1_000_000_000_000_000,
-    100_000_000_000_000,
-    10_000_000_000_000,
-    1_000_000_000_000,
-    100_000_000_000,
-    10_000_000_000,
-    1_000_000_000,
-    100_000_000,
-    10_000_000,
-    1_000_000,
-    100_000,
-    10_000,
-    1_000,
-    100,
-    10,
-    1,
-];
+/// How many digits a number has at most.
+const MOST_DIGITS: usize = 20;
 
 /// What each digit of the number of a letter stands for.
 static SCALES: [u32; 6] = [0x10_0000, 0x1_0000, 0x1000, 0x100, 0x10, 1];
 
 /// Letters that have an escape of their own.
 static ESCAPES: [(char, &'static str); 3] = [('\n', "\\n"), ('\r', "\\r"), ('\t', "\\t")];
+
+/// Where the next hole of a sentence stands, so many bytes on or more.
+pub fn hole_from(sentence: &str, start: usize) -> Option<usize> {
+    let bytes = sentence.as_bytes();
+    for place in start..bytes.len() {
+        if bytes[place] == b'{' && bytes.get(place.saturating_add(1)) == Some(&b'}') {
+            return Some(place);
+        }
+    }
+    None
+}
 
 /// What a person is told, as far as it is written. Where memory gives out it is lost whole, so nothing that writes it
 /// has an error.
@@ -117,16 +107,20 @@ impl Explanation {
         self.push(DIGITS.get(digit).copied().unwrap_or(""));
     }
 
-    /// Writes a number.
+    /// Writes a number: its digits from the last one on, in front of one another.
     fn push_number(&mut self, number: u64) {
-        let mut is_begun = false;
-        for power in &POWERS {
-            let digit = number.checked_div(*power).unwrap_or(0) % 10;
-            is_begun = is_begun || digit != 0 || *power == 1;
-            if is_begun {
-                self.push_digit(digit as usize);
+        let mut digits = [b'0'; MOST_DIGITS];
+        let mut first = MOST_DIGITS;
+        let mut rest = number;
+        for place in (0..MOST_DIGITS).rev() {
+            digits[place] = b'0' + (rest % 10) as u8;
+            first = place;
+            rest /= 10;
+            if rest == 0 {
+                break;
             }
         }
+        self.push(text_of(digits.get(first..).unwrap_or(&[])));
     }
 
     /// Writes a letter as its escape.
@@ -149,8 +143,12 @@ impl Explanation {
         self.push("}");
     }
 
-    /// Writes a text as a terminal may have it: each letter that is not seen stands as its escape.
+    /// Writes a text as a terminal may have it: each letter that is not seen stands as its escape. One of plain letters
+    /// alone is written whole.
     fn push_text(&mut self, text: &str) {
+        if is_plain(text) {
+            return self.push(text);
+        }
         for letter in text.chars() {
             if !is_seen(letter) {
                 self.push_escape(letter);
@@ -252,14 +250,23 @@ impl Explanation {
 
     /// Goes on in the line with a sentence, in which each `{}` is a hole for the next of these values.
     pub fn say(&mut self, sentence: &str, values: &[Value<'_>]) {
-        for (number, piece) in sentence.split("{}").enumerate() {
-            if number != 0 {
-                if let Some(value) = values.get(number.saturating_sub(1)) {
-                    self.put(*value);
-                }
+        let mut start = 0usize;
+        for number in 0..=sentence.len() {
+            let Some(hole) = hole_from(sentence, start) else {
+                break;
+            };
+            self.push(sentence.get(start..hole).unwrap_or(""));
+            if let Some(value) = values.get(number) {
+                self.put(*value);
             }
-            self.push(piece);
+            start = hole.saturating_add(2);
         }
+        self.add(sentence.get(start..).unwrap_or(""));
+    }
+
+    /// Goes on in the line with a piece of a sentence, as it is.
+    pub fn add(&mut self, piece: &str) {
+        self.push(piece);
         self.is_open = true;
     }
 

@@ -28,6 +28,16 @@ pub(crate) fn is_seen(letter: char) -> bool {
     true
 }
 
+/// Whether a text has letters alone that are of one byte and seen.
+pub(crate) fn is_plain(text: &str) -> bool {
+    for byte in text.as_bytes() {
+        if *byte < 0x20 || *byte > 0x7E {
+            return false;
+        }
+    }
+    true
+}
+
 /// The beginning of a text, as far as it is shown in a sentence.
 pub(crate) fn start_of(text: &str) -> &str {
     text.get(..bytes_before(text, BRIEF)).unwrap_or("")
