@@ -46,8 +46,12 @@ pub fn walk_by_leaps<A: ArrivalBound, W: Patient>(
     ensures ended { result.1 ≡ false → W.ends result.0 (A.cap arrivals.now) }
 {
     let mut watcher = watcher;
+    if !arrivals.may_leap() {
+        let more = arrivals.walk(first, last, &mut watcher);
+        return (watcher, more);
+    }
     let mut ticks = first;
-    let mut steps = first_steps(arrivals);
+    let mut steps = FEW_STEPS;
     while ticks <= last {
         let (walked, end, more) = walk_steps::<A, W, Brand>(arrivals, ticks, last, watcher, steps);
         watcher = walked;
@@ -59,14 +63,6 @@ pub fn walk_by_leaps<A: ArrivalBound, W: Patient>(
         steps = next_steps(steps, words);
     }
     (watcher, true)
-}
-
-/// How many steps are walked at first: all, where leaps do not pay.
-fn first_steps<A: ArrivalBound>(arrivals: &A) -> u32 {
-    if arrivals.may_leap() {
-        return FEW_STEPS;
-    }
-    LONGEST_WINDOW
 }
 
 /// How many steps are walked after a leap over so many words: twice as many as before where it was short.
