@@ -14,7 +14,11 @@ const FEW_STEPS: u32 = 32;
 /// The greatest number of steps that are walked before the next leap is tried.
 const MANY_STEPS: u32 = 4096;
 
-/// Where fewer words more pass than may come, no leap is tried: steps cost less.
+/// A leap over no more words is a short one.
+const FEW_WORDS: u64 = 32;
+
+/// Where fewer words more pass than may come, no leap is tried, and where a look passes over fewer, none behind it: steps
+/// cost less.
 const SHORT_LEAP: u64 = 4;
 
 /// How many numbers of ticks a leap looks at.
@@ -67,7 +71,7 @@ pub fn walk_by_leaps<A: ArrivalBound, W: Patient>(
 
 /// How many steps are walked after a leap over so many words: twice as many as before where it was short.
 fn next_steps(steps: u32, words: u64) -> u32 {
-    if words > u64::from(FEW_STEPS) {
+    if words > FEW_WORDS {
         return FEW_STEPS;
     }
     steps.saturating_mul(2).min(MANY_STEPS)
@@ -187,8 +191,12 @@ fn leap<A: ArrivalBound, W: Patient>(arrivals: &A, watcher: &W, first: u32, last
         let Some(seen) = reach(arrivals, ticks, last, stride, passes) else {
             break;
         };
+        let gained = seen.most.saturating_sub(most);
         most = seen.most;
         ticks = seen.ticks + 1;
+        if gained < SHORT_LEAP {
+            break;
+        }
     }
     (ticks, most.saturating_sub(before))
 }
@@ -215,6 +223,9 @@ fn reach<A: ArrivalBound>(
 {
     let mut stride = stride;
     for _ in 0..LOOKS {
+        if stride == 0 {
+            break;
+        }
         let to = ticks.saturating_add(stride).min(last);
         let most = arrivals.at_most(to);
         if most <= passes {

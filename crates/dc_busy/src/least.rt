@@ -14,6 +14,9 @@ use crate::leaps::{Patient, about, walk_by_leaps};
 use dc_bound::{ArrivalBound, ServiceBound, Watcher};
 use std::marker::{Brand, PhantomData};
 
+/// How many stretches a look at a window far on is to pass over.
+const FAR: u32 = 4;
+
 /// The greatest number by which what may come in some number of ticks up to `window`, 1 to [`LONGEST_WINDOW`], is above
 /// the visits in the whole ticks inside them, two less; 0 where it is never above. It is the least backlog of which
 /// [`crate::backlog_fails`] finds nothing.
@@ -95,12 +98,13 @@ pub fn least_window<A: ArrivalBound, S: ServiceBound>(arrivals: &A, service: &S)
     }
     let mut window = 1;
     while window <= LONGEST_WINDOW {
-        let most = arrivals.at_most(window);
-        let served = service.at_least(window - 1);
+        let (most, jump) = arrivals.at_most_and_jump(window);
+        let until = jump.unwrap_or(LONGEST_WINDOW + 1).min(LONGEST_WINDOW + 1);
+        let served = service.at_least(until - 2);
         if most <= served {
-            return Some(window);
+            return Some(least_between(service, most, window - 1, until - 2) + 1);
         }
-        window = next_window(service, window, served, most);
+        window = next_window(service, window, until, served, most);
     }
     None
 }
@@ -124,22 +128,28 @@ fn first_closing<A: ArrivalBound, S: ServiceBound, K: Served>(
     Some(closing.found)
 }
 
-/// A longer window, at most one past [`LONGEST_WINDOW`], before which none has as many visits in its ticks but the first
-/// as may come in this one, which has fewer.
-fn next_window<S: ServiceBound>(service: &S, window: u32, served: u64, most: u64) -> u32
+/// The next window to look at, `until` or a longer one, at most one past [`LONGEST_WINDOW`], before which none has as many
+/// visits in its ticks but the first as may come in this one. A window far on is looked at where that passes over more
+/// than a stretch or two.
+fn next_window<S: ServiceBound>(service: &S, window: u32, until: u32, served: u64, most: u64) -> u32
     requires some { 1 ≤ window }
-    requires far { window ≤ LONGEST_WINDOW }
-    requires fewer { S.floor service.now (window - 1) < most }
+    requires later { window < until }
+    requires far { until ≤ LONGEST_WINDOW + 1 }
+    requires served { served ≡ S.floor service.now (until - 2) }
+    requires fewer { served < most }
     ensures later { window < result }
     ensures inside { result ≤ LONGEST_WINDOW + 1 }
     ensures none { (v : ℕ) → v < result → S.floor service.now (v - 1) < most }
 {
-    let stride = about(window, served, most);
-    let ahead = (window - 1).saturating_add(stride).min(LONGEST_WINDOW - 1);
+    let stride = about(until - 1, served, most);
+    if stride / FAR < until - window {
+        return until;
+    }
+    let ahead = (until - 2).saturating_add(stride).min(LONGEST_WINDOW - 1);
     if service.at_least(ahead) < most {
         return ahead + 2;
     }
-    least_between(service, most, window, ahead) + 1
+    until
 }
 
 /// The greatest backlog so far. As many as `held` are known to leave it so from here on.
@@ -242,11 +252,11 @@ impl<'a, S: ServiceBound, K: Served> Watcher for Closing<'a, S, K> {
 
     #[inline(always)]
     fn see(&mut self, ticks: u32, until: u32, most: u64) -> bool {
-        if let Some(served) = least_ticks(self.service, most, ticks - 1, until - 2) {
-            self.found = served + 1;
-            return false;
+        if self.service.at_least(until - 2) < most {
+            return true;
         }
-        true
+        self.found = least_between(self.service, most, ticks - 1, until - 2) + 1;
+        false
     }
 }
 
