@@ -1,4 +1,4 @@
-//! Tests of the lowest crates: words, parameters, devices, queues, bounds, windows and the board.
+//! Tests of the lowest crates: words, parameters, devices, queues, bounds, windows, texts and the board.
 #![tactic(auto)]
 
 #[cfg(test)]
@@ -11,6 +11,8 @@ mod devices;
 mod parameters;
 #[cfg(test)]
 mod queues;
+#[cfg(test)]
+mod texts;
 #[cfg(test)]
 mod windows;
 #[cfg(test)]

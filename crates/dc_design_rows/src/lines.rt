@@ -1,6 +1,6 @@
 //! Lines that are told, as they grow.
 use crate::letters::Letters;
-use dc_tell::{Explanation, Value, hole_from};
+use dc_tell::{Explanation, Value};
 use std::alloc::Global;
 
 /// How many lines of a list are told; the others are counted.
@@ -62,18 +62,14 @@ impl Lines {
         if self.count > MOST_LINES {
             return;
         }
-        let mut start = 0usize;
-        for number in 0..=sentence.len() {
-            let Some(hole) = hole_from(sentence, start) else {
-                break;
-            };
-            self.told.add(sentence.get(start..hole).unwrap_or(""));
-            if let Some(fact) = facts.get(number) {
-                self.put(fact);
+        for (number, piece) in sentence.split("{}").enumerate() {
+            if number != 0 {
+                if let Some(fact) = facts.get(number.saturating_sub(1)) {
+                    self.put(fact);
+                }
             }
-            start = hole.saturating_add(2);
+            self.told.add(piece);
         }
-        self.told.add(sentence.get(start..).unwrap_or(""));
     }
 
     /// Writes a line whole.

@@ -74,10 +74,9 @@ impl Rhythm {
         }
         let mut base = frame;
         for _ in 0..HALVINGS {
-            if base <= self.fastest || base % 2 != 0 {
-                break;
+            if base > self.fastest && base % 2 == 0 {
+                base /= 2;
             }
-            base /= 2;
         }
         if base > self.fastest {
             None

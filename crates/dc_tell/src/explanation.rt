@@ -56,17 +56,6 @@ static SCALES: [u32; 6] = [0x10_0000, 0x1_0000, 0x1000, 0x100, 0x10, 1];
 /// Letters that have an escape of their own.
 static ESCAPES: [(char, &'static str); 3] = [('\n', "\\n"), ('\r', "\\r"), ('\t', "\\t")];
 
-/// Where the next hole of a sentence stands, so many bytes on or more.
-pub fn hole_from(sentence: &str, start: usize) -> Option<usize> {
-    let bytes = sentence.as_bytes();
-    for place in start..bytes.len() {
-        if bytes[place] == b'{' && bytes.get(place.saturating_add(1)) == Some(&b'}') {
-            return Some(place);
-        }
-    }
-    None
-}
-
 /// What a person is told, as far as it is written. Where memory gives out it is lost whole, so nothing that writes it
 /// has an error.
 #[derive(Drop)]
@@ -250,18 +239,15 @@ impl Explanation {
 
     /// Goes on in the line with a sentence, in which each `{}` is a hole for the next of these values.
     pub fn say(&mut self, sentence: &str, values: &[Value<'_>]) {
-        let mut start = 0usize;
-        for number in 0..=sentence.len() {
-            let Some(hole) = hole_from(sentence, start) else {
-                break;
-            };
-            self.push(sentence.get(start..hole).unwrap_or(""));
-            if let Some(value) = values.get(number) {
-                self.put(*value);
+        for (number, piece) in sentence.split("{}").enumerate() {
+            if number != 0 {
+                if let Some(value) = values.get(number.saturating_sub(1)) {
+                    self.put(*value);
+                }
             }
-            start = hole.saturating_add(2);
+            self.push(piece);
         }
-        self.add(sentence.get(start..).unwrap_or(""));
+        self.is_open = true;
     }
 
     /// Goes on in the line with a piece of a sentence, as it is.

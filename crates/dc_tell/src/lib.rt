@@ -12,7 +12,7 @@ mod place;
 mod tokens;
 mod walker;
 
-pub use explanation::{Explanation, File, Value, hole_from};
+pub use explanation::{Explanation, File, Value};
 pub use kinds::{Kind, called, is_of_certificate, kind_at, naming};
 pub use layout::{Form, Key, Layout, Row, unquoted};
 pub use likeness::Names;

@@ -1,0 +1,164 @@
+//! Numbers and names in explanations, beside the way in which they were written at first: digit by digit from the greatest
+//! power of ten on, letter by letter.
+
+use dc_tell::{Explanation, Value};
+use std::alloc::{AllocError, Global};
+
+/// The digits, those from ten on in lower case.
+static DIGITS: [&'static str; 16] = [
+    "0", "1", "2", "3", "4", "5", "6", "7", "8", "9", "a", "b", "c", "d", "e", "f",
+];
+
+/// What each digit of a decimal number stands for, the greatest first.
+static POWERS: [u64; 20] = [
+    10_000_000_000_000_000_000,
+    1_000_000_000_000_000_000,
+    100_000_000_000_000_000,
+    10_000_000_000_000_000,
+    1_000_000_000_000_000,
+    100_000_000_000_000,
+    10_000_000_000_000,
+    1_000_000_000_000,
+    100_000_000_000,
+    10_000_000_000,
+    1_000_000_000,
+    100_000_000,
+    10_000_000,
+    1_000_000,
+    100_000,
+    10_000,
+    1_000,
+    100,
+    10,
+    1,
+];
+
+/// What each digit of the number of a letter stands for.
+static SCALES: [u32; 6] = [0x10_0000, 0x1_0000, 0x1000, 0x100, 0x10, 1];
+
+/// Letters that have an escape of their own.
+static ESCAPES: [(char, &'static str); 3] = [('\n', "\\n"), ('\r', "\\r"), ('\t', "\\t")];
+
+/// The letters that are not seen: from the first of each pair up to the second.
+static UNSEEN: [(u32, u32); 9] = [
+    (0x00, 0x1F),
+    (0x7F, 0x9F),
+    (0xAD, 0xAD),
+    (0x61C, 0x61C),
+    (0x200B, 0x200F),
+    (0x2028, 0x202E),
+    (0x2060, 0x206F),
+    (0xFEFF, 0xFEFF),
+    (0xFFF9, 0xFFFB),
+];
+
+/// A digit.
+fn digit_of(digit: u64) -> &'static str {
+    DIGITS.get(digit as usize).copied().unwrap_or("")
+}
+
+/// A number as a line, as it was written at first.
+fn line_of_number(alloc: Global, number: u64) -> Result<String, AllocError> {
+    let mut text = String::new(alloc);
+    let mut is_begun = false;
+    for power in &POWERS {
+        let digit = number.checked_div(*power).unwrap_or(0) % 10;
+        is_begun = is_begun || digit != 0 || *power == 1;
+        if is_begun {
+            text.push_str(digit_of(digit))?;
+        }
+    }
+    text.push_str("\n")?;
+    Ok(text)
+}
+
+/// Whether a letter is seen.
+fn is_seen(letter: char) -> bool {
+    let code = u32::from(letter);
+    for (first, last) in &UNSEEN {
+        if *first <= code && code <= *last {
+            return false;
+        }
+    }
+    true
+}
+
+/// A letter as its escape.
+fn push_escape(text: &mut String, letter: char) -> Result<(), AllocError> {
+    for (own, escape) in &ESCAPES {
+        if *own == letter {
+            return text.push_str(escape);
+        }
+    }
+    let code = u32::from(letter);
+    let mut is_begun = false;
+    text.push_str("\\u{")?;
+    for scale in &SCALES {
+        let digit = code.checked_div(*scale).unwrap_or(0) % 16;
+        is_begun = is_begun || digit != 0 || *scale == 1;
+        if is_begun {
+            text.push_str(digit_of(u64::from(digit)))?;
+        }
+    }
+    text.push_str("}")
+}
+
+/// A text as a line, as it was written at first.
+fn line_of_text(alloc: Global, letters: &str) -> Result<String, AllocError> {
+    let mut text = String::new(alloc);
+    for letter in letters.chars() {
+        if !is_seen(letter) {
+            push_escape(&mut text, letter)?;
+        } else {
+            text.push(letter)?;
+        }
+    }
+    text.push_str("\n")?;
+    Ok(text)
+}
+
+/// Whether a value is told as this line.
+fn is_told_as(alloc: Global, value: Value<'_>, line: &str) -> bool {
+    let mut told = Explanation::new(alloc);
+    told.put(value);
+    match told.finish() {
+        Some(text) => text.as_str() == line,
+        None => false,
+    }
+}
+
+/// Whether a number is told as it was at first.
+fn is_number_as_before(alloc: Global, number: u64) -> bool {
+    match line_of_number(alloc, number) {
+        Ok(line) => is_told_as(alloc, Value::Number(number), line.as_str()),
+        Err(_) => false,
+    }
+}
+
+/// Whether a text is told as it was at first.
+fn is_text_as_before(alloc: Global, text: &str) -> bool {
+    match line_of_text(alloc, text) {
+        Ok(line) => is_told_as(alloc, Value::Text(text), line.as_str()),
+        Err(_) => false,
+    }
+}
+
+#[test]
+fn numbers_are_told_as_by_powers_of_ten(rt: HostRuntime) {
+    for power in &POWERS {
+        assert!(rt; is_number_as_before(rt.alloc(), *power));
+        assert!(rt; is_number_as_before(rt.alloc(), power.saturating_sub(1)));
+        assert!(rt; is_number_as_before(rt.alloc(), power.saturating_mul(7)));
+    }
+    assert!(rt; is_number_as_before(rt.alloc(), u64::MAX));
+}
+
+#[test]
+fn texts_are_told_as_letter_by_letter(rt: HostRuntime) {
+    let texts =
+        "ADIRU-LEFT_1| ~|}{|\u{1f}|\u{20}|\u{7e}|\u{7f}|\u{80}|a\tb|a\nb|\r|é|ab\u{ad}|\u{200b}x|x\u{feff}|\u{1F600}|a b c ü|{}";
+    for text in texts.split('|') {
+        assert!(rt; is_text_as_before(rt.alloc(), text));
+    }
+    assert!(rt; is_text_as_before(rt.alloc(), ""));
+}
