@@ -1,4 +1,3 @@
 pub mod Pushed
 pub mod Spelling
 pub mod Ascii
-pub mod Letters

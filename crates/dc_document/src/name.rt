@@ -4,7 +4,7 @@ ghost use Rattle.std.specs.Prelude.{◌≡◌, [], ◌∷◌, length};
 ghost use Rattle.std.specs.List.{list_all, prefix_len};
 ghost use Rattle.std.specs.Cmp.Rules.{hashing};
 ghost use Rattle.std.proofs.Common.{rules};
-ghost use Rattle.dc_document.specs.Names.{is_name_byte as is_spelling_byte, is_spelled as is_spelled_name, IsName, IsSpelled, name_of, text_of};
+ghost use Rattle.dc_document.specs.Names.{is_name_byte as is_spelling_byte, is_spelled as is_spelled_name, IsSpelled, name_of, text_of};
 
 use crate::limits::NAME_LIMIT;
 use std::hash::{Hash, Hasher};
@@ -73,17 +73,11 @@ fn is_spelled(text: &[u8]) -> bool
     !text.is_empty() && text.len() <= NAME_LIMIT && are_name_bytes(text)
 }
 
-/// How many bytes from the front on may stand in a name. In a name all but these are zero, so those that are not are
-/// counted, all at once.
-fn text_len(name: &[u8; NAME_LIMIT]) -> usize
-    requires { IsName name.now }
-    ensures { result ≡ prefix_len is_spelling_byte name.now }
+/// How many bytes from the front on may stand in a name.
+fn text_len(bytes: &[u8]) -> usize
+    ensures { result ≡ prefix_len is_spelling_byte bytes.now }
 {
-    let mut letters: u8 = 0;
-    for byte in name {
-        letters += u8::from(*byte != 0);
-    }
-    usize::from(letters)
+    bytes.iter().take_while(|byte| is_name_byte(**byte)).count()
 }
 
 impl Name {
