@@ -51,7 +51,8 @@ pub trait ArrivalBound {
         jump
     }
 
-    /// Whether a walk may leap: whether a look by `at_most` costs no more than some tens of steps. Any answer is right.
+    /// Whether a walk may leap: whether a look by `at_most` costs no more than some tens of the walk's own steps. Any
+    /// answer is right.
     fn may_leap(&self) -> bool {
         true
     }
@@ -294,6 +295,10 @@ impl<'a, B: ArrivalBound> ArrivalBound for SumOf<'a, B> {
         (total, jump_at(jump as u64))
     }
 
+    fn may_leap(&self) -> bool {
+        self.members.iter().all(|member| member.may_leap())
+    }
+
     fn walk<W: Watcher>(&self, first: u32, last: u32, watcher: &mut W) -> bool {
         self.walk_under(&None, first, last, watcher)
     }
@@ -367,6 +372,10 @@ impl<A: ArrivalBound, B: ArrivalBound> ArrivalBound for Both<A, B> {
             return (second, second_jump);
         }
         (first, later(first_jump, second_jump))
+    }
+
+    fn may_leap(&self) -> bool {
+        self.first.may_leap() && self.second.may_leap()
     }
 
     ghost cap_zero = { λ x. both_zero (A.cap x.first 0) (B.cap x.second 0) (A.cap_zero x.first) };

@@ -75,14 +75,19 @@ impl ServiceBound for Paced {
     ghost floor_holds = { λ x whole ts u d h k. pace_holds x.steps x.within whole ts h u d k };
 }
 
-/// The visits of one bus by an actor that keeps a pace and visits the buses of a list in turn, again and again.
+/// The visits of one bus by an actor that keeps a pace and visits the buses of a list in turn, again and again. The
+/// places of the bus in the list are written once, and each look goes by them.
 #[derive(Drop)]
 pub struct Visits<'a> {
     pace: Paced,
     visits: &'a [usize],
     bus: usize,
+    places: [u8; MOST_PLACES],
+    number: usize,
     ghost some: { 1 ≤ length visits.now },
     ghost few: { length visits.now ≤ MOST_PLACES },
+    ghost are: { ArePlaces visits.now bus (length visits.now) places number },
+    ghost fit: { number ≤ MOST_PLACES },
 }
 
 impl<'a> Visits<'a> {
@@ -95,7 +100,43 @@ impl<'a> Visits<'a> {
         ensures serves { (whole : ℕ) (ts : List ℕ) → ⟦<Visits<'a> as ServiceBound>⟧.serves result whole ts
             ↔ VisitsInTurn visits.now bus pace.steps pace.within whole ts }
     {
-        Visits { pace, visits, bus }
+        let mut places = [0; MOST_PLACES];
+        let number = write_places(visits, bus, &mut places);
+        Visits {
+            pace,
+            visits,
+            bus,
+            places,
+            number,
+        }
+    }
+
+    /// The fewest visits of the bus among less steps than the list has. No window of so many holds fewer visits than the
+    /// one that begins right behind the last visit before it, so only these are looked at.
+    fn fewest_in_rest(&self, rest: usize) -> usize
+        requires { rest < length self.now.visits.now }
+        ensures value { result ≡ fewest_visits self.now.visits.now self.now.bus rest }
+        ensures few { result ≤ self.now.number }
+    {
+        let mut least = self.number.min(rest);
+        for behind in 0..self.number {
+            while self.step_of(behind + least) > self.places[behind] as usize + rest {
+                least -= 1;
+            }
+        }
+        least
+    }
+
+    /// The step of visit n, of the first two rounds through the list.
+    fn step_of(&self, n: usize) -> usize
+        requires { n < 2 * self.now.number }
+        ensures { result ≡ nth_step self.now.places self.now.number (length self.now.visits.now) n }
+    {
+        if n < self.number {
+            self.places[n] as usize
+        } else {
+            self.places[n - self.number] as usize + self.visits.len()
+        }
     }
 }
 
@@ -104,8 +145,16 @@ impl<'a> ServiceBound for Visits<'a> {
 
     ghost serves = { λ x whole ts. VisitsInTurn x.visits.now x.bus x.pace.steps x.pace.within whole ts };
 
+    // The fewest visits among the steps: whole rounds, and the rest of the last.
     fn at_least(&self, d: u32) -> u64 {
-        fewest(self.visits, self.bus, self.pace.at_least(d))
+        let steps = self.pace.at_least(d);
+        let len = self.visits.len() as u64;
+        let rounds = steps / len * self.number as u64;
+        let rest = (steps % len) as usize;
+        if rest == 0 {
+            return rounds;
+        }
+        rounds + self.fewest_in_rest(rest) as u64
     }
 
     ghost floor_zero = { λ x. fewest_visits_zero x.visits.now x.bus x.pace.steps x.pace.within };
@@ -113,27 +162,6 @@ impl<'a> ServiceBound for Visits<'a> {
     ghost floor_monotone = { λ x d e h. fewest_visits_mono x.visits.now x.bus x.pace.steps x.pace.within d e x.pace.positive h };
 
     ghost floor_holds = { λ x whole ts u d h k. in_turn_holds x.visits.now x.bus x.some x.pace.steps x.pace.within whole ts h u d k };
-}
-
-/// The fewest visits of the bus among so many steps: whole rounds, and the rest of the last. No window of the rest
-/// holds fewer visits than the one that begins right behind the last visit before it, so only these are looked at.
-fn fewest(visits: &[usize], bus: usize, steps: u64) -> u64
-    requires some { 1 ≤ length visits.now }
-    requires few { length visits.now ≤ MOST_PLACES }
-    requires steps { steps < 2 ^ 52 }
-    ensures { result ≡ fewest_visits visits.now bus steps }
-{
-    let len = visits.len();
-    let rest = (steps % len as u64) as usize;
-    let mut places = [0; MOST_PLACES];
-    let round = write_places(visits, bus, &mut places);
-    let mut least = round;
-    for behind in 0..round {
-        while nth_step(&places, round, len, behind + least) > places[behind] as usize + rest {
-            least -= 1;
-        }
-    }
-    (steps / len as u64) * round as u64 + least as u64
 }
 
 /// Writes the places of the bus in the list to the front of `places`, and tells how many they are.
@@ -150,18 +178,4 @@ fn write_places(visits: &[usize], bus: usize, places: &mut [u8; MOST_PLACES]) ->
         }
     }
     number
-}
-
-/// The step of visit n, of the first two rounds through a list with `number` places of the bus.
-fn nth_step(places: &[u8; MOST_PLACES], number: usize, len: usize, n: usize) -> usize
-    requires known { n < 2 * number }
-    requires few { number ≤ MOST_PLACES }
-    requires short { len ≤ MOST_PLACES }
-    ensures { result ≡ nth_step places.now number len n }
-{
-    if n < number {
-        places[n] as usize
-    } else {
-        places[n - number] as usize + len
-    }
 }

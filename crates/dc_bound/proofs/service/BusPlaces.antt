@@ -1,5 +1,5 @@
 -- The fewest visits in a window, by the windows that begin right behind a visit.
-use Rattle.std.proofs.Common.{◌≡◌, ℕ, suc, ◌+◌, ◌-◌, ◌*◌, ◌%◌, ◌≤◌, ◌<◌, List, length, set, slice_index, refl, sym, ap, ◌∙◌, arith, inl, inr, subst, nat_lt, true, false}
+use Rattle.std.proofs.Common.{◌≡◌, ℕ, zero, suc, ◌+◌, ◌-◌, ◌*◌, ◌%◌, ◌≤◌, ◌<◌, List, length, set, slice_index, refl, sym, ap, ◌∙◌, arith, inl, inr, subst, nat_lt, true, false}
 use Rattle.std.proofs.Math.Nat.{mod-eq_of_lt, mul-add-mod_self_right}
 use Rattle.std.proofs.lemmas.Bool.{cases_lt, cases_eq}
 use Rattle.std.proofs.lemmas.Bool.Decides.{nat_tests}
@@ -8,7 +8,7 @@ use Rattle.dc_bound.specs.Rounds.{is_at, fewest_visits}
 use Rattle.dc_bound.specs.Rounds.{among}
 use Rattle.dc_bound.specs.BusPlaces.{IsVisit, ArePlaces, nth_step}
 use Rattle.dc_bound.specs.lemmas.Least.{le-least}
-use Rattle.dc_bound.specs.lemmas.Cycle.{among_sum, among_mono, among_rounds, fewest_holds}
+use Rattle.dc_bound.specs.lemmas.Cycle.{among_sum, among_mono, among_rounds, fewest_holds, is_at_small}
 
 ltb-below : (m n : ℕ) → m < n → nat_lt m n ≡ true
 ltb-below m n h = grind (arith, nat_tests)
@@ -68,6 +68,15 @@ module _ (table : List ℕ) (bus : ℕ) where
   pub window_lacks : (n step k last rest : ℕ) → IsVisit table bus n step → IsVisit table bus (n + k) last → step + rest < last → visits_in (step + 1) rest < k
   window_lacks n step k last rest v w h =
       omega (arith, behind n step v, before_window (step + 1) rest, earlier (n + k) last (step + 1 + rest) w (omega arith))
+
+  -- no more visits than steps
+  visits_within : (n k : ℕ) → visits_in n k ≤ k
+  unfolding among
+  visits_within n zero = omega arith
+  visits_within n (suc k) = omega (arith, visits_within n k, is_at_small table bus ((n + k) % length table))
+
+  pub fewest_in_steps : 1 ≤ length table → (rest : ℕ) → fewest_visits table bus rest ≤ rest
+  fewest_in_steps some rest = omega (arith, fewest_holds (λ i. is_at table bus i) (length table) some 0 rest, visits_within 0 rest)
 
   pub fewest_lacks : 1 ≤ length table → (n k rest : ℕ) → visits_in n rest < k → fewest_visits table bus rest ≤ k - 1
   fewest_lacks some n k rest h = omega (arith, fewest_holds (λ i. is_at table bus i) (length table) some n rest)
