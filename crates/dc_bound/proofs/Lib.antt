@@ -1,3 +1,4 @@
 pub mod CyclicWalk
 pub mod Lesser
 pub mod Summed
+pub mod Sliding

@@ -6,7 +6,6 @@ pub mod Moves
 -- ---- the words of the bounds
 pub mod Tags
 pub mod Rounds
-pub mod BusPlaces
 pub mod Turns
 pub mod Frame
 pub mod Splits

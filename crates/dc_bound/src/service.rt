@@ -3,8 +3,7 @@
 ghost use Rattle.std.specs.Prelude.{◌≡◌, ℕ, ◌+◌, ◌*◌, ◌/◌, ◌%◌, ◌^◌, ◌<◌, ◌≤◌, ◌↔◌, List, length};
 ghost use Rattle.dc_bound.specs.Window.{count_in, HoldAtLeast};
 ghost use Rattle.dc_bound.specs.lemmas.Budget.{pace_zero, pace_mono, pace_holds};
-ghost use Rattle.dc_bound.specs.Rounds.{fewest_visits};
-ghost use Rattle.dc_bound.specs.BusPlaces.{ArePlaces, nth_step};
+ghost use Rattle.dc_bound.specs.Rounds.{among, is_at, fewest_visits};
 ghost use Rattle.dc_bound.specs.lemmas.Cycle.{fewest_visits_zero, fewest_visits_mono};
 ghost use Rattle.dc_bound.specs.Turns.{VisitsInTurn};
 ghost use Rattle.dc_bound.specs.lemmas.Visited.{in_turn_holds};
@@ -75,19 +74,14 @@ impl ServiceBound for Paced {
     ghost floor_holds = { λ x whole ts u d h k. pace_holds x.steps x.within whole ts h u d k };
 }
 
-/// The visits of one bus by an actor that keeps a pace and visits the buses of a list in turn, again and again. The
-/// places of the bus in the list are written once, and each look goes by them.
+/// The visits of one bus by an actor that keeps a pace and visits the buses of a list in turn, again and again.
 #[derive(Drop)]
 pub struct Visits<'a> {
     pace: Paced,
     visits: &'a [usize],
     bus: usize,
-    places: [u8; MOST_PLACES],
-    number: usize,
     ghost some: { 1 ≤ length visits.now },
     ghost few: { length visits.now ≤ MOST_PLACES },
-    ghost are: { ArePlaces visits.now bus (length visits.now) places number },
-    ghost fit: { number ≤ MOST_PLACES },
 }
 
 impl<'a> Visits<'a> {
@@ -100,43 +94,7 @@ impl<'a> Visits<'a> {
         ensures serves { (whole : ℕ) (ts : List ℕ) → ⟦<Visits<'a> as ServiceBound>⟧.serves result whole ts
             ↔ VisitsInTurn visits.now bus pace.steps pace.within whole ts }
     {
-        let mut places = [0; MOST_PLACES];
-        let number = write_places(visits, bus, &mut places);
-        Visits {
-            pace,
-            visits,
-            bus,
-            places,
-            number,
-        }
-    }
-
-    /// The fewest visits of the bus among less steps than the list has. No window of so many holds fewer visits than the
-    /// one that begins right behind the last visit before it, so only these are looked at.
-    fn fewest_in_rest(&self, rest: usize) -> usize
-        requires { rest < length self.now.visits.now }
-        ensures value { result ≡ fewest_visits self.now.visits.now self.now.bus rest }
-        ensures few { result ≤ self.now.number }
-    {
-        let mut least = self.number.min(rest);
-        for behind in 0..self.number {
-            while self.step_of(behind + least) > self.places[behind] as usize + rest {
-                least -= 1;
-            }
-        }
-        least
-    }
-
-    /// The step of visit n, of the first two rounds through the list.
-    fn step_of(&self, n: usize) -> usize
-        requires { n < 2 * self.now.number }
-        ensures { result ≡ nth_step self.now.places self.now.number (length self.now.visits.now) n }
-    {
-        if n < self.number {
-            self.places[n] as usize
-        } else {
-            self.places[n - self.number] as usize + self.visits.len()
-        }
+        Visits { pace, visits, bus }
     }
 }
 
@@ -145,16 +103,8 @@ impl<'a> ServiceBound for Visits<'a> {
 
     ghost serves = { λ x whole ts. VisitsInTurn x.visits.now x.bus x.pace.steps x.pace.within whole ts };
 
-    // The fewest visits among the steps: whole rounds, and the rest of the last.
     fn at_least(&self, d: u32) -> u64 {
-        let steps = self.pace.at_least(d);
-        let len = self.visits.len() as u64;
-        let rounds = steps / len * self.number as u64;
-        let rest = (steps % len) as usize;
-        if rest == 0 {
-            return rounds;
-        }
-        rounds + self.fewest_in_rest(rest) as u64
+        fewest(self.visits, self.bus, self.pace.at_least(d))
     }
 
     ghost floor_zero = { λ x. fewest_visits_zero x.visits.now x.bus x.pace.steps x.pace.within };
@@ -164,18 +114,67 @@ impl<'a> ServiceBound for Visits<'a> {
     ghost floor_holds = { λ x whole ts u d h k. in_turn_holds x.visits.now x.bus x.some x.pace.steps x.pace.within whole ts h u d k };
 }
 
-/// Writes the places of the bus in the list to the front of `places`, and tells how many they are.
-fn write_places(visits: &[usize], bus: usize, places: &mut [u8; MOST_PLACES]) -> usize
-    requires few { length visits.now ≤ MOST_PLACES }
-    ensures are { ArePlaces visits.now bus (length visits.now) places.new result }
-    ensures few { result ≤ MOST_PLACES }
+/// 1 where a place of the list is the bus, else 0.
+fn visit(visits: &[usize], bus: usize, place: usize) -> u64
+    requires { place < length visits.now }
+    ensures value { result ≡ is_at visits.now bus place }
+    ensures small { result ≤ 1 }
 {
-    let mut number = 0;
-    for i in 0..visits.len() {
-        if visits[i] == bus {
-            places[number] = i as u8;
-            number += 1;
-        }
+    if visits[place] == bus { 1 } else { 0 }
+}
+
+/// How many of the first k steps visit the bus.
+#[tactic(auto, unfolding(crate::specs::Rounds::among))]
+fn visits_in_front(visits: &[usize], bus: usize, k: usize) -> u64
+    requires few { length visits.now ≤ MOST_PLACES }
+    requires round { k ≤ length visits.now }
+    ensures value { result ≡ among (λ i. is_at visits.now bus i) (length visits.now) 0 k }
+    ensures small { result ≤ k }
+{
+    let mut count: u64 = 0;
+    for i in 0..k {
+        count += visit(visits, bus, i);
     }
-    number
+    count
+}
+
+/// The fewest visits of the bus among so many steps: whole rounds, and the rest of the last.
+fn fewest(visits: &[usize], bus: usize, steps: u64) -> u64
+    requires some { 1 ≤ length visits.now }
+    requires few { length visits.now ≤ MOST_PLACES }
+    requires steps { steps < 2 ^ 52 }
+    ensures { result ≡ fewest_visits visits.now bus steps }
+{
+    let len = visits.len();
+    let rounds = steps / len as u64;
+    let rest = (steps % len as u64) as usize;
+    let round = visits_in_front(visits, bus, len);
+    if rest == 0 {
+        return rounds * round;
+    }
+    let least = fewest_in_rest(visits, bus, rest);
+    rounds * round + least
+}
+
+/// The fewest visits of the bus among less steps than the list has, at least one: a window of so many steps slides
+/// along it, first while it ends in the list, then while it goes on at the front.
+fn fewest_in_rest(visits: &[usize], bus: usize, rest: usize) -> u64
+    requires some { 1 ≤ rest }
+    requires few { length visits.now ≤ MOST_PLACES }
+    requires rest { rest < length visits.now }
+    ensures value { result ≡ fewest_visits visits.now bus rest }
+    ensures small { result ≤ MOST_PLACES }
+{
+    let last = visits.len() - rest;
+    let mut here = visits_in_front(visits, bus, rest);
+    let mut least = here;
+    for n in 0..last {
+        here = here + visit(visits, bus, n + rest) - visit(visits, bus, n);
+        least = least.min(here);
+    }
+    for front in 0..rest - 1 {
+        here = here + visit(visits, bus, front) - visit(visits, bus, last + front);
+        least = least.min(here);
+    }
+    least
 }
