@@ -16,6 +16,13 @@ fn assert_caps<A: ArrivalBound>(rt: &impl Abort, bound: &A, rows: &[(u32, u64)])
     }
 }
 
+/// The cap of a bound of any kind.
+fn cap_of(bound: &dyn ArrivalBound, ticks: u32) -> u64
+    requires { ticks ≤ 1000000 }
+{
+    bound.at_most(ticks)
+}
+
 /// The jumps after some tick counts, through the bound.
 fn assert_jumps<A: ArrivalBound>(rt: &impl Abort, bound: &A, rows: &[(u32, Option<u32>)]) {
     for (ticks, jump) in rows {
@@ -259,6 +266,13 @@ fn cyclic_counts_the_fullest_window(rt: HostRuntime) {
     // a window that goes round the frame's end holds more than any from its start
     let late = Cyclic::new(10, &[0, 4, 9]);
     assert_caps(&rt, &late, &[(1, 1), (2, 2), (6, 3)]);
+}
+
+#[test]
+fn bounds_of_any_kind_are_called_alike(rt: HostRuntime) {
+    assert!(rt; cap_of(&Sporadic::new(10), 21) == 3);
+    assert!(rt; cap_of(&Wire::new(1000, 360), 2) == 6);
+    assert!(rt; cap_of(&Cyclic::new(10, &[0, 4, 9]), 2) == 2);
 }
 
 #[test]

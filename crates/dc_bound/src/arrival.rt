@@ -61,6 +61,8 @@ pub trait ArrivalBound {
     /// [`LONGEST_WALK`](crate::LONGEST_WALK), stretch by stretch of one cap each, until it wants to see no more. Whether
     /// it wants to see more.
     fn walk<W: Watcher>(&self, first: u32, last: u32, watcher: &mut W) -> bool
+    where
+        Self: Sized,
         requires first { 1 ≤ first }
         requires order { first ≤ last + 1 }
         requires far { last ≤ LONGEST_WALK }
@@ -88,6 +90,8 @@ pub trait ArrivalBound {
         last: u32,
         watcher: &mut W,
     ) -> bool
+    where
+        Self: Sized,
         requires first { 1 ≤ first }
         requires order { first ≤ last + 1 }
         requires far { last ≤ LONGEST_WALK }
