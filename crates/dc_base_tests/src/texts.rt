@@ -143,6 +143,48 @@ fn is_text_as_before(alloc: Global, text: &str) -> bool {
     }
 }
 
+/// Letters with another one at a place.
+fn with_letter(alloc: Global, place: usize, letter: char) -> Result<String, AllocError> {
+    let mut text = String::new(alloc);
+    for at in 0..30 {
+        text.push(if at == place { letter } else { 'A' })?;
+    }
+    Ok(text)
+}
+
+/// Whether a letter at a place among others is told as it was at first.
+fn is_letter_as_before(alloc: Global, place: usize, letter: char) -> bool {
+    match with_letter(alloc, place, letter) {
+        Ok(text) => is_text_as_before(alloc, text.as_str()),
+        Err(_) => false,
+    }
+}
+
+/// What is told of a piece behind another one, where it is said or added.
+fn told_of(alloc: Global, piece: &str, is_added: bool, is_begun: bool) -> Option<String> {
+    let mut told = Explanation::new(alloc);
+    if is_begun {
+        told.say("first ", &[]);
+    }
+    if is_added {
+        told.add(piece);
+    } else {
+        told.say(piece, &[]);
+    }
+    told.finish()
+}
+
+/// Whether a piece is added as it is said.
+fn is_added_as_said(alloc: Global, piece: &str, is_begun: bool) -> bool {
+    match (
+        told_of(alloc, piece, false, is_begun),
+        told_of(alloc, piece, true, is_begun),
+    ) {
+        (Some(said), Some(added)) => said.as_str() == added.as_str(),
+        _ => false,
+    }
+}
+
 #[test]
 fn numbers_are_told_as_by_powers_of_ten(rt: HostRuntime) {
     for power in &POWERS {
@@ -161,4 +203,26 @@ fn texts_are_told_as_letter_by_letter(rt: HostRuntime) {
         assert!(rt; is_text_as_before(rt.alloc(), text));
     }
     assert!(rt; is_text_as_before(rt.alloc(), ""));
+}
+
+#[test]
+fn letter_at_any_place_is_told_as_letter_by_letter(rt: HostRuntime) {
+    for code in 0..0x180 {
+        if let Some(letter) = char::from_u32(code) {
+            for place in [0, 7, 8, 29] {
+                assert!(rt;
+                    is_letter_as_before(rt.alloc(), place, letter),
+                    "{code} at {place}"
+                );
+            }
+        }
+    }
+}
+
+#[test]
+fn piece_is_added_as_it_is_said(rt: HostRuntime) {
+    for piece in "|a|two words|{|}|} {|tab\t|line\n|é ü|\u{1F600}".split('|') {
+        assert!(rt; is_added_as_said(rt.alloc(), piece, false));
+        assert!(rt; is_added_as_said(rt.alloc(), piece, true));
+    }
 }
