@@ -8,7 +8,7 @@ use crate::LONGEST_WINDOW;
 use dc_bound::{ArrivalBound, Watcher};
 use std::marker::{Brand, PhantomData};
 
-/// The number of steps that are walked at first, and after each leap over more words.
+/// The number of steps that are walked at first, and after each leap over more than [`FEW_WORDS`].
 const FEW_STEPS: u32 = 32;
 
 /// The greatest number of steps that are walked before the next leap is tried.
@@ -21,7 +21,7 @@ const FEW_WORDS: u64 = 32;
 /// cost less.
 const SHORT_LEAP: u64 = 4;
 
-/// How many numbers of ticks a leap looks at.
+/// How many numbers of ticks are looked at, each nearer, before a leap is given up.
 const LOOKS: u32 = 3;
 
 /// A watcher that tells how many may come without a change of what it knows.
