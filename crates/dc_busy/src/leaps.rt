@@ -8,6 +8,9 @@ use crate::LONGEST_WINDOW;
 use dc_bound::{ArrivalBound, Watcher};
 use std::marker::{Brand, PhantomData};
 
+/// How many steps are asked one by one before the first walk.
+const FIRST_STEPS: u32 = 4;
+
 /// The number of steps that are walked at first, and after each leap over more than [`FEW_WORDS`].
 const FEW_STEPS: u32 = 32;
 
@@ -49,12 +52,15 @@ pub fn walk_by_leaps<A: ArrivalBound, W: Patient>(
     ensures all { result.1 ≡ true → W.knows result.0 (A.cap arrivals.now) (last + 1) }
     ensures ended { result.1 ≡ false → W.ends result.0 (A.cap arrivals.now) }
 {
-    let mut watcher = watcher;
     if !arrivals.may_leap() {
+        let mut watcher = watcher;
         let more = arrivals.walk(first, last, &mut watcher);
         return (watcher, more);
     }
-    let mut ticks = first;
+    let (mut watcher, mut ticks, more) = first_steps(arrivals, first, last, watcher);
+    if !more {
+        return (watcher, false);
+    }
     let mut steps = FEW_STEPS;
     while ticks <= last {
         let (walked, end, more) = walk_steps::<A, W, Brand>(arrivals, ticks, last, watcher, steps);
@@ -67,6 +73,37 @@ pub fn walk_by_leaps<A: ArrivalBound, W: Patient>(
         steps = next_steps(steps, words);
     }
     (watcher, true)
+}
+
+/// The first steps, each asked by itself: many a window ends here, before a walk has to make room for what it keeps.
+/// Gives the watcher back, the number of ticks before which it has seen each, and whether it wants to see more.
+fn first_steps<A: ArrivalBound, W: Watcher>(
+    arrivals: &A,
+    first: u32,
+    last: u32,
+    watcher: W,
+) -> (W, u32, bool)
+    requires first { 1 ≤ first }
+    requires order { first ≤ last + 1 }
+    requires far { last ≤ LONGEST_WINDOW }
+    requires knows { W.knows watcher (A.cap arrivals.now) first }
+    ensures more { result.2 ≡ true → (first ≤ result.1) × (result.1 ≤ last + 1) × W.knows result.0 (A.cap arrivals.now) result.1 }
+    ensures ended { result.2 ≡ false → W.ends result.0 (A.cap arrivals.now) }
+{
+    let mut watcher = watcher;
+    let mut ticks = first;
+    for _ in 0..FIRST_STEPS {
+        if ticks > last {
+            break;
+        }
+        let (most, jump) = arrivals.at_most_and_jump(ticks);
+        let until = jump.unwrap_or(last + 1).min(last + 1);
+        if !watcher.see(ticks, until, most) {
+            return (watcher, until, false);
+        }
+        ticks = until;
+    }
+    (watcher, ticks, true)
 }
 
 /// How many steps are walked after a leap over so many words: twice as many as before where it was short.

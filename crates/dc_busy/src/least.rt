@@ -17,6 +17,12 @@ use std::marker::{Brand, PhantomData};
 /// How many stretches a look at a window far on is to pass over.
 const FAR: u32 = 4;
 
+/// How far the next step is when the whole span is looked at for once, where steps double.
+const ONCE_FAR: u32 = 8;
+
+/// The greatest number of rounds that go without a look far on, since those before found nothing.
+const MOST_ROUNDS: u32 = 4096;
+
 /// The greatest number by which what may come in some number of ticks up to `window`, 1 to [`LONGEST_WINDOW`], is above
 /// the visits in the whole ticks inside them, two less; 0 where it is never above. It is the least backlog of which
 /// [`crate::backlog_fails`] finds nothing.
@@ -97,6 +103,7 @@ pub fn least_window<A: ArrivalBound, S: ServiceBound>(arrivals: &A, service: &S)
         return first_closing::<A, S, Brand>(arrivals, service);
     }
     let mut window = 1;
+    let mut looks = Looks::new();
     while window <= LONGEST_WINDOW {
         let (most, jump) = arrivals.at_most_and_jump(window);
         let until = jump.unwrap_or(LONGEST_WINDOW + 1).min(LONGEST_WINDOW + 1);
@@ -104,7 +111,7 @@ pub fn least_window<A: ArrivalBound, S: ServiceBound>(arrivals: &A, service: &S)
         if most <= served {
             return Some(least_between(service, most, window - 1, until - 2) + 1);
         }
-        window = next_window(service, window, until, served, most);
+        window = next_window(service, &mut looks, window, until, served, most);
     }
     None
 }
@@ -128,10 +135,45 @@ fn first_closing<A: ArrivalBound, S: ServiceBound, K: Served>(
     Some(closing.found)
 }
 
+/// When a window far on is looked for: behind a round that found none one goes without, behind the next such 2, then 4
+/// and so on; behind one that gained, none.
+#[derive(Clone, Copy)]
+struct Looks {
+    left: u32,
+    next: u32,
+}
+
+impl Looks {
+    /// The first round may look.
+    fn new() -> Looks {
+        Looks { left: 0, next: 1 }
+    }
+
+    /// Whether this round may look.
+    fn may(&mut self) -> bool {
+        let may = self.left == 0;
+        self.left = self.left.saturating_sub(1);
+        may
+    }
+
+    /// Lets rounds go without a look, behind one that found nothing.
+    fn wait(&mut self) {
+        self.left = self.next;
+        self.next = self.next.saturating_mul(2).min(MOST_ROUNDS);
+    }
+}
+
 /// The next window to look at, `until` or a longer one, at most one past [`LONGEST_WINDOW`], before which none has as many
 /// visits in its ticks but the first as may come in this one. A window far on is looked at where that passes over more
 /// than a stretch or two.
-fn next_window<S: ServiceBound>(service: &S, window: u32, until: u32, served: u64, most: u64) -> u32
+fn next_window<S: ServiceBound>(
+    service: &S,
+    looks: &mut Looks,
+    window: u32,
+    until: u32,
+    served: u64,
+    most: u64,
+) -> u32
     requires some { 1 ≤ window }
     requires later { window < until }
     requires far { until ≤ LONGEST_WINDOW + 1 }
@@ -141,14 +183,16 @@ fn next_window<S: ServiceBound>(service: &S, window: u32, until: u32, served: u6
     ensures inside { result ≤ LONGEST_WINDOW + 1 }
     ensures none { (v : ℕ) → v < result → S.floor service.now (v - 1) < most }
 {
-    let stride = about(until - 1, served, most);
-    if stride / FAR < until - window {
+    if !looks.may() {
         return until;
     }
+    let stride = about(until - 1, served, most);
     let ahead = (until - 2).saturating_add(stride).min(LONGEST_WINDOW - 1);
-    if service.at_least(ahead) < most {
+    if stride / FAR >= until - window && service.at_least(ahead) < most {
+        *looks = Looks::new();
         return ahead + 2;
     }
+    looks.wait();
     until
 }
 
@@ -272,7 +316,7 @@ fn least_ticks<S: ServiceBound>(service: &S, count: u64, from: u32, to: u32) -> 
     let mut ahead = from;
     let mut step: u32 = 1;
     while service.at_least(ahead) < count {
-        if ahead == to {
+        if ahead == to || step == ONCE_FAR && service.at_least(to) < count {
             return None;
         }
         low = ahead + 1;

@@ -1,8 +1,8 @@
 use Rattle.std.proofs.Common.{ℕ, ◌-◌, ◌<◌, ◌≤◌}
 use Rattle.dc_busy.proofs.least.least_ticks.Given as goal
 
-abbrev pub invariant-loop-count : goal.invariant-loop-count
-invariant-loop-count g l = record {
+abbrev pub invariant-loop-low : goal.invariant-loop-low
+invariant-loop-low g l = record {
   above : l.from ≤ l.low;
   order : l.low ≤ l.ahead;
   below : l.ahead ≤ l.to;
@@ -10,5 +10,5 @@ invariant-loop-count g l = record {
   too_few : (e : ℕ) → l.from ≤ e → e < l.low → g.S.ServiceBound.floor l.service e < l.count;
 }
 
-abbrev pub decreases-loop-count : goal.decreases-loop-count
-decreases-loop-count g l = l.to - l.ahead
+abbrev pub decreases-loop-low : goal.decreases-loop-low
+decreases-loop-low g l = l.to - l.ahead
