@@ -1,13 +1,13 @@
 -- The sum of what is kept of a sum's members.
-use Rattle.std.proofs.Common.{◌≡◌, ℕ, zero, suc, ◌+◌, ◌-◌, ◌*◌, ◌/◌, ◌<◌, ◌≤◌, Option, Some, None, inl, inr, replicate, List, [], ◌∷◌, length, take, set, get_or, refl, sym, ◌∙◌, ap, arith}
+use Rattle.std.proofs.Common.{◌≡◌, ℕ, zero, suc, ◌+◌, ◌-◌, ◌/◌, ◌<◌, ◌≤◌, Option, Some, None, IfSome, inl, inr, replicate, List, [], ◌∷◌, length, take, set, get_or, refl, sym, ◌∙◌, ap, arith}
 use Rattle.std.specs.List.{sum, sum_by}
 use Rattle.std.proofs.lemmas.List.Sums.{sum_by-cons}
 use Rattle.std.specs.Option.{unwrap_or}
 use Rattle.std.proofs.lemmas.List.{get_or_read, get_or-set_same, get_or-set_other, length-set, length-replicate, get_or-replicate}
-use Rattle.std.proofs.lemmas.Bool.{cases_eq}
-use Rattle.std.proofs.Math.Nat.{le-div_iff_mul-le, div-mul-le_self}
+use Rattle.std.proofs.lemmas.Bool.{cases_eq, cases_lt}
 use Rattle.dc_bound.specs.Window.{IsNextJump, Shown}
-use Rattle.dc_bound.specs.Terms.{IsTerm, AreKept}
+use Rattle.dc_bound.specs.Terms.{IsTerm, AreKept, KeepsTerms}
+use Rattle.dc_bound.specs.declared.terms.Terms.{Terms}
 
 -- counts that are each what the member says have the sum of what the members say
 pub sum_same : {B : Type 0} (f : B → ℕ) (bs : List B) (cs : List ℕ) → length bs ≤ length cs →
@@ -110,6 +110,12 @@ module _ {B : Type 0} (cap : B → ℕ → ℕ) (members : List B) (ticks total 
     (λ i d inside. ((kept.3 i d inside).0, λ k from to. (kept.3 i d inside).1 k (omega arith) to)),
   )
 
+-- what is kept, if anything, is kept for more ticks
+pub all_kept_later : {B : Type 0} (cap : B → ℕ → ℕ) (members : List B) (ticks later : ℕ) (terms : Option Terms) → ticks ≤ later →
+    IfSome terms (λ t. (length members ≤ 256) × KeepsTerms cap members ticks t) → IfSome terms (λ t. (length members ≤ 256) × KeepsTerms cap members later t)
+all_kept_later cap members ticks later None h kept = kept
+all_kept_later cap members ticks later (Some t) h kept = (kept.0, kept_later cap members ticks t.total t.counts t.marks kept.1 kept.0 later h)
+
 zero_sum : (n m : ℕ) → sum (take n (replicate m 0)) ≡ 0
 zero_sum zero m = refl
 zero_sum (suc n) zero = refl
@@ -130,13 +136,12 @@ kept_fresh cap members ticks total counts marks few none no_counts no_marks = (
   )),
 )
 
--- ---- marks, of which each is 256 times a number of ticks and a place
+-- ---- the least of marks
 
-pub least_later : (ticks least end : ℕ) (mark : ℕ → ℕ) (members : ℕ) →
-    ((x : ℕ) → x < end * 256 → ((i : ℕ) → i < members → x < mark i) → x < least) →
-    ticks < end → ((i : ℕ) → i < members → ticks < mark i / 256) → ticks < least / 256
-least_later ticks least end mark members later short ahead =
-    let above : ticks * 256 + 255 < least =
-    later (ticks * 256 + 255) (omega arith) (λ i inside. omega (arith, ahead i inside, div-mul-le_self (mark i) 256)) in
-    let le : suc ticks ≤ least / 256 = (le-div_iff_mul-le {k = 256} {x = suc ticks} {y = least} (omega arith)).1 (omega (arith, above)) in
-    omega (arith, le)
+-- an index below the next is the last one or one of those before
+pub least_next : (f : ℕ → ℕ) (least n : ℕ) → ((j : ℕ) → j < n → least ≤ f j) → least ≤ f n → (j : ℕ) → j < n + 1 → least ≤ f j
+least_next f least n before here j h =
+    elim (cases_lt j n) [
+      | inl l ↦ before j l
+      | inr l ↦ omega (arith, here, ap f (let e : j ≡ n = omega arith in e))
+    ]

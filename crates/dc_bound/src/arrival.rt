@@ -15,7 +15,7 @@ ghost use Rattle.dc_bound.specs.declared.terms.TheConstants.{MOST_TERMS};
 ghost use Rattle.dc_bound.specs.declared.limits.TheConstants.{GREATEST_CAP, LONGEST_SPAN, LONGEST_TICK, LONGEST_WALK};
 
 use crate::limits::LONGEST_SPAN;
-use crate::terms::{MOST_TERMS, Terms};
+use crate::terms::{FEW_TERMS, MOST_TERMS, Terms};
 use crate::under::lesser;
 use crate::walk::Watcher;
 
@@ -256,20 +256,30 @@ impl<'a, B: ArrivalBound> SumOf<'a, B> {
         SumOf { first, members }
     }
 
+    // What a walk keeps of its members: nothing of few, which are asked anew in no more time, and of too many.
+    fn terms(&self) -> Option<Terms>
+        ensures { (ticks : ℕ) → IfSome result (λ t. (length self.now.members.now ≤ MOST_TERMS) × KeepsTerms B.cap self.now.members.now ticks t) }
+    {
+        if self.members.len() <= FEW_TERMS || self.members.len() > MOST_TERMS {
+            return None;
+        }
+        Some(Terms::new())
+    }
+
     // What comes at most in so many ticks, and before which number of them, at most one past `last`, that stays so.
-    fn stretch(&self, terms: &mut Terms, ticks: u32, last: u32) -> (u64, u32)
+    fn stretch(&self, terms: &mut Option<Terms>, ticks: u32, last: u32) -> (u64, u32)
         requires some { ticks ≤ last }
         requires far { last ≤ LONGEST_WALK }
-        requires kept { length self.now.members.now ≤ MOST_TERMS → KeepsTerms B.cap self.now.members.now ticks terms.old }
-        ensures kept { length self.now.members.now ≤ MOST_TERMS → KeepsTerms B.cap self.now.members.now ticks terms.new }
+        requires kept { IfSome terms.old (λ t. (length self.now.members.now ≤ MOST_TERMS) × KeepsTerms B.cap self.now.members.now ticks t) }
+        ensures kept { IfSome terms.new (λ t. (length self.now.members.now ≤ MOST_TERMS) × KeepsTerms B.cap self.now.members.now ticks t) }
         ensures shown { Shown (λ k. sum_by (λ (b : B). B.cap b k) self.now.members.now) ticks result.1 result.0 }
         ensures later { ticks < result.1 }
         ensures inside { result.1 ≤ last + 1 }
     {
-        if self.members.len() > MOST_TERMS {
+        let Some(terms) = terms else {
             let (most, jump) = self.at_most_and_jump(ticks);
             return (most, jump.unwrap_or(last + 1).min(last + 1));
-        }
+        };
         let until = terms.next(self.members, ticks, last + 1);
         (terms.total, until)
     }
@@ -314,7 +324,7 @@ impl<'a, B: ArrivalBound> ArrivalBound for SumOf<'a, B> {
         last: u32,
         watcher: &mut W,
     ) -> bool {
-        let mut terms = Terms::new();
+        let mut terms = self.terms();
         let mut ticks = first;
         while ticks <= last {
             let (most, until) = self.stretch(&mut terms, ticks, last);

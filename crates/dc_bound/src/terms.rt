@@ -10,6 +10,9 @@ ghost use Rattle.dc_bound.specs.declared.terms.TheConstants.{MOST_TERMS};
 
 use crate::arrival::{ArrivalBound, NO_JUMP};
 
+/// So many members are asked anew at each step: that takes no longer than to look who ends there.
+pub(crate) const FEW_TERMS: usize = 4;
+
 /// The most members of which a walk keeps what they said.
 pub(crate) const MOST_TERMS: usize = 256;
 
@@ -22,6 +25,8 @@ pub(crate) struct Terms {
     pub(crate) total: u64,
     // the member that was found to end first
     first: usize,
+    // whether others ended where the last did, when all were looked over: then mostly others do again
+    crowded: bool,
     counts: [u64; MOST_TERMS],
     // of each member the number of ticks at which it ends, times MARK, and its place: so the least tells both
     marks: [u32; MOST_TERMS],
@@ -37,14 +42,15 @@ impl Terms {
         Terms {
             total: 0,
             first: 0,
+            crowded: false,
             counts: [0; MOST_TERMS],
             marks: [0; MOST_TERMS],
         }
     }
 
     /// Asks the member that was found to end first, and those that end at so many ticks or before. Tells a number of
-    /// ticks above these before which none ends, at most `end`. Mostly no other ends there; then all are looked over
-    /// once, for the least mark.
+    /// ticks above these before which none ends, at most `end`. Mostly no other ends there; then all marks are looked
+    /// over once, for the least.
     pub(crate) fn next<B: ArrivalBound>(&mut self, members: &[B], ticks: u32, end: u32) -> u32
         requires few { length members.now ≤ MOST_TERMS }
         requires small { sum_by (λ (b : B). B.cap b LONGEST_SPAN) members.now ≤ GREATEST_CAP }
@@ -76,12 +82,13 @@ impl Terms {
         ensures first { (i : ℕ) → i < length members.now → result / 256 ≤ get_or self.new.marks i 0 / 256 }
         ensures later { ticks < result / 256 }
     {
-        let found = self.least(members.len(), end * MARK);
-        if ticks < found / MARK {
-            return found;
+        if !self.crowded {
+            let found = self.least(members.len(), end * MARK);
+            if ticks < found / MARK {
+                return found;
+            }
         }
-        self.renew(members, ticks);
-        self.least(members.len(), end * MARK)
+        self.renew(members, ticks, end)
     }
 
     /// Asks the member that was found to end first.
@@ -99,20 +106,29 @@ impl Terms {
         self.ask(members, first, ticks);
     }
 
-    /// Asks the members of which nothing is known any more at so many ticks.
-    fn renew<B: ArrivalBound>(&mut self, members: &[B], ticks: u32)
+    /// Asks the members of which nothing is known any more at so many ticks. The least mark then, at most that of `end`.
+    fn renew<B: ArrivalBound>(&mut self, members: &[B], ticks: u32, end: u32) -> u32
         requires few { length members.now ≤ MOST_TERMS }
         requires small { sum_by (λ (b : B). B.cap b LONGEST_SPAN) members.now ≤ GREATEST_CAP }
         requires inside { ticks ≤ LONGEST_SPAN }
+        requires short { ticks < end }
+        requires far { end ≤ LONGEST_SPAN }
         requires kept { KeepsTerms B.cap members.now ticks self.old }
         ensures kept { KeepsTerms B.cap members.now ticks self.new }
-        ensures ahead { (i : ℕ) → i < length members.now → ticks < get_or self.new.marks i 0 / 256 }
+        ensures end { result / 256 ≤ end }
+        ensures first { (i : ℕ) → i < length members.now → result / 256 ≤ get_or self.new.marks i 0 / 256 }
+        ensures later { ticks < result / 256 }
     {
+        let mut found = end * MARK;
+        self.crowded = false;
         for i in 0..members.len() {
             if self.marks[i] / MARK <= ticks {
                 self.ask(members, i, ticks);
+                self.crowded = true;
             }
+            found = found.min(self.marks[i]);
         }
+        found
     }
 
     /// Asks one member anew; the total changes by what it changes.
@@ -137,7 +153,6 @@ impl Terms {
         requires few { members ≤ MOST_TERMS }
         ensures end { result ≤ end }
         ensures first { (i : ℕ) → i < members → result ≤ get_or self.now.marks i 0 }
-        ensures later { (mark : ℕ) → mark < end → ((i : ℕ) → i < members → mark < get_or self.now.marks i 0) → mark < result }
     {
         let mut least = end;
         for i in 0..members {

@@ -3,7 +3,7 @@ use Rattle.std.specs.List.{sum_by}
 use Rattle.dc_bound.specs.Window.{wire_cap}
 use Rattle.dc_bound.specs.Under.{under}
 use Rattle.dc_bound.specs.lemmas.Sums.{sum_monotone}
-use Rattle.dc_bound.proofs.Summed.{kept_fresh, kept_later}
+use Rattle.dc_bound.proofs.Summed.{all_kept_later}
 use Rattle.dc_bound.specs.declared.arrival.Wire.{Wire}
 use Rattle.dc_bound.proofs.arrival.SumOfArrivalBound.walk_under.Goals as goal
 
@@ -11,9 +11,7 @@ pub loop-ticks-init : goal.loop-ticks-init
 loop-ticks-init g c = record {
   some = c.requires.first;
   inside = c.requires.order;
-  kept = λ few.
-      kept_fresh g.B.ArrivalBound.cap c.args.self.now.members.now c.args.first c.new-terms.result.total c.new-terms.result.counts c.new-terms.result.marks few
-      c.new-terms.ensures.total c.new-terms.ensures.counts c.new-terms.ensures.marks;
+  kept = c.terms-terms.ensures c.args.first;
   knows = c.requires.knows;
 }
 
@@ -28,11 +26,10 @@ pub loop-ticks-preserved : goal.loop-ticks-preserved
 loop-ticks-preserved g c =
     let members = c.args.self.now.members.now in
     let cap = g.B.ArrivalBound.cap in
-    let terms = c.stretch-most.new.terms in
     record {
       some = omega (arith, c.lesser-shown.ensures.later);
       inside = c.lesser-shown.ensures.inside;
-      kept = λ few. kept_later cap members c.loop-ticks.ticks terms.total terms.counts terms.marks (c.stretch-most.ensures.kept few) few c.lesser-shown.result.1 (omega (arith, c.lesser-shown.ensures.later));
+      kept = all_kept_later cap members c.loop-ticks.ticks c.lesser-shown.result.1 c.stretch-most.new.terms (omega (arith, c.lesser-shown.ensures.later)) c.stretch-most.ensures.kept;
       knows = c.if-not-see.ensures.goes refl (λ d. under (λ (w : Wire) e. wire_cap w.tick w.spacing e) c.args.wire.now d (sum_by (λ b. cap b d) members)) c.loop-ticks.invariant.knows
           (c.lesser-shown.ensures.shown (λ d. sum_by (λ b. cap b d) members) (λ m n h. sum_monotone cap g.met.B.ArrivalBound.cap_monotone members m n h) c.stretch-most.ensures.shown);
     }

@@ -5,5 +5,4 @@ abbrev pub invariant-loop-i : goal.invariant-loop-i
 invariant-loop-i l = record {
   end : l.least ≤ l.end;
   first : (j : ℕ) → j < l.i → l.least ≤ get_or l.self.marks j 0;
-  later : (ticks : ℕ) → ticks < l.end → ((j : ℕ) → j < l.i → ticks < get_or l.self.marks j 0) → ticks < l.least;
 }

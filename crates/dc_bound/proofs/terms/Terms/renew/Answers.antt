@@ -1,38 +1,31 @@
-use Rattle.std.proofs.Common.{◌≡◌, ◌+◌, ◌/◌, ◌<◌, ℕ, get_or, inl, inr, sym, ap, subst, arith}
-use Rattle.std.proofs.lemmas.Bool.{cases_lt}
+use Rattle.std.proofs.Common.{◌/◌, ◌<◌, ◌≤◌, ℕ, get_or, sym, subst, arith}
 use Rattle.dc_bound.specs.Terms.{KeepsTerms}
 use Rattle.dc_bound.specs.declared.terms.Terms.{Terms}
+use Rattle.dc_bound.proofs.Summed.{least_next}
 use Rattle.dc_bound.proofs.terms.Terms.renew.Goals.{then-self-i, else-self-i}
 use Rattle.dc_bound.proofs.terms.Terms.renew.Goals as goal
 
 pub loop-i-preserved : goal.loop-i-preserved
 loop-i-preserved g c =
     let P : Terms → Type 0 = λ t.
-    KeepsTerms g.B.ArrivalBound.cap c.args.members.now c.args.ticks t × ((j : ℕ) → j < c.loop-i.i + 1 → c.args.ticks < get_or t.marks j 0 / 256) in
+    KeepsTerms g.B.ArrivalBound.cap c.args.members.now c.args.ticks t × ((j : ℕ) → j < c.loop-i.i → c.loop-i.found ≤ get_or t.marks j 0)
+    × (c.args.ticks < get_or t.marks c.loop-i.i 0 / 256) in
     let both : P c.if-self-i.self =
     elim c.if-self-i.branch [
       | then-self-i w ↦
           subst P (sym w.self-is) (
             w.ask.ensures.kept,
-            (λ j h. elim (cases_lt j c.loop-i.i) [
-              | inl l ↦ omega (arith, ap (λ n. n / 256) (w.ask.ensures.others j (λ e. omega (arith, e))), c.loop-i.invariant.ahead j l)
-              | inr l ↦
-                  let e : j ≡ c.loop-i.i = omega arith in
-                  omega (arith, w.ask.ensures.ahead, ap (λ n. get_or w.ask.new.self.marks n 0 / 256) e)
-            ]),
+            (λ j h. omega (arith, w.ask.ensures.others j (λ e. omega (arith, e, h)), c.loop-i.invariant.first j h)),
+            w.ask.ensures.ahead,
           )
-      | else-self-i w ↦
-          subst P (sym w.self-is) (
-            c.loop-i.invariant.kept,
-            (λ j h. elim (cases_lt j c.loop-i.i) [
-              | inl l ↦ c.loop-i.invariant.ahead j l
-              | inr l ↦
-                  let e : j ≡ c.loop-i.i = omega arith in
-                  omega (arith, w.if-self-i.false, ap (λ n. get_or c.loop-i.self.marks n 0 / 256) e)
-            ]),
-          )
+      | else-self-i w ↦ subst P (sym w.self-is) (c.loop-i.invariant.kept, c.loop-i.invariant.first, omega (arith, w.if-self-i.false))
     ] in
-    record { kept = both.0; ahead = both.1 }
+    record {
+      kept = both.0;
+      end = omega (arith, c.min-found.ensures, c.loop-i.invariant.end);
+      first = least_next (λ j. get_or c.if-self-i.self.marks j 0) c.min-found.result c.loop-i.i (λ j h. omega (arith, c.min-found.ensures, both.1 j h)) (omega (arith, c.min-found.ensures));
+      later = omega (arith, c.min-found.ensures, c.loop-i.invariant.later, both.2);
+    }
 
-pub returns-clause-ahead : goal.returns-clause-ahead
-returns-clause-ahead g c = λ i h. c.loop-i.invariant.ahead i (omega (arith, c.loop-i-test.false))
+pub returns-clause-first : goal.returns-clause-first
+returns-clause-first g c = λ i h. omega (arith, c.loop-i.invariant.first i (omega (arith, c.loop-i-test.false)))
