@@ -15,7 +15,7 @@ use Rattle.dc_bound.specs.Rounds.{fewest_visits}
 use Rattle.dc_bound.specs.Frame.{Offsets, cyclic_cap}
 use Rattle.dc_bound.specs.declared.alike.Alike.{Alike}
 use Rattle.dc_bound.specs.declared.jitter.Jittered.{Jittered}
-use Rattle.dc_tables.specs.KeptOfBuses.{AreKept, IsKept}
+use Rattle.dc_tables.specs.KeptOfBuses.{AreBusesKept, IsBusKept}
 use Rattle.dc_tables.specs.declared.alike.BusKept.{BusKept}
 use Rattle.dc_tables.specs.Bounds.{AreBoundsOf, alike_cap, jittered_cap, frame_offsets}
 use Rattle.dc_tables.specs.TableRows.{TableRows, AreValid, bus_row, router_row, output_row, entry_row, stream_cap, streams_cap, is_policed, bus_cap, bus_floor, output_cap, offsets}
@@ -25,33 +25,33 @@ use Rattle.dc_tables.specs.declared.rows.Output.{Output}
 use Rattle.dc_tables.specs.declared.rows.Stream.{Stream}
 
 -- what is kept of one more bus
-kept_next : (all : List BusKept) (own : BusKept) (buses : List Bus) (streams : List Stream) (i : ℕ) (row : Bus) → i < length buses → row ≡ get_or buses i row → AreKept all (take i buses) streams
-    → IsKept own (take row.streams (drop row.first streams)) → AreKept (all ++ (own ∷ [])) (take (suc i) buses) streams
+kept_next : (all : List BusKept) (own : BusKept) (buses : List Bus) (streams : List Stream) (i : ℕ) (row : Bus) → i < length buses → row ≡ get_or buses i row → AreBusesKept all (take i buses) streams
+    → IsBusKept own (take row.streams (drop row.first streams)) → AreBusesKept (all ++ (own ∷ [])) (take (suc i) buses) streams
 kept_next all own [] streams i row h e past here = absurd (omega arith)
 kept_next [] own (r ∷ rows) streams zero row h e past here =
-    (let P : Bus → Type 0 = λ r. IsKept own (take r.streams (drop r.first streams)) in subst P e here, tt)
+    (let P : Bus → Type 0 = λ r. IsBusKept own (take r.streams (drop r.first streams)) in subst P e here, tt)
 kept_next (x ∷ all) own (r ∷ rows) streams zero row h e past here = absurd past
 kept_next [] own (r ∷ rows) streams (suc i) row h e past here = absurd past
 kept_next (x ∷ all) own (r ∷ rows) streams (suc i) row h e past here = (past.0, kept_next all own rows streams i row (omega arith) e past.1 here)
 
-pub kept_more : (all : List BusKept) (own : BusKept) (buses : List Bus) (streams : List Stream) (i : ℕ) (row : Bus) → i < length buses → row ≡ get_or buses i row → AreKept all (take i buses) streams
-    → IsKept own (take row.streams (drop row.first streams)) → AreKept (all ++ (own ∷ [])) (take (i + 1) buses) streams
+pub kept_more : (all : List BusKept) (own : BusKept) (buses : List Bus) (streams : List Stream) (i : ℕ) (row : Bus) → i < length buses → row ≡ get_or buses i row → AreBusesKept all (take i buses) streams
+    → IsBusKept own (take row.streams (drop row.first streams)) → AreBusesKept (all ++ (own ∷ [])) (take (i + 1) buses) streams
 kept_more all own buses streams i row h e past here = rw add-one (kept_next all own buses streams i row h e past here)
 
-pub kept_length : (all : List BusKept) (buses : List Bus) (streams : List Stream) → AreKept all buses streams → length all ≡ length buses
+pub kept_length : (all : List BusKept) (buses : List Bus) (streams : List Stream) → AreBusesKept all buses streams → length all ≡ length buses
 kept_length [] [] streams h = refl
 kept_length [] (row ∷ rows) streams h = absurd h
 kept_length (own ∷ all) [] streams h = absurd h
 kept_length (own ∷ all) (row ∷ rows) streams h = omega (arith, kept_length all rows streams h.1)
 
 -- what is kept of a bus, read
-pub kept_read : (all : List BusKept) (buses : List Bus) (streams : List Stream) (b : ℕ) (own : BusKept) (row : Bus) → AreKept all buses streams → b < length buses → own ≡ get_or all b own → row ≡ get_or buses b row
-    → IsKept own (take row.streams (drop row.first streams))
+pub kept_read : (all : List BusKept) (buses : List Bus) (streams : List Stream) (b : ℕ) (own : BusKept) (row : Bus) → AreBusesKept all buses streams → b < length buses → own ≡ get_or all b own → row ≡ get_or buses b row
+    → IsBusKept own (take row.streams (drop row.first streams))
 kept_read all [] streams b own row h there mine its = absurd (omega arith)
 kept_read [] (r ∷ rows) streams b own row h there mine its = absurd h
 kept_read (x ∷ all) (r ∷ rows) streams zero own row h there mine its =
-    (let P : BusKept → Type 0 = λ l. IsKept l (take row.streams (drop row.first streams)) in
-    let Q : Bus → Type 0 = λ r. IsKept x (take r.streams (drop r.first streams)) in
+    (let P : BusKept → Type 0 = λ l. IsBusKept l (take row.streams (drop row.first streams)) in
+    let Q : Bus → Type 0 = λ r. IsBusKept x (take r.streams (drop r.first streams)) in
     subst P (sym mine) (subst Q (sym its) h.0))
 kept_read (x ∷ all) (r ∷ rows) streams (suc b) own row h there mine its = kept_read all rows streams b own row h.1 (omega arith) mine its
 

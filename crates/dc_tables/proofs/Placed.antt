@@ -1,5 +1,6 @@
 -- The stream of a bus that declares a word stands at the place of the word's label and SDI.
 use Rattle.std.proofs.Common.{◌≡◌, ℕ, zero, suc, ◌+◌, ◌*◌, ◌<◌, ◌≤◌, Bool, true, false, cond, Option, Some, None, List, [], ◌∷◌, length, get_or, drop, position, refl, sym, ap, ◌∙◌, subst, arith, inl, inr, ◌⊎◌}
+use Rattle.std.specs.Bool.{then_some}
 use Rattle.std.specs.List.{All, position_from}
 use Rattle.std.proofs.lemmas.Bool.{cases_Bool, false≢true}
 use Rattle.std.proofs.lemmas.Bool.Decides.{eqb_tells}
@@ -10,7 +11,7 @@ use Rattle.std.proofs.lemmas.Option.{none-some}
 use Rattle.dc_word.specs.Word.{label_of, sdi_of}
 use Rattle.dc_word.specs.declared.format.Format.TheVariants.{Bnr}
 use Rattle.dc_tables.specs.Declares.{declares}
-use Rattle.dc_tables.specs.KeptOfBuses.{AreKept, IsKept}
+use Rattle.dc_tables.specs.KeptOfBuses.{AreBusesKept, IsBusKept}
 use Rattle.dc_tables.specs.Places.{AreFirst, stream_at, takes}
 use Rattle.dc_tables.specs.TableRows.{TableRows, AreValid, bus_row, stream_row, bus_streams}
 use Rattle.dc_tables.specs.declared.alike.BusKept.{BusKept}
@@ -77,6 +78,19 @@ module _ (places : List ℕ) (streams : List Stream) (b w at : ℕ) (first : Are
         | inr some ↦ absurd (false≢true (sym is_not ∙ ap (declares b w) (get_or_read streams at s there read no_row) ∙ ap (λ k. declares b w (get_or streams k no_row)) (place_is some.0 some.1) ∙ (position-Some (declares b w) streams some.0 no_row some.1).1))
       ]
 
+-- of one item alone the position is told by it
+pub only_position : {A : Type 0} (p : A → Bool) (x : A) (xs : List A) → length xs ≡ 1 → x ≡ get_or xs 0 x → then_some (p x) 0 ≡ position p xs
+only_position {A} p x [] one read = absurd (omega (arith, one))
+only_position {A} p x (y ∷ []) one read =
+    let told : A → Option ℕ = λ z. then_some (p z) 0 in
+    ap told read
+    ∙ elim (cases_Bool (p y)) [
+      | inl yes' ↦ ap (λ b. then_some b 0) yes' ∙ sym (ap (λ b. cond b (Some 0) None) yes')
+      | inr no' ↦ ap (λ b. then_some b 0) no' ∙ sym (ap (λ b. cond b (Some 0) None) no')
+    ]
+    ∙ sym (position_from-zero p (y ∷ []))
+only_position {A} p x (y ∷ z ∷ ys) one read = absurd (omega (arith, one))
+
 -- the streams of a bus are of it
 own_bus : (t : TableRows) (b : ℕ) → AreValid t → b < length t.buses → All (λ (s : Stream). s.bus ≡ b) (bus_streams t b)
 own_bus t b valid there = λ k z h.
@@ -96,9 +110,9 @@ own_streams t b streams valid there same =
     subst P (sym same) (own_bus t b valid there)
 
 -- the places that are kept of a bus are of its streams
-pub own_places : (all : List BusKept) (t u : TableRows) (b : ℕ) (own : BusKept) (streams : List Stream) → AreKept all t.buses t.streams → t ≡ u → b < length t.buses → own ≡ get_or all b own → streams ≡ bus_streams u b → AreFirst own.places.places streams 0
+pub own_places : (all : List BusKept) (t u : TableRows) (b : ℕ) (own : BusKept) (streams : List Stream) → AreBusesKept all t.buses t.streams → t ≡ u → b < length t.buses → own ≡ get_or all b own → streams ≡ bus_streams u b → AreFirst own.places.places streams 0
 own_places all t u b own streams kept view there mine same =
     let none : Bus = record { queue = 0; police = false; spacing = 0; first = 0; streams = 0; router = 0 } in
     let P : List Stream → Type 0 = λ l. AreFirst own.places.places l 0 in
-    let here : IsKept own (bus_streams t b) = kept_read all t.buses t.streams b own (get_or t.buses b none) kept there mine (same_read t.buses b none there) in
+    let here : IsBusKept own (bus_streams t b) = kept_read all t.buses t.streams b own (get_or t.buses b none) kept there mine (same_read t.buses b none there) in
     subst P (ap (λ (t : TableRows). bus_streams t b) view ∙ sym same) here.places

@@ -8,10 +8,10 @@ use Rattle.dc_tables.specs.Bounds.{AreBoundsOf}
 use Rattle.dc_tables.specs.Places.{AreFirst}
 
 -- it is of these streams: their bounds, and where they stand
-pub record IsKept (kept : BusKept) (streams : List Stream) : Type 0 where
+pub record IsBusKept (kept : BusKept) (streams : List Stream) : Type 0 where
   pub bounds : AreBoundsOf kept.bounds streams
   pub places : AreFirst kept.places.places streams 0
 
 -- that of each bus is of its streams
-abbrev pub AreKept : List BusKept → List Bus → List Stream → Type 0
-AreKept kept buses streams = AllZip (λ own row. IsKept own (take row.streams (drop row.first streams))) kept buses
+abbrev pub AreBusesKept : List BusKept → List Bus → List Stream → Type 0
+AreBusesKept kept buses streams = AllZip (λ own row. IsBusKept own (take row.streams (drop row.first streams))) kept buses

@@ -4,7 +4,7 @@ ghost use Rattle.std.specs.Prelude.{All, ◌≡◌, ◌+◌, ◌-◌, ◌*◌, �
 ghost use Rattle.std.specs.List.{sum_by};
 ghost use Rattle.dc_tables.specs.TableRows.{stream_cap};
 ghost use Rattle.dc_tables.specs.Bounds.{AreBoundsOf, jittered_cap, alike_cap};
-ghost use Rattle.dc_tables.specs.KeptOfBuses.{AreKept};
+ghost use Rattle.dc_tables.specs.KeptOfBuses.{AreBusesKept};
 ghost use Rattle.dc_bound.specs.declared.limits.TheConstants.{WIDEST_JITTER};
 ghost use Rattle.dc_document.specs.declared.limits.TheConstants.{MOST_MEMBERS, MOST_STREAMS};
 
@@ -68,7 +68,7 @@ pub(crate) fn kept_of_buses(
     requires bounded { All (λ s. (1 ≤ s.minimum) × (s.jitter ≤ WIDEST_JITTER)) streams.now }
     requires there { All (λ b. b.first + b.streams ≤ length streams.now) buses.now }
     requires members { All (λ b. b.streams ≤ MOST_MEMBERS) buses.now }
-    ensures { IfOk result (λ v. AreKept v.items buses.now streams.now) }
+    ensures { IfOk result (λ v. AreBusesKept v.items buses.now streams.now) }
 {
     let mut rows = Vec::with_capacity(alloc, buses.len())?;
     for bus in buses {

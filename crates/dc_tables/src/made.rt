@@ -1,7 +1,7 @@
 //! The rows of tables, and what is kept beside them.
 ghost use Rattle.std.specs.Prelude.{All, ◌≡◌, ◌+◌, ◌≤◌, length, IfOk};
 ghost use Rattle.dc_tables.specs.Bounds.{frame_offsets};
-ghost use Rattle.dc_tables.specs.KeptOfBuses.{AreKept};
+ghost use Rattle.dc_tables.specs.KeptOfBuses.{AreBusesKept};
 ghost use Rattle.dc_bound.specs.declared.limits.TheConstants.{WIDEST_JITTER};
 ghost use Rattle.dc_document.specs.declared.limits.TheConstants.{MOST_MEMBERS, MOST_STREAMS};
 
@@ -38,7 +38,7 @@ pub(crate) fn make_kept(alloc: Global, rows: &Rows) -> Result<Kept, AllocError>
     requires bounded { All (λ s. (1 ≤ s.minimum) × (s.jitter ≤ WIDEST_JITTER)) rows.now.streams.items }
     requires there { All (λ b. b.first + b.streams ≤ length rows.now.streams.items) rows.now.buses.items }
     requires members { All (λ b. b.streams ≤ MOST_MEMBERS) rows.now.buses.items }
-    ensures buses { IfOk result (λ k. AreKept k.buses.items rows.now.buses.items rows.now.streams.items) }
+    ensures buses { IfOk result (λ k. AreBusesKept k.buses.items rows.now.buses.items rows.now.streams.items) }
     ensures offsets { IfOk result (λ k. k.offsets.items ≡ frame_offsets rows.now.outputs.items) }
 {
     let buses = kept_of_buses(alloc, &rows.buses, &rows.streams)?;

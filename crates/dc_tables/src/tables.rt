@@ -31,14 +31,14 @@ impl Model for Tables {
     ghost use Rattle.std.specs.Prelude.{◌≡◌};
     ghost use Rattle.dc_tables.specs.TableRows.{TableRows};
     ghost use Rattle.dc_tables.specs.Bounds.{frame_offsets, table_names, table_rows};
-    ghost use Rattle.dc_tables.specs.KeptOfBuses.{AreKept};
+    ghost use Rattle.dc_tables.specs.KeptOfBuses.{AreBusesKept};
     ghost use Rattle.dc_tables.specs.Named.{AreSound};
 
     ghost Value = { TableRows };
 
     ghost view = { λ t. table_rows t.tick_us (table_names t.names) t.rows };
 
-    ghost invariant = { λ t. AreKept t.kept.items t.rows.buses.items t.rows.streams.items × (t.offsets.items ≡ frame_offsets t.rows.outputs.items)
+    ghost invariant = { λ t. AreBusesKept t.kept.items t.rows.buses.items t.rows.streams.items × (t.offsets.items ≡ frame_offsets t.rows.outputs.items)
         × AreSound (table_rows t.tick_us (table_names t.names) t.rows) };
 }
 
@@ -356,7 +356,8 @@ fn next_in_round(at: usize, len: usize) -> usize
     if next == len { 0 } else { next }
 }
 
-/// The first of the streams that is of the bus and declares the word: the one at its place, or none.
+/// The first of the streams that is of the bus and declares the word: the one at its place, or none. An only stream is
+/// asked without a look at places.
 #[inline]
 fn declaring(streams: &[Stream], places: &StreamPlaces, bus: usize, word: Word) -> Option<usize>
     requires placed { AreFirst places.now.places streams.now 0 }
@@ -364,6 +365,9 @@ fn declaring(streams: &[Stream], places: &StreamPlaces, bus: usize, word: Word) 
     ensures first { result ≡ position (declares bus word) streams.now }
     ensures there { IfSome result (λ k. k < length streams.now) }
 {
+    if streams.len() == 1 {
+        return streams[0].declares(bus, word).then_some(0);
+    }
     let at = places.of_word(word);
     if at < streams.len() && streams[at].declares(bus, word) {
         return Some(at);
