@@ -8,7 +8,7 @@ use crate::LONGEST_WINDOW;
 use dc_bound::{ArrivalBound, Watcher};
 use std::marker::{Brand, PhantomData};
 
-/// How many steps are asked one by one before the first walk.
+/// How many steps are asked one by one before the first walk, where a bound may leap.
 const FIRST_STEPS: u32 = 4;
 
 /// The number of steps that are walked at first, and after each leap over more than [`FEW_WORDS`].

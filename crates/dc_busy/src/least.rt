@@ -17,7 +17,7 @@ use std::marker::{Brand, PhantomData};
 /// How many stretches a look at a window far on is to pass over.
 const FAR: u32 = 4;
 
-/// How far the next step is when the whole span is looked at for once, where steps double.
+/// The step that is next when the last number is asked once, out of turn: behind four looks in vain.
 const ONCE_FAR: u32 = 8;
 
 /// The greatest number of rounds that go without a look far on, since those before found nothing.
@@ -135,8 +135,8 @@ fn first_closing<A: ArrivalBound, S: ServiceBound, K: Served>(
     Some(closing.found)
 }
 
-/// When a window far on is looked for: behind a round that found none one goes without, behind the next such 2, then 4
-/// and so on; behind one that gained, none.
+/// When a window far on is looked for: behind a round that found none, or saw none worth a look, one goes without, behind
+/// the next such 2, then 4 and so on; behind one that gained, none.
 #[derive(Clone, Copy)]
 struct Looks {
     left: u32,
@@ -164,8 +164,8 @@ impl Looks {
 }
 
 /// The next window to look at, `until` or a longer one, at most one past [`LONGEST_WINDOW`], before which none has as many
-/// visits in its ticks but the first as may come in this one. A window far on is looked at where that passes over more
-/// than a stretch or two.
+/// visits in its ticks but the first as may come in this one. A window far on is looked at where `looks` lets it and that
+/// passes over more than a stretch or two.
 fn next_window<S: ServiceBound>(
     service: &S,
     looks: &mut Looks,
@@ -305,7 +305,8 @@ impl<'a, S: ServiceBound, K: Served> Watcher for Closing<'a, S, K> {
 }
 
 /// The least number of ticks from `from` to `to`, at most the longest span, that hold at least `count` visits; `None`
-/// where there is none. Mostly it is near: each look is twice as far on as the one before, until one finds as many.
+/// where there is none. Mostly it is near: each step is twice the one before, until a look finds as many; behind the
+/// fourth look in vain the last, `to`, is asked once.
 fn least_ticks<S: ServiceBound>(service: &S, count: u64, from: u32, to: u32) -> Option<u32>
     requires order { from ≤ to }
     requires far { to ≤ LONGEST_SPAN }
