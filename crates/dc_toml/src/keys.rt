@@ -8,7 +8,7 @@ ghost use Rattle.dc_toml.specs.Keys.{only_keys, all_keys, table_of, known as kno
 ghost use Rattle.dc_toml.specs.Reading.{version_of, bus_keys, stream_keys, police_at, jitter_at};
 
 use crate::place::TablePlace;
-use crate::spellings;
+use crate::spellings::{self, is_same};
 use dc_dict::Equipment;
 use dc_document::{GREATEST_JITTER_US, Name, Speed, TableFault, TableRule, Version};
 use dc_word::{Format, Label, Sdi};
@@ -36,7 +36,7 @@ fn is_among(key: &str, keys: &[&str]) -> bool
     ensures { result ≡ list_any (same_key key.now) (map (λ k. k.now) keys.now) }
 {
     for other in keys {
-        if key.cmp(other).is_eq() {
+        if is_same(key, other) {
             return true;
         }
     }
@@ -87,11 +87,15 @@ pub fn present(table: &Table, keys: &[&str], place: TablePlace) -> Result<(), Ta
     Ok(())
 }
 
-/// Refuses an unknown key, and then that one of these is absent.
+/// Refuses an unknown key, and then that one of these is absent. Keys of a table differ: where it has as many as may stand
+/// there and each is known, none is absent.
 pub fn keyed(table: &Table, keys: &[&str], place: TablePlace) -> Result<(), TableFault>
     ensures { result ≡ keyed_by place (map (λ k. k.now) keys.now) (table_view table.now) }
 {
     known(table, keys, place)?;
+    if table.len() == keys.len() {
+        return Ok(());
+    }
     present(table, keys, place)
 }
 
@@ -299,7 +303,7 @@ pub fn stream_sdi(table: &Table, key: &str, place: TablePlace) -> Result<Option<
 {
     match text_there(table, key) {
         Some(text) => {
-            if !spellings::is_same(text, "any") {
+            if !is_same(text, "any") {
                 return Err(place.fault(TableRule::WrongSpelling));
             }
             Ok(None)

@@ -11,7 +11,7 @@ use dc_word::{Format, Label, digit_in};
 pub fn is_same(one: &str, other: &str) -> bool
     ensures { result ≡ same_key one.now other.now }
 {
-    one.cmp(other).is_eq()
+    one == other
 }
 
 /// The speed that a text names.
