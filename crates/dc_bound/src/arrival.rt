@@ -256,7 +256,7 @@ impl<'a, B: ArrivalBound> SumOf<'a, B> {
         SumOf { first, members }
     }
 
-    // What a walk keeps of its members: nothing of few, which are asked anew in no more time, and of too many.
+    // What a walk keeps of its members: nothing where they are few or too many.
     fn terms(&self) -> Option<Terms>
         ensures { (ticks : ℕ) → IfSome result (λ t. (length self.now.members.now ≤ MOST_TERMS) × KeepsTerms B.cap self.now.members.now ticks t) }
     {

@@ -10,11 +10,16 @@ ghost use Rattle.dc_bound.specs.declared.terms.TheConstants.{MOST_TERMS};
 
 use crate::arrival::{ArrivalBound, NO_JUMP};
 
-/// So many members are asked anew at each step: that takes no longer than to look who ends there.
+/// At most so many members are asked anew at each step, and a walk blanks nothing for them: that costs about as much as
+/// to keep what they said.
 pub(crate) const FEW_TERMS: usize = 4;
 
 /// The most members of which a walk keeps what they said.
 pub(crate) const MOST_TERMS: usize = 256;
+
+/// The most members of which a step begins with the pass that asks, behind one at which others ended too: of more a
+/// look at the marks alone costs much less.
+const MOST_CROWDED: usize = 24;
 
 /// What a number of ticks is multiplied by in a mark; a place is less.
 const MARK: u32 = 256;
@@ -25,7 +30,7 @@ pub(crate) struct Terms {
     pub(crate) total: u64,
     // the member that was found to end first
     first: usize,
-    // whether others ended where the last did, when all were looked over: then mostly others do again
+    // whether the pass that asks did ask others when it last ran, and they are few: the next step begins with it
     crowded: bool,
     counts: [u64; MOST_TERMS],
     // of each member the number of ticks at which it ends, times MARK, and its place: so the least tells both
@@ -49,8 +54,8 @@ impl Terms {
     }
 
     /// Asks the member that was found to end first, and those that end at so many ticks or before. Tells a number of
-    /// ticks above these before which none ends, at most `end`. Mostly no other ends there; then all marks are looked
-    /// over once, for the least.
+    /// ticks above these before which none ends, at most `end`: where no other ends there, by one look at all marks, else
+    /// by the pass that asks the others, with which, of few members, the next step begins.
     pub(crate) fn next<B: ArrivalBound>(&mut self, members: &[B], ticks: u32, end: u32) -> u32
         requires few { length members.now ≤ MOST_TERMS }
         requires small { sum_by (λ (b : B). B.cap b LONGEST_SPAN) members.now ≤ GREATEST_CAP }
@@ -120,14 +125,15 @@ impl Terms {
         ensures later { ticks < result / 256 }
     {
         let mut found = end * MARK;
-        self.crowded = false;
+        let mut asked = false;
         for i in 0..members.len() {
             if self.marks[i] / MARK <= ticks {
                 self.ask(members, i, ticks);
-                self.crowded = true;
+                asked = true;
             }
             found = found.min(self.marks[i]);
         }
+        self.crowded = asked && members.len() <= MOST_CROWDED;
         found
     }
 

@@ -165,7 +165,7 @@ impl Looks {
 
 /// The next window to look at, `until` or a longer one, at most one past [`LONGEST_WINDOW`], before which none has as many
 /// visits in its ticks but the first as may come in this one. A window far on is looked at where `looks` lets it and that
-/// passes over more than a stretch or two.
+/// passes over at least [`FAR`] stretches as long as this one.
 fn next_window<S: ServiceBound>(
     service: &S,
     looks: &mut Looks,
