@@ -89,9 +89,8 @@ impl Digest {
             .rotate_left(29);
     }
 
-    /// Takes in what was written, eight bytes at a time, and the status.
-    fn end(&mut self, kept: &Kept, exit: Exit) {
-        let bytes = kept.bytes.as_slice();
+    /// Takes in a text: its bytes, eight at a time, and how many they are.
+    fn take_all(&mut self, bytes: &[u8]) {
         for part in 0..bytes.len() / 8 {
             let at = part * 8;
             self.take(u64::from_le_bytes([
@@ -109,6 +108,11 @@ impl Digest {
             self.take(u64::from(bytes[at]));
         }
         self.take(bytes.len() as u64);
+    }
+
+    /// Takes in what was written, and the status.
+    fn end(&mut self, kept: &Kept, exit: Exit) {
+        self.take_all(kept.bytes.as_slice());
         self.take(u64::from(exit.code()));
     }
 }
@@ -213,7 +217,7 @@ pub fn trace(alloc: Global, tables: &Text, capture: &Text, digest: &mut Digest) 
     digest.end(&kept, exit);
 }
 
-/// The tables that are designed for two sheets.
+/// The tables that are designed for two sheets, and their certificate.
 pub fn design(alloc: Global, inputs: &Text, outputs: &Text, digest: &mut Digest) {
     let mut kept = Kept::new(alloc);
     let mut certificate = Vec::new(alloc);
@@ -233,4 +237,5 @@ pub fn design(alloc: Global, inputs: &Text, outputs: &Text, digest: &mut Digest)
         &mut certificate,
     );
     digest.end(&kept, exit);
+    digest.take_all(certificate.as_slice());
 }
