@@ -74,7 +74,7 @@ try-%:
 try-embed: build/libdc429.a
 
 build/libdc429.a:
-	@RT=$(RT) scripts/library --of-gate
+	@RT=$(RT) scripts/library
 
 # The explanations, and that with them each row answers as without.
 try-explained:
