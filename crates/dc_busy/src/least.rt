@@ -17,7 +17,7 @@ use std::marker::{Brand, PhantomData};
 /// How many stretches a look at a window far on is to pass over.
 const FAR: u32 = 4;
 
-/// The step that is next when the last number is asked once, out of turn: behind four looks in vain.
+/// The step that is next when the last number is asked once, out of turn: behind three looks in vain.
 const ONCE_FAR: u32 = 8;
 
 /// The greatest number of rounds that go without a look far on, since those before found nothing.
@@ -304,18 +304,22 @@ impl<'a, S: ServiceBound, K: Served> Watcher for Closing<'a, S, K> {
     }
 }
 
-/// The least number of ticks from `from` to `to`, at most the longest span, that hold at least `count` visits; `None`
-/// where there is none. Mostly it is near: each step is twice the one before, until a look finds as many; behind the
-/// fourth look in vain the last, `to`, is asked once.
+/// The least number of ticks above `from`, which hold fewer, and up to `to`, at most the longest span, that hold at
+/// least `count` visits; `None` where there is none. Mostly it is near: each step is twice the one before, until a look
+/// finds as many; behind the third look in vain the last, `to`, is asked once.
 fn least_ticks<S: ServiceBound>(service: &S, count: u64, from: u32, to: u32) -> Option<u32>
     requires order { from ≤ to }
     requires far { to ≤ LONGEST_SPAN }
+    requires fewer { S.floor service.now from < count }
     ensures { MatchOption result (S.floor service.now to < count) (λ d. (from ≤ d) × (d ≤ to) × (count ≤ S.floor service.now d)
         × ((e : ℕ) → from ≤ e → e < d → S.floor service.now e < count)) }
 {
-    let mut low = from;
-    let mut ahead = from;
-    let mut step: u32 = 1;
+    if from == to {
+        return None;
+    }
+    let mut low = from + 1;
+    let mut ahead = low;
+    let mut step: u32 = 2;
     while service.at_least(ahead) < count {
         if ahead == to || step == ONCE_FAR && service.at_least(to) < count {
             return None;
