@@ -86,7 +86,8 @@ fn arrival_ahead(names: &KnownNames, held: &[u8]) -> Option<(Event, usize)>
 }
 
 /// The event of the line that the bytes begin with, where it is well formed, and how many bytes it takes with its
-/// line feed.
+/// line feed. `None` of some well-formed lines too: of one that does not stand whole among the bytes, of a name that has
+/// lost its place, and of a name of 9 to 15 letters at the end of the bytes.
 #[inline(always)]
 pub fn event_ahead(names: &KnownNames, held: &[u8]) -> Option<(Event, usize)>
     ensures { IfSome result (λ ahead. StartsWithLine names.now held.now ahead.0 ahead.1) }

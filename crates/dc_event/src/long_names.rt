@@ -29,6 +29,9 @@ const NO_NAME: LongKey = LongKey {
     last: 0,
 };
 
+/// By how many bits the last eight letters are turned before a place is made of both ends.
+const TURN: u32 = 29;
+
 /// A place where no number is guessed yet.
 const NO_GUESS: u8 = 255;
 
@@ -57,6 +60,15 @@ fn long_key(name: &[u8]) -> LongKey
     }
 }
 
+/// Where a key is looked for first. The last eight letters are turned by some bits, so that those which change from name
+/// to name at the same places of both ends do not cancel out.
+#[inline(always)]
+fn first_place_of(key: LongKey) -> usize
+    ensures { result < PLACES }
+{
+    first_place(key.first ^ key.last.rotate_left(TURN))
+}
+
 /// Whether a name is of letters alone.
 fn are_letters(name: &[u8]) -> bool
     ensures { IsTrue result → AreLetters name.now }
@@ -69,7 +81,8 @@ fn are_letters(name: &[u8]) -> bool
     true
 }
 
-/// How many letters a text begins with, where these are as many as a long name may have.
+/// How many bytes stand before the first from the tenth on that is no letter, where these are as many as a long name may
+/// have. The first nine are not looked at: who compares the whole name does.
 #[inline(always)]
 fn many_letters_ahead(text: &[u8]) -> Option<usize>
     requires { NAME_LIMIT < length text.now }
@@ -108,7 +121,7 @@ impl LongNames {
         ensures { (names : List (List ℕ)) → AreLongFound names self.old.keys → IsLongFound names key number → AreLongFound names self.new.keys }
     {
         self.keys[number] = key;
-        let first = first_place(key.first ^ key.last);
+        let first = first_place_of(key);
         if self.guesses[first] == NO_GUESS {
             self.guesses[first] = number as u8;
             return;
@@ -150,7 +163,7 @@ impl LongNames {
     fn number_of(&self, key: LongKey) -> Option<usize>
         ensures { (names : List (List ℕ)) → AreLongFound names self.now.keys → IfSome result (λ number. IsLongFound names key number) }
     {
-        let first = first_place(key.first ^ key.last);
+        let first = first_place_of(key);
         if let Some(number) = self.number_at(first, key) {
             return Some(number);
         }
