@@ -120,7 +120,7 @@ impl<A: ArrivalBound> ArrivalBound for Capped<A> {
         self.sum.may_leap()
     }
 
-    // one walk along the sum, which asks of its members those that jump, and the wire where it does not carry all
+    // one walk along what comes without the wire, which is asked where it does not carry all of that
     fn walk<W: Watcher>(&self, first: u32, last: u32, watcher: &mut W) -> bool {
         self.sum.walk_under(&self.wire, first, last, watcher)
     }

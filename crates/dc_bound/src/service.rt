@@ -9,8 +9,6 @@ ghost use Rattle.dc_bound.specs.Turns.{VisitsInTurn};
 ghost use Rattle.dc_bound.specs.lemmas.Visited.{in_turn_holds};
 ghost use Rattle.dc_bound.specs.declared.limits.TheConstants.{LONGEST_SPAN, MOST_PLACES};
 
-use crate::limits::MOST_PLACES;
-
 /// What so many consecutive whole ticks serve at least.
 pub trait ServiceBound {
     // the fewest steps in d whole ticks

@@ -11,10 +11,10 @@ use std::marker::{Brand, PhantomData};
 /// How many steps are asked one by one before the first walk, where a bound may leap.
 const FIRST_STEPS: u32 = 4;
 
-/// The number of steps that are walked at first, and after each leap over more than [`FEW_WORDS`].
+/// So many steps and one more are walked at first, and after each leap over more than [`FEW_WORDS`].
 const FEW_STEPS: u32 = 32;
 
-/// The greatest number of steps that are walked before the next leap is tried.
+/// At most so many steps and one more are walked before the next leap is tried.
 const MANY_STEPS: u32 = 4096;
 
 /// A leap over no more words is a short one.
@@ -106,7 +106,7 @@ fn first_steps<A: ArrivalBound, W: Watcher>(
     (watcher, ticks, true)
 }
 
-/// How many steps are walked after a leap over so many words: twice as many as before where it was short.
+/// What says how many steps are walked after a leap over so many words: twice what it was where that was short.
 fn next_steps(steps: u32, words: u64) -> u32 {
     if words > FEW_WORDS {
         return FEW_STEPS;
@@ -161,7 +161,7 @@ impl<W: Watcher, K: Stretch> Watcher for Counted<W, K> {
     }
 }
 
-/// Walks about so many steps. Gives the watcher back, the number of ticks before which it has seen each, and whether it
+/// Walks so many steps and one more. Gives the watcher back, the number of ticks before which it has seen each, and whether it
 /// wants to see more.
 fn walk_steps<A: ArrivalBound, W: Watcher, K: Stretch>(
     arrivals: &A,

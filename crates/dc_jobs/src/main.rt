@@ -1,5 +1,5 @@
 //! The benchmark's program: it does a job that a user waits for on so many drawn documents, and prints a digest of all
-//! that the engines wrote. Its words: JOB SEED DOCUMENTS, or `all` with a seed, for each job on few documents.
+//! that the engines wrote. Its words: JOB SEED DOCUMENTS, or `all` with a seed, for each job on one document.
 #![tactic(auto)]
 
 mod engines;

@@ -28,7 +28,7 @@ pub struct Peaks {
 }
 
 /// The most that may wait in a window of 1 to [`LONGEST_WINDOW`] ticks, and the least delay that it needs, each with
-/// the first number of its ticks that has it. Numbers of ticks in which neither grows are leapt over.
+/// the first number of its ticks that has it. Numbers of ticks in which neither grows may be leapt over.
 pub fn peaks_of<A: ArrivalBound, S: ServiceBound>(arrivals: &A, service: &S, window: u32) -> Peaks
     requires least { 1 ≤ window }
     requires most { window ≤ LONGEST_WINDOW }
