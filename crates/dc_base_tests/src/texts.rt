@@ -135,6 +135,40 @@ fn is_number_as_before(alloc: Global, number: u64) -> bool {
     }
 }
 
+/// Numbers drawn one after another, the same ones in each run.
+#[derive(Drop)]
+struct Drawn {
+    last: u64,
+}
+
+impl Drawn {
+    /// A number below the end, which is above 0.
+    fn below(&mut self, end: u64) -> u64 {
+        let next = self
+            .last
+            .wrapping_mul(6_364_136_223_846_793_005)
+            .wrapping_add(1_442_695_040_888_963_407);
+        self.last = next ^ (next >> 32);
+        self.last.checked_rem(end).unwrap_or(0)
+    }
+
+    /// A number of as many digits as this power of ten.
+    fn as_long_as(&mut self, power: u64) -> u64 {
+        let room = power.saturating_mul(9).min(u64::MAX - power);
+        power.saturating_add(self.below(room))
+    }
+}
+
+/// Whether drawn numbers of as many digits as this power of ten are told as they were at first.
+fn are_drawn_as_before(alloc: Global, drawn: &mut Drawn, power: u64) -> bool {
+    for _ in 0..40 {
+        if !is_number_as_before(alloc, drawn.as_long_as(power)) {
+            return false;
+        }
+    }
+    true
+}
+
 /// Whether a text is told as it was at first.
 fn is_text_as_before(alloc: Global, text: &str) -> bool {
     match line_of_text(alloc, text) {
@@ -187,10 +221,15 @@ fn is_added_as_said(alloc: Global, piece: &str, is_begun: bool) -> bool {
 
 #[test]
 fn numbers_are_told_as_by_powers_of_ten(rt: HostRuntime) {
+    let mut drawn = Drawn { last: 429 };
     for power in &POWERS {
         assert!(rt; is_number_as_before(rt.alloc(), *power));
         assert!(rt; is_number_as_before(rt.alloc(), power.saturating_sub(1)));
         assert!(rt; is_number_as_before(rt.alloc(), power.saturating_mul(7)));
+        assert!(rt;
+            are_drawn_as_before(rt.alloc(), &mut drawn, *power),
+            "as long as {power}"
+        );
     }
     assert!(rt; is_number_as_before(rt.alloc(), u64::MAX));
 }

@@ -1,4 +1,4 @@
-//! Worked windows, and the number of calls of a long search.
+//! Worked windows, the most calls that a long search makes, and walks by leaps beside walks by steps.
 
 ghost use Rattle.std.specs.Prelude.{◌≡◌, ℕ, ◌+◌, ◌^◌, ◌≤◌, ◌++◌, List, [], ◌∷◌};
 ghost use Rattle.dc_bound.specs.Window.{count_in, ticks_of, IsNextJump};
