@@ -187,6 +187,14 @@ def under(crate, path):
 
 
 @lru_cache(None)
+def impls_above(crate, path):
+    """Where a call is a trait's, what the crates that stand on this one at once have of it in their impls of the trait."""
+    traits = {it.owner for it in named(crate, path)} - {None}
+    above = [name for name, below in libraries().items() if crate in below and (CRATES / name / "src").is_dir()]
+    return frozenset(it for name in above for it in functions_of(name) if it.of_trait in traits and it.name == path.split("::")[-1])
+
+
+@lru_cache(None)
 def said_by(crate, path, clause):
     """The definitions and types that a clause names, each as its file and name."""
     found = set()
@@ -209,11 +217,12 @@ def carried():
 
 
 def is_of(promise, body):
-    """Whether a wrong body changes what carries the promise: one of its functions, one that they call, a definition of its clauses. A
-    call through a trait is not followed: a function of the same crate that no row names is taken for one that they call."""
+    """Whether a wrong body changes what carries the promise: one of its functions, one that they call, one that is theirs in an impl of a
+    crate above, a definition of its clauses. A call through a trait is not followed: a function of the same crate that no row names is
+    taken for one that they call."""
     changed = changed_by(*body)
     for crate, path, clause in promise.carriers():
-        those = under(crate, path)
+        those = under(crate, path) | impls_above(crate, path)
         if changed & those or changed & {file for file, _ in reaches(crate, path, clause)}:
             return True
         if refusers(body) & {(it.crate, it.name) for it in those}:
