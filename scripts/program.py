@@ -1,4 +1,6 @@
 """What the scripts that try the built program share: which program that is, its version, and how they end."""
+import importlib.machinery
+import importlib.util
 import re
 import sys
 from pathlib import Path
@@ -21,6 +23,15 @@ def all_built(named=()):
     """The programs that are named, else those of both compilers that the gate builds, else that of `make build`."""
     by_both = [path for path in (OUT / "dc429", OUT / "dc429.by-rattle") if path.is_file()]
     return [Path(it).resolve() for it in named] or by_both or [built()]
+
+
+def module_of(path):
+    """A script of the repository as a module, though its name may have no ending."""
+    loader = importlib.machinery.SourceFileLoader(path.stem, str(path))
+    module = importlib.util.module_from_spec(importlib.util.spec_from_loader(path.stem, loader))
+    sys.modules[path.stem] = module
+    loader.exec_module(module)
+    return module
 
 
 def version():
