@@ -3,7 +3,7 @@
 
 RT := rt
 
-# How many crates are proved side by side by `make build`: one a processor, at most four. Each takes 1 to 4 GB.
+# How many crates, or edits of one, are proved side by side: one a processor, at most four. Each takes 1 to 4 GB.
 JOBS := $(shell n=$$(nproc 2>/dev/null || echo 1); [ "$$n" -lt 4 ] || n=4; echo $$n)
 
 .PHONY: run quick build lib install uninstall deb test trials rows edits edits-apply assessment
@@ -20,7 +20,7 @@ quick:
 # The proved program, at build/dc429: first the libraries that it stands on, side by side.
 build:
 	@mkdir -p build
-	@RT=$(RT) scripts/prove --jobs $(JOBS) dc429
+	@RT=$(RT) scripts/lanes --jobs $(JOBS) --below dc429
 	@cd crates/dc429 && $(RT) run -- decode bnr < stdin
 	@cp crates/dc429/out/dc429 build/dc429
 	@echo "built build/dc429"

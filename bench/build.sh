@@ -1,6 +1,7 @@
 #!/bin/sh
-# Builds a benchmark's program in a workspace of its own, on the crates that it names and those below them, with what
-# earlier checks kept in out/. The program is then WORK/crates/NAME/out/NAME.
+# Builds a benchmark's program in a workspace of its own, on the crates that it names and those below them, with the whole of
+# what earlier checks kept in out/: no command of rt may run in these crates while they are copied. The program is then
+# WORK/crates/NAME/out/NAME.
 # The gate reads every .rt and .antt file of the repository, and a benchmark prints another text each time: so its
 # sources end in .txt in the repository, and only in WORK as the prover wants them.
 # usage: bench/build.sh WORK NAME 'LIBRARIES' SOURCE..

@@ -79,17 +79,6 @@ def functions_of(crate):
     return [it for file in sorted((CRATES / crate / "src").rglob("*.rt")) for it in functions_in(file)]
 
 
-@lru_cache(None)
-def libraries():
-    """Of each crate of crates.txt the crates that it stands on at once."""
-    found = {}
-    for line in (ROOT / "crates.txt").read_text().splitlines():
-        head, parted, below = line.partition("#")[0].partition(":")
-        if parted:
-            found[head.split()[0]] = below.split()
-    return {crate: [it for it in below if it in found] for crate, below in found.items()}
-
-
 def named(crate, path):
     """The functions of a crate that a page names so: `name`, `Type::name`, or `module::name`."""
     *before, name = path.split("::")

@@ -7,7 +7,8 @@ import re
 from functools import lru_cache
 from pathlib import Path
 
-from contracts import CRATES, Function, functions_of, libraries, named, within
+from contracts import CRATES, Function, functions_of, named, within
+from crates import libraries
 from edits_apply import applied
 from program import ROOT
 from reached import followed

@@ -1,0 +1,159 @@
+"""The crates of crates.txt, and how those that do not stand on one another are proved side by side."""
+import os
+import shutil
+import signal
+import subprocess
+import sys
+import tempfile
+import threading
+from concurrent.futures import ThreadPoolExecutor
+from functools import lru_cache
+from pathlib import Path
+
+from program import ROOT
+
+RT = os.environ.get("RT", "rt")
+
+
+@lru_cache(None)
+def lines():
+    """Of each crate its line, lower ones first."""
+    found = {}
+    for line in (ROOT / "crates.txt").read_text().splitlines():
+        head, parted, _ = line.partition("#")[0].partition(":")
+        if parted:
+            found[head.split()[0]] = line
+    return found
+
+
+@lru_cache(None)
+def libraries():
+    """Of each crate the crates of the repository that it stands on at once."""
+    named = {crate: line.partition("#")[0].partition(":")[2].split() for crate, line in lines().items()}
+    return {crate: [it for it in its if it in named] for crate, its in named.items()}
+
+
+@lru_cache(None)
+def below(crate):
+    """All crates that a crate stands on, at once or through others."""
+    return frozenset(libraries()[crate]).union(*(below(it) for it in libraries()[crate]))
+
+
+def in_order(crates):
+    """The crates, lower ones first."""
+    return [it for it in lines() if it in crates]
+
+
+def is_program(crate):
+    return (ROOT / "crates" / crate / "src/main.rt").is_file()
+
+
+def laid_out(crates, room, with_kept_work=False):
+    """Puts crates into a workspace of their own, and where it is wanted with the whole of what earlier checks kept of them: nothing may
+    run in these crates meanwhile."""
+    for crate in crates:
+        nothing = None if with_kept_work else shutil.ignore_patterns("out")
+        shutil.copytree(ROOT / "crates" / crate, room / "crates" / crate, symlinks=True, ignore=nothing)
+    (room / "crates.txt").write_text("".join(f"{lines()[it]}\n" for it in in_order(crates)))
+    shutil.copy(ROOT / "HANDLES", room)
+
+
+def processors():
+    """How many processors this process may use."""
+    return len(os.sched_getaffinity(0))
+
+
+class Commands:
+    """Commands of `rt`, of which several may run at once."""
+
+    def __init__(self):
+        self.running, self.is_stopped, self.lock = set(), False, threading.Lock()
+
+    def timed(self, words, folder, said):
+        """How a command ends in a folder, and the seconds of processor that the system tells of it and all that it started."""
+        with self.lock:
+            if self.is_stopped:
+                return None, 0
+            run = subprocess.Popen([RT, *words], cwd=folder, stdin=subprocess.DEVNULL, stdout=said, stderr=subprocess.STDOUT)
+            self.running.add(run)
+        _, status, took = os.wait4(run.pid, 0)
+        run.returncode = os.waitstatus_to_exitcode(status)
+        with self.lock:
+            self.running.discard(run)
+        return run.returncode, took.ru_utime + took.ru_stime
+
+    def stop(self):
+        """Ends those that run, and lets none begin."""
+        with self.lock:
+            self.is_stopped = True
+            for run in self.running:
+                run.terminate()
+
+
+class Queue:
+    """Crates, each to be handed out once all that it stands on are well: of those that can be begun the one with most to prove in it and
+    in the longest chain above it."""
+
+    def __init__(self, crates):
+        self.left, self.running, self.well, self.changed = set(crates), set(), set(), threading.Condition()
+        self.ahead = {}
+        for crate in reversed(in_order(crates)):
+            above = [self.ahead[it] for it in self.ahead if crate in libraries()[it]]
+            self.ahead[crate] = self.size(crate) + max(above, default=0)
+
+    @staticmethod
+    def size(crate):
+        texts = [it for part in ("src", "specs", "proofs") for it in (ROOT / "crates" / crate / part).rglob("*") if it.is_file()]
+        return sum(it.read_bytes().count(b"\n") for it in texts)
+
+    def taken(self):
+        """The next crate, waited for where none can be begun yet; None where none is left that can."""
+        with self.changed:
+            while True:
+                ready = [it for it in self.left if below(it) & self.ahead.keys() <= self.well]
+                if ready:
+                    crate = max(ready, key=self.ahead.get)
+                    self.left.remove(crate)
+                    self.running.add(crate)
+                    return crate
+                if not self.running or not self.left:
+                    return None
+                self.changed.wait()
+
+    def ended(self, crate, is_well):
+        with self.changed:
+            self.running.discard(crate)
+            if is_well:
+                self.well.add(crate)
+            self.changed.notify_all()
+
+
+def side_by_side(crates, jobs, commands, one, tops=()):
+    """Calls `one` with the top of a workspace and a crate for each crate once all below it are well, in so many workspaces at once, and
+    answers those for which it said yes. The first workspaces are those that are given, the others copies of the sources: what one has
+    proved `rt` takes over in another in a second or two."""
+    queue = Queue(crates)
+    signal.signal(signal.SIGTERM, lambda *_: sys.exit(143))
+    with tempfile.TemporaryDirectory(prefix="dc429-lanes-") as room:
+        tops = [*tops, *(Path(room) / str(it) for it in range(len(tops), jobs))]
+        for top in tops:
+            if not top.exists():
+                top.mkdir()
+                laid_out(in_order(crates), top)
+
+        def lane(top):
+            while crate := queue.taken():
+                is_well = False
+                try:
+                    is_well = one(top, crate)
+                finally:
+                    queue.ended(crate, is_well)
+
+        with ThreadPoolExecutor(len(tops)) as pool:
+            try:
+                list(pool.map(lane, tops))
+            except BaseException:
+                # (an interrupt ends the commands that run)
+                commands.stop()
+                raise
+    return queue.well
