@@ -3,3 +3,4 @@ pub mod Digits
 pub mod Times
 pub mod Names
 pub mod Titles
+pub mod Strays

@@ -6,6 +6,7 @@ mod fault;
 mod names;
 mod rows;
 mod shown;
+mod strays;
 mod times;
 mod titles;
 mod words;
@@ -13,8 +14,12 @@ mod words;
 pub use digits::{equipment_cell, label_cell, queue_cell};
 pub use fault::CellFault;
 pub use names::{name_cell, name_if_any_cell, parts_names, push_names};
-pub use rows::{InputRow, Inputs, OutputRow, Outputs};
+pub use rows::{InputRow, Inputs, OutputRow, Outputs, UnreadTitle};
 pub use shown::{SHOWN_LIMIT, Shown};
+pub use strays::{
+    is_clear_input, is_clear_output, is_input_title, is_input_unitless, is_meant, is_output_title,
+    is_output_unitless,
+};
 pub use times::{MOST_US, TimeUnit, time_cell};
 pub use titles::{Column, is_title, key_of, unit_of};
 pub use words::{format_cell, input_sdi_cell, output_sdi_cell, police_cell, speed_cell};

@@ -70,13 +70,22 @@ pub struct OutputRow {
     pub timeout_us: Option<u32>,
 }
 
+/// A title of a column that is not read.
+#[derive(Clone, Copy, Debug, PartialEq)]
+pub struct UnreadTitle {
+    /// The title, as it is shown.
+    pub title: Shown,
+    /// Whether a column of the other sheet has it.
+    pub is_of_other: bool,
+}
+
 /// The sheet of the inputs.
 #[derive(Debug, Drop)]
 pub struct Inputs {
     /// Its rows from the top.
     pub rows: Vec<InputRow>,
     /// The titles of columns that are not read, from the left, the first [`MOST_UNREAD`](crate::MOST_UNREAD) of them.
-    pub unread: Vec<Shown>,
+    pub unread: Vec<UnreadTitle>,
 }
 
 /// The sheet of the outputs.
@@ -85,5 +94,5 @@ pub struct Outputs {
     /// Its rows from the top.
     pub rows: Vec<OutputRow>,
     /// The titles of columns that are not read, from the left, the first [`MOST_UNREAD`](crate::MOST_UNREAD) of them.
-    pub unread: Vec<Shown>,
+    pub unread: Vec<UnreadTitle>,
 }

@@ -1,6 +1,6 @@
 //! Drafts of tables, one for each length of a tick that is tried.
 use crate::tables::write_tables;
-use dc_cell::Shown;
+use dc_cell::UnreadTitle;
 use dc_design_rows::{Document, Fact, Lines};
 use dc_document::TEXT_LIMIT;
 use dc_plan::{Knobs, Obstacles, Unplanned, make_plan};
@@ -23,9 +23,9 @@ pub struct Wish {
 #[derive(Clone, Copy)]
 pub struct Unread<'a> {
     /// Those of the inputs.
-    pub inputs: &'a [Shown],
+    pub inputs: &'a [UnreadTitle],
     /// Those of the outputs.
-    pub outputs: &'a [Shown],
+    pub outputs: &'a [UnreadTitle],
 }
 
 /// Why there are no tables with ticks of one length.

@@ -106,3 +106,17 @@ flags-more f flags new flag k is long here so = (
   omega (arith, ap length is ∙ length-append flags (flag ∷ []), long),
   λ j h. ap (λ (xs : List Bool). get_or xs j false) is ∙ appended flags flag f (λ i below. so i (omega (arith, below, long))) (here ∙ ap f (sym long)) j (omega (arith, h, long)),
 )
+
+-- what holds below a number and there holds up to it
+last-or : (P : ℕ → Type 0) (k : ℕ) → ((i : ℕ) → i < k → P i) → P k → (j : ℕ) → j < k + 1 → P j
+last-or P zero so here zero lt = here
+last-or P zero so here (suc j) lt = absurd (omega (arith, lt))
+last-or P (suc k) so here zero lt = so zero (omega arith)
+last-or P (suc k) so here (suc j) lt = last-or (λ i. P (suc i)) k (λ i h. so (suc i) (omega (arith, h))) here j (omega (arith, lt))
+
+-- one more title, which is clear too
+pub clear-more : (f : ℕ → Bool) (k : ℕ) (before here next : Bool) → next ≡ (before && here) → here ≡ f k
+    → (before ≡ true → (j : ℕ) → j < k → f j ≡ true) → next ≡ true → (j : ℕ) → j < k + 1 → f j ≡ true
+clear-more f k true true next is at so says = last-or (λ i. f i ≡ true) k (so refl) (sym at)
+clear-more f k true false next is at so says = absurd (cc)
+clear-more f k false here next is at so says = absurd (cc)

@@ -1,9 +1,12 @@
 -- Where the columns of a sheet stand.
 use Rattle.std.specs.Prelude.{◌≡◌, ℕ, ◌<◌, Bool, true, false, List, [], length, Option, Some, None, unwrap_or}
 use Rattle.csv.specs.Records.{field_at}
+use Rattle.dc_cell.specs.Strays.{is_clear_input, is_clear_output}
 use Rattle.dc_cell.specs.Titles.{is_title, key_of, unit_of}
 use Rattle.dc_cell.specs.declared.titles.Column.{Column}
 use Rattle.dc_cell.specs.declared.titles.Column.TheVariants as col
+use Rattle.dc_sheet.specs.declared.fault.Sheet.{Sheet}
+use Rattle.dc_sheet.specs.declared.fault.Sheet.TheVariants.{Inputs, Outputs}
 use Rattle.dc_sheet.specs.declared.places.InputPlaces.{InputPlaces}
 use Rattle.dc_sheet.specs.declared.places.OutputPlaces.{OutputPlaces}
 use Rattle.dc_sheet.specs.declared.places.TimePlace.{TimePlace}
@@ -25,6 +28,15 @@ IsPlace column header (Some place) = (place < length header) × (is_titled colum
 -- the place of a time, with the unit of its title
 abbrev pub IsTimePlace : Column → (header : List (List ℕ)) → TimePlace → Type 0
 IsTimePlace column header t = IsPlace column header t.place × (t.unit ≡ unit_of (key_of (cell_at header t.place)))
+
+-- a title of a sheet is read, or no column of it can be meant by the title
+abbrev pub is_clear : Sheet → (key : List ℕ) → Bool
+is_clear Inputs key = is_clear_input key
+is_clear Outputs key = is_clear_output key
+
+-- so is each title of a sheet
+abbrev pub AreClear : Sheet → (header : List (List ℕ)) → Type 0
+AreClear sheet header = (place : ℕ) → place < length header → is_clear sheet (key_of (cell_at header (Some place))) ≡ true
 
 -- where the columns of the inputs stand
 pub record AreInputPlaces (header : List (List ℕ)) (p : InputPlaces) : Type 0 where

@@ -12,7 +12,8 @@ use Rattle.dc_cell.specs.declared.rows.OutputRow.{OutputRow}
 use Rattle.dc_cell.specs.declared.titles.Column.TheVariants as col
 use Rattle.dc_word.specs.declared.format.Format.{Format}
 use Rattle.dc_sheet.specs.Texts.{IsSheetText, separator_of}
-use Rattle.dc_sheet.specs.Places.{cell_at, is_titled, AreInputPlaces, AreOutputPlaces}
+use Rattle.dc_sheet.specs.Places.{cell_at, is_titled, AreClear, AreInputPlaces, AreOutputPlaces}
+use Rattle.dc_sheet.specs.declared.fault.Sheet.TheVariants.{Inputs, Outputs}
 use Rattle.dc_sheet.specs.declared.places.InputPlaces.{InputPlaces}
 use Rattle.dc_sheet.specs.declared.places.OutputPlaces.{OutputPlaces}
 use Rattle.dc_sheet.specs.declared.places.TimePlace.{TimePlace}
@@ -143,6 +144,7 @@ pub record SayInputs (commas : Bool) (all : List (List (List ℕ))) (rows : List
   pub records : List (List (List ℕ))
   pub places : InputPlaces
   pub begins : all ≡ header ∷ records
+  pub clear : AreClear Inputs header
   pub stand : AreInputPlaces header places
   pub say : InputsBefore commas (length header) places records (length records) rows
 
@@ -152,6 +154,7 @@ pub record SayOutputs (commas : Bool) (all : List (List (List ℕ))) (rows : Lis
   pub places : OutputPlaces
   pub flags : List Bool
   pub begins : all ≡ header ∷ records
+  pub clear : AreClear Outputs header
   pub stand : AreOutputPlaces header places
   pub sources : AreSources header flags
   pub say : OutputsBefore commas (length header) flags places records (length records) rows

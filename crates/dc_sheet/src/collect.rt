@@ -1,13 +1,18 @@
 //! The titles of a sheet, and the faults of its rows in their order.
 
+ghost use Rattle.std.specs.Prelude.{◌≡◌, ◌&&◌, IfOk, IfSome, true};
+ghost use Rattle.csv.specs.Records.{fields_of};
+ghost use Rattle.dc_sheet.specs.Places.{is_clear as is_clear_of, AreClear};
+
 use crate::fault::{Fault, FaultKind, Faults, Sheet, SheetError};
 use crate::places::cell;
 use crate::sheet::{are_empty_from, is_passed};
 use csv::ByteRecord;
 use dc_cell::{
-    CellFault, Column, MOST_UNREAD, Shown, TimeUnit, equipment_cell, format_cell, input_sdi_cell,
-    is_title, key_of, label_cell, name_cell, name_if_any_cell, output_sdi_cell, police_cell,
-    push_names, queue_cell, speed_cell, time_cell, unit_of,
+    CellFault, Column, MOST_UNREAD, Shown, TimeUnit, UnreadTitle, equipment_cell, format_cell,
+    input_sdi_cell, is_clear_input, is_clear_output, is_input_title, is_input_unitless, is_meant,
+    is_output_title, is_output_unitless, is_title, key_of, label_cell, name_cell, name_if_any_cell,
+    output_sdi_cell, police_cell, push_names, queue_cell, speed_cell, time_cell, unit_of,
 };
 use dc_document::Name;
 use std::alloc::{AllocError, Global};
@@ -62,7 +67,7 @@ pub(crate) struct Heading {
     /// Those that are read, from the left.
     pub(crate) read: Vec<ReadTitle>,
     /// The first of those that are not.
-    pub(crate) unread: Vec<Shown>,
+    pub(crate) unread: Vec<UnreadTitle>,
 }
 
 /// What is asked of the cells of a row.
@@ -106,46 +111,144 @@ fn push_header(faults: &mut Faults, sheet: Sheet, kind: FaultKind) -> Result<(),
     })
 }
 
-/// Reads the titles from the left.
+/// Whether a title of a sheet is read, or no column of it can be meant by the title.
+fn is_clear(sheet: Sheet, key: &[u8]) -> bool
+    ensures { result ≡ is_clear_of sheet key.now }
+{
+    match sheet {
+        Sheet::Inputs => is_clear_input(key),
+        Sheet::Outputs => is_clear_output(key),
+    }
+}
+
+/// Whether a title of a sheet is clear too, where those before it are.
+fn is_still_clear(before: bool, sheet: Sheet, key: &[u8]) -> bool
+    ensures { result ≡ (before && is_clear_of sheet key.now) }
+{
+    before && is_clear(sheet, key)
+}
+
+/// The column of a sheet that seems to be meant by a title. Where that may be several it is the last, since the name of one that
+/// need not be there may begin as that of one that is wanted does: `Maxmum age` is no `Maximum`.
+fn meant_of(sheet: Sheet, key: &[u8]) -> Option<Column> {
+    let mut meant = None;
+    for column in columns_of(sheet) {
+        if is_meant(*column, key) {
+            meant = Some(*column);
+        }
+    }
+    meant
+}
+
+/// Whether a column of the other sheet has this title, or seems to be meant by it for want of its unit.
+fn is_of_other(sheet: Sheet, key: &[u8]) -> bool {
+    match sheet {
+        Sheet::Inputs => is_output_title(key) || is_output_unitless(key),
+        Sheet::Outputs => is_input_title(key) || is_input_unitless(key),
+    }
+}
+
+/// What was read of the titles of a sheet so far.
+#[derive(Drop)]
+struct Titles {
+    read: Vec<ReadTitle>,
+    unread: Vec<UnreadTitle>,
+    seen: Vec<Column>,
+    meant: Vec<Column>,
+}
+
+impl Titles {
+    /// Adds a title of a column that is read, and a fault where it is not the first of that column.
+    fn push_read(
+        &mut self,
+        sheet: Sheet,
+        title: ReadTitle,
+        faults: &mut Faults,
+    ) -> Result<(), AllocError> {
+        self.read.push(title)?;
+        let column = title.column;
+        if !is_among(column, &self.seen) {
+            self.seen.push(column)?;
+        } else if column != Column::Sources {
+            push_header(faults, sheet, FaultKind::Twice(column))?;
+        }
+        Ok(())
+    }
+
+    /// Adds a title that is not read, and a fault where a column seems to be meant by it.
+    fn push_unread(
+        &mut self,
+        sheet: Sheet,
+        title: &[u8],
+        key: &[u8],
+        faults: &mut Faults,
+    ) -> Result<(), AllocError> {
+        let shown = Shown::new(title);
+        if let Some(column) = meant_of(sheet, key) {
+            self.meant.push(column)?;
+            return push_header(faults, sheet, FaultKind::Meant { column, shown });
+        }
+        if !title.is_empty() && self.unread.len() < MOST_UNREAD {
+            self.unread.push(UnreadTitle {
+                title: shown,
+                is_of_other: is_of_other(sheet, key),
+            })?;
+        }
+        Ok(())
+    }
+
+    /// Adds the title at a place.
+    fn push(
+        &mut self,
+        sheet: Sheet,
+        place: usize,
+        title: &[u8],
+        key: &[u8],
+        faults: &mut Faults,
+    ) -> Result<(), AllocError> {
+        match column_of(sheet, key) {
+            Some(column) => {
+                let unit = unit_of(key);
+                let read = ReadTitle {
+                    place,
+                    column,
+                    unit,
+                };
+                self.push_read(sheet, read, faults)
+            }
+            None => self.push_unread(sheet, title, key, faults),
+        }
+    }
+
+    /// Adds a fault for each column that is wanted, and is neither there nor seems to be meant.
+    fn tell_absent(&self, sheet: Sheet, faults: &mut Faults) -> Result<(), AllocError> {
+        for column in columns_of(sheet).iter().take(WANTED) {
+            if !is_among(*column, &self.seen) && !is_among(*column, &self.meant) {
+                push_header(faults, sheet, FaultKind::Absent(*column))?;
+            }
+        }
+        Ok(())
+    }
+}
+
+/// Reads the titles from the left; false where a column seems to be meant by one that is not read.
 fn read_titles(
     alloc: Global,
     sheet: Sheet,
     header: &ByteRecord,
+    titles: &mut Titles,
     faults: &mut Faults,
-) -> Result<(Heading, Vec<Column>), AllocError> {
-    let mut read: Vec<ReadTitle> = Vec::new(alloc);
-    let mut unread: Vec<Shown> = Vec::new(alloc);
-    let mut seen: Vec<Column> = Vec::new(alloc);
+) -> Result<bool, AllocError>
+    ensures { IfOk result (λ clear. clear ≡ true → AreClear sheet (fields_of header.now)) }
+{
+    let mut clear = true;
     for place in 0..header.len() {
         let title = cell(header, Some(place));
         let key = key_of(alloc, title)?;
-        if let Some(column) = column_of(sheet, &key) {
-            let unit = unit_of(&key);
-            read.push(ReadTitle {
-                place,
-                column,
-                unit,
-            })?;
-            if !is_among(column, &seen) {
-                seen.push(column)?;
-            } else if column != Column::Sources {
-                push_header(faults, sheet, FaultKind::Twice(column))?;
-            }
-        } else if !title.is_empty() && unread.len() < MOST_UNREAD {
-            unread.push(Shown::new(title))?;
-        }
+        clear = is_still_clear(clear, sheet, &key);
+        titles.push(sheet, place, title, &key, faults)?;
     }
-    Ok((Heading { read, unread }, seen))
-}
-
-/// Adds a fault for each column that is wanted and not among these.
-fn tell_absent(faults: &mut Faults, sheet: Sheet, seen: &[Column]) -> Result<(), AllocError> {
-    for column in columns_of(sheet).iter().take(WANTED) {
-        if !is_among(*column, seen) {
-            push_header(faults, sheet, FaultKind::Absent(*column))?;
-        }
-    }
-    Ok(())
+    Ok(clear)
 }
 
 /// That a sheet has no header.
@@ -157,16 +260,28 @@ pub(crate) fn header_fault(alloc: Global, sheet: Sheet) -> SheetError {
     }
 }
 
-/// Reads the header, and adds its faults.
+/// Reads the header, and adds its faults; `None` where a column seems to be meant by a title that is not read.
 fn read_heading(
     alloc: Global,
     sheet: Sheet,
     header: &ByteRecord,
     faults: &mut Faults,
-) -> Result<Heading, AllocError> {
-    let (heading, seen) = read_titles(alloc, sheet, header, faults)?;
-    tell_absent(faults, sheet, &seen)?;
-    Ok(heading)
+) -> Result<Option<Heading>, AllocError>
+    ensures { IfOk result (λ found. IfSome found (λ heading. AreClear sheet (fields_of header.now))) }
+{
+    let mut titles = Titles {
+        read: Vec::new(alloc),
+        unread: Vec::new(alloc),
+        seen: Vec::new(alloc),
+        meant: Vec::new(alloc),
+    };
+    let clear = read_titles(alloc, sheet, header, &mut titles, faults)?;
+    titles.tell_absent(sheet, faults)?;
+    if !clear {
+        return Ok(None);
+    }
+    let Titles { read, unread, .. } = titles;
+    Ok(Some(Heading { read, unread }))
 }
 
 /// What the titles of a sheet say, or the faults of its header.
@@ -174,19 +289,16 @@ pub(crate) fn titles_of(
     alloc: Global,
     sheet: Sheet,
     header: &ByteRecord,
-) -> Result<Heading, SheetError> {
+) -> Result<Heading, SheetError>
+    ensures { IfOk result (λ heading. AreClear sheet (fields_of header.now)) }
+{
     if are_empty_from(header, 0) {
         return Err(header_fault(alloc, sheet));
     }
     let mut faults = Faults::new(alloc);
     match read_heading(alloc, sheet, header, &mut faults) {
-        Ok(heading) => {
-            if faults.is_empty() {
-                Ok(heading)
-            } else {
-                Err(SheetError::Faults(faults))
-            }
-        }
+        Ok(Some(heading)) if faults.is_empty() => Ok(heading),
+        Ok(_) => Err(SheetError::Faults(faults)),
         Err(_) => Err(SheetError::Memory),
     }
 }

@@ -24,6 +24,14 @@ pub enum FaultKind {
     Twice(Column),
     /// No title is of this column, which is wanted.
     Absent(Column),
+    /// This column seems to be meant by a title that is none: the name of a time without a unit that is known, or a title with
+    /// one letter wrong.
+    Meant {
+        /// The column.
+        column: Column,
+        /// What stands there.
+        shown: Shown,
+    },
     /// A record has more cells than there are titles, and not all of these are empty.
     Past {
         /// How many cells it has.

@@ -65,16 +65,28 @@ fn tell_cell(
     write!(line, " column {title}: \"{text}\": {words}")
 }
 
+/// Writes how the title of a column is wanted.
+fn tell_wanted(line: &mut String, column: Column) -> Result<(), AllocError> {
+    let title = column.name();
+    if column.is_time() {
+        return write!(line, "wanted as {title}_us or {title}_ms");
+    }
+    write!(line, "wanted as {title}")
+}
+
 /// Writes which title is absent.
 fn tell_absent(line: &mut String, column: Column) -> Result<(), AllocError> {
     let title = column.name();
-    if column.is_time() {
-        return write!(
-            line,
-            " column {title}: absent, wanted as {title}_us or {title}_ms"
-        );
-    }
-    write!(line, " column {title}: absent, wanted as {title}")
+    write!(line, " column {title}: absent, ")?;
+    tell_wanted(line, column)
+}
+
+/// Writes by which title a column seems to be meant.
+fn tell_meant(line: &mut String, column: Column, shown: Shown) -> Result<(), AllocError> {
+    let title = column.name();
+    let text = shown.as_str();
+    write!(line, " column {title}: \"{text}\": ")?;
+    tell_wanted(line, column)
 }
 
 /// Writes what is wrong in a row.
@@ -89,6 +101,7 @@ fn tell_kind(line: &mut String, sheet: Sheet, kind: FaultKind) -> Result<(), All
             write!(line, " column {title}: stands twice")
         }
         FaultKind::Absent(column) => tell_absent(line, column),
+        FaultKind::Meant { column, shown } => tell_meant(line, column, shown),
         FaultKind::Past { cells, columns } => write!(
             line,
             ": {cells} cells, but {columns} columns; a cell that holds the separator stands in double quotes"
