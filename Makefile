@@ -58,21 +58,20 @@ uninstall:
 deb:
 	@scripts/package
 
-# With a fixed number of lanes rt ci reckons no memory: it takes each crate for 10 GB that takes 3, and leaves processors idle for
-# minutes while the longest link waits.
 test:
-	@RT_JOBS=$(JOBS) $(RT) ci
+	@$(RT) ci
 
 # The built program on the rows of rows/, on texts and captures by chance and of the largest sizes, on the commands of
 # docs/recordings.md and of the tutorial, at its edges, under refused memory and failing devices; the library for C beside it; what
 # is installed and packed, in a folder of its own; the instructions of the benchmark's workloads: some minutes, no proof where the
-# library is built.
+# library is built. With EMBED=where-changed, as in .ci/run, the library is not tried where its sources are as they were tried last.
 trials: $(addprefix try-,rows explained chance timed recordings recorded designs crowds largest audits edges hostile pages refused embed tutorial installed pace)
 
 try-%:
 	@scripts/$*
 
-try-embed: build/libdc429.a
+try-embed: $(if $(EMBED),,build/libdc429.a)
+	@scripts/embed $(EMBED)
 
 build/libdc429.a:
 	@RT=$(RT) scripts/library
