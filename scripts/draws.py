@@ -71,12 +71,14 @@ def draw_output(chance, number, parameters, buses, tick, roomy):
     return {"name": f"O{number}", "speed": speed, "steps": steps, "within": within, "frame": frame, "label": labels}
 
 
-def draw_tables(chance, roomy, version=None, policed=None):
-    """Small tables: roomy ones, for which often some certificate is accepted, or tight ones, with each reply within a few ticks."""
-    tick, version = chance.choice([300, 500, 1000, 1000, 2000]), version or chance.randint(1, 2)
+def draw_tables(chance, roomy, version=None, policed=None, tick=None, fed=()):
+    """Small tables: roomy ones, for which often some certificate is accepted, or tight ones, with each reply within a few ticks. Behind
+    their own buses they have those that are fed, each with the parameters of its streams."""
+    tick, version = tick or chance.choice([300, 500, 1000, 1000, 2000]), version or chance.randint(1, 2)
     parameters = list(draw_parameters(chance, tick, *([(3, 8), (10, 30)] if roomy else [(1, 6), (2, 8)])))
     police = [None if version == 1 else chance.choice([True, False]) if policed is None else policed for _ in range(chance.randint(1, 3))]
-    buses = [draw_bus(chance, number, parameters, 6 if roomy else 3, its) for number, its in enumerate(police)]
+    buses = [draw_bus(chance, number, parameters, 6 if roomy else 3, its) for number, its in enumerate(police)] + [bus for bus, _ in fed]
+    parameters += [row for _, rows in fed for row in rows]
     cut = chance.randrange(len(buses))
     routers = [draw_router(chance, number, its, roomy) for number, its in enumerate(filter(None, [buses[:cut], buses[cut:]]))]
     outputs = [draw_output(chance, number, parameters, buses, tick, roomy) for number in range(chance.randint(1, 2))]

@@ -1,0 +1,4 @@
+//! Concentrators in a row.
+#![tactic(auto)]
+
+pub mod laws;

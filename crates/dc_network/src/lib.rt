@@ -1,0 +1,4 @@
+//! Networks of concentrators.
+#![tactic(auto)]
+
+pub mod laws;

@@ -1,0 +1,2 @@
+-- Lemmas that laws and functions cite, one file a topic.
+pub mod Reaching

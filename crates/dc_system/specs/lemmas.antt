@@ -1,0 +1,3 @@
+-- Lemmas that laws and functions cite, one file a topic.
+pub mod Judging
+pub mod Excluding
