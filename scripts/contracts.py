@@ -1,6 +1,6 @@
 """The functions of the program's sources: of each its crate, its type, its name, its clauses, and what it calls."""
 import re
-from functools import lru_cache
+from functools import cached_property, lru_cache
 
 from program import ROOT
 
@@ -22,9 +22,27 @@ class Function:
     def path(self):
         return f"{self.owner}::{self.name}" if self.owner else self.name
 
+    def code(self):
+        return re.sub(r"//.*", "", self.body)
+
+    @cached_property
     def calls(self):
-        """The names that stand before a bracket, or that are handed on, in the body."""
-        return set(re.findall(r"\b([a-z_]\w*)\b", re.sub(r"//.*", "", self.body)))
+        """The names that stand before a bracket in the body, and those that are handed on and are no value of its own."""
+        own = set(re.findall(r"\b(?:let|for|mut|ref)\s+(?:mut\s+)?\(?([a-z_]\w*)", self.code())) | set(re.findall(r"\b([a-z_]\w*)\s*:", self.takes))
+        own |= {it for its in re.findall(r"\|([^|\n]*)\|", self.code()) for it in re.findall(r"[a-z_]\w*", its)}
+        called = set(re.findall(r"\b([a-z_]\w*)\s*(?:::<[^()]*>)?\(", self.code()))
+        handed = set(re.findall(r"[(,]\s*(?:[\w:]+::)?([a-z_]\w*)\s*(?=[,)])", self.code()))
+        return called | handed - own
+
+    def mentions(self, other):
+        """Whether its file names the type of a method, or takes the function by its name."""
+        text = text_of(self.file)
+        return bool(re.search(rf"\b{other.owner or other.name}\b", text)) if other.owner != "(" else True
+
+
+@lru_cache(None)
+def text_of(file):
+    return file.read_text()
 
 
 def owner_of(line):
@@ -109,7 +127,7 @@ def within(crate, path):
     for it in waiting:
         if it not in met:
             met.add(it)
-            called = it.calls()
+            called = it.calls
             types = set().union(*(constants_of(crate).get(name, ()) for name in set(re.findall(r"\b[A-Z_]{2,}\b", it.body))), set())
             types |= set(re.findall(r"\b([A-Z]\w*[a-z]\w*)\s*\{", it.body))
             waiting += [other for other in functions_of(crate) if (other.name in called or other.owner in types) and other not in met]

@@ -8,9 +8,11 @@ each old text stands exactly once in that file; further pairs apply to what the 
 changes nothing, an edit that stands in both places, a file that is no edit, an edit of no crate, and a crate with more
 edits in must-fail/ than the gate is to try.
 """
+import hashlib
 import os
 import re
 import sys
+from pathlib import Path
 
 TOP = os.path.dirname(os.path.dirname(os.path.abspath(__file__)))
 MOST = 8
@@ -56,6 +58,17 @@ def applied(edit, crate):
     if old is not None:
         return {}, f"no new text for: {old}"
     return texts, None if pairs else "it has no pair of an old and a new text"
+
+
+def sources_of(folder):
+    """What a crate's sources are, as the sum of an edit takes them in."""
+    files = sorted(it for part in ("src", "specs", "proofs") for it in (folder / part).rglob("*") if it.is_file())
+    return b"".join(f"{path.relative_to(folder)}\0".encode() + path.read_bytes() + b"\0" for path in files)
+
+
+def sum_of(edit):
+    """The sum of what an edit of edits/ is tried on: its crate's own sources, and itself."""
+    return hashlib.sha256(edit.read_bytes() + sources_of(Path(TOP) / "crates" / edit.parent.name)).hexdigest()[:16]
 
 
 def main(wanted):

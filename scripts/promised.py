@@ -9,7 +9,7 @@ from pathlib import Path
 
 from contracts import CRATES, Function, functions_of, named, within
 from crates import libraries
-from edits_apply import applied
+from edits_apply import applied, sum_of
 from program import ROOT
 from reached import followed
 from reached import named as names_of
@@ -119,13 +119,21 @@ def marked():
 
 @lru_cache(None)
 def refused():
-    """Of each wrong body what refused it: the gate, or the prover's words in edits/tried.tsv; nothing where it was not tried."""
+    """Of each wrong body what refused it last: the gate, or the prover's words in edits/tried.tsv; nothing where it was not tried."""
     found = {(it.parent.name, it.stem): "" for it in (ROOT / "edits").glob("*/*.edit")}
     for line in (ROOT / "edits/tried.tsv").read_text().splitlines()[1:]:
         crate, edit, by, _ = line.split("\t")
         if (crate, edit) in found:
             found[crate, edit] = by
     return found | {(it.parent.parent.name, it.stem): "the gate" for it in CRATES.glob("*/must-fail/*.edit")}
+
+
+@lru_cache(None)
+def seen_refused():
+    """The wrong bodies that were seen refused on these sources of their crates: those of the gate, and those whose line is fresh."""
+    lines = [line.split("\t") for line in (ROOT / "edits/tried.tsv").read_text().splitlines()[1:]]
+    fresh = {(crate, edit) for crate, edit, _, tried_on in lines if (path := ROOT / "edits" / crate / f"{edit}.edit").exists() and sum_of(path) == tried_on}
+    return fresh | {key for key, by in refused().items() if by == "the gate"}
 
 
 def path_of(crate, edit):
@@ -179,10 +187,13 @@ def changed_by(crate, edit):
 def under(crate, path):
     """The functions under a call: of its own crate, and by name those that these call of the libraries on which it stands at once."""
     met = set(within(crate, path))
-    called = set().union(*(one.calls() for one in met), set())
+    callers = {}
+    for it in within(crate, path):
+        for name in it.calls:
+            callers.setdefault(name, []).append(it)
     for library in libraries().get(crate, []):
         for one in functions_of(library):
-            if one.is_public and one.name in called:
+            if one.is_public and any(it.mentions(one) for it in callers.get(one.name, ())):
                 met |= within(library, one.path())
     return frozenset(met)
 
