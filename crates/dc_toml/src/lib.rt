@@ -4,11 +4,11 @@
 //! it finds into `Parts`.
 #![tactic(auto)]
 
-mod keys;
-mod lists;
-mod place;
+pub mod keys;
+pub mod lists;
+pub mod place;
 mod read;
 mod sections;
 mod spellings;
 
-pub use read::read_parts;
+pub use read::{document, read_parts};

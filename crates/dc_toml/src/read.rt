@@ -105,7 +105,7 @@ fn parts(alloc: Global, document: &Table) -> Result<Parts, BuildError>
 
 /// The TOML document that a text is.
 #[tactic(auto, unfolding(crate::specs::Reading::document_of))]
-fn document(alloc: Global, text: &[u8]) -> Result<Table, BuildError>
+pub fn document(alloc: Global, text: &[u8]) -> Result<Table, BuildError>
     ensures { Gives table_view result (document_of text.now) }
 {
     let refused = TablePlace::new(Section::Top, 0).fault(TableRule::NotToml);
