@@ -3,7 +3,7 @@ use Rattle.std.specs.Prelude.{ℕ, Bool, true, List, [], ◌∷◌, ◌++◌, �
 use Rattle.std.specs.List.{list_any}
 use Rattle.std.specs.Char.{to_ascii_lowercase}
 use Rattle.dc_codes.specs.declared.kind.Kind.{Kind}
-use Rattle.dc_codes.specs.declared.kind.Kind.TheVariants.{Decoded, Failure, Table, Certificate, Condition, Finder, Trace, Reply, Step, Audit, Bench, Capture, Survey}
+use Rattle.dc_codes.specs.declared.kind.Kind.TheVariants.{Decoded, Failure, Table, Certificate, Condition, Finder, Trace, Reply, Step, Audit, Bench, Capture, Survey, System, Link}
 
 -- the two texts are one in lower case, and so in upper case
 abbrev pub is_same : List ℕ → List ℕ → Bool
@@ -34,6 +34,8 @@ listed =
     ++ of_kind Bench (codes "hub" ∷ [])
     ++ of_kind Capture (codes "E1" ∷ codes "E6" ∷ codes "E3" ∷ codes "E7" ∷ codes "E4" ∷ codes "E5" ∷ codes "E8" ∷ [])
     ++ of_kind Survey (codes "broken" ∷ codes "early" ∷ codes "silent" ∷ [])
+    ++ of_kind System (codes "N01" ∷ codes "N02" ∷ codes "N03" ∷ codes "N04" ∷ codes "N05" ∷ codes "N06" ∷ codes "N07" ∷ codes "N08" ∷ codes "N09" ∷ codes "N10" ∷ codes "N11" ∷ codes "N12" ∷ codes "N13" ∷ [])
+    ++ of_kind Link (codes "N14" ∷ codes "N15" ∷ codes "N16" ∷ codes "N17" ∷ codes "N18" ∷ codes "N19" ∷ [])
 
 -- the names alone
 abbrev pub names : List (List ℕ)
@@ -54,6 +56,8 @@ kind_number Audit = 9
 kind_number Bench = 10
 kind_number Capture = 11
 kind_number Survey = 12
+kind_number System = 13
+kind_number Link = 14
 
 -- no two of these are the same
 abbrev pub each_once : List (List ℕ) → Bool

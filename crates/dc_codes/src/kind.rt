@@ -29,6 +29,10 @@ pub enum Kind {
     Capture,
     /// A word of a line of `survey`.
     Survey,
+    /// A fault of a system.
+    System,
+    /// A fault of a link.
+    Link,
 }
 
 impl Kind {
@@ -48,6 +52,8 @@ impl Kind {
             Kind::Bench => "a line of `bench`",
             Kind::Capture => "a fault of a capture",
             Kind::Survey => "a word of a line of `survey`",
+            Kind::System => "a fault of a system",
+            Kind::Link => "a fault of a link",
         }
     }
 
@@ -59,7 +65,9 @@ impl Kind {
             | Kind::Certificate
             | Kind::Finder
             | Kind::Trace
-            | Kind::Capture => { "Refused where: " }
+            | Kind::Capture
+            | Kind::System
+            | Kind::Link => { "Refused where: " }
             Kind::Condition => {
                 "Refused where (`a` is the most that may come, `s` the least that is surely taken, in so many ticks): "
             }
@@ -80,6 +88,9 @@ impl Kind {
                 "For example, a trace for examples/small.toml: "
             }
             Kind::Capture | Kind::Survey => "For example, a capture for examples/small.toml: ",
+            Kind::System | Kind::Link => {
+                "For example, a change of examples/network/system.toml: "
+            }
         }
     }
 }

@@ -4,7 +4,7 @@ ghost use Rattle.dc_codes.specs.Codes.{listed, listed_once, names};
 
 use crate::kind::Kind;
 
-static LISTED: [(Kind, &str); 85] = [
+static LISTED: [(Kind, &str); 104] = [
     (Kind::Decoded, "E1"),
     (Kind::Decoded, "E6"),
     (Kind::Decoded, "E5"),
@@ -90,6 +90,25 @@ static LISTED: [(Kind, &str); 85] = [
     (Kind::Survey, "broken"),
     (Kind::Survey, "early"),
     (Kind::Survey, "silent"),
+    (Kind::System, "N01"),
+    (Kind::System, "N02"),
+    (Kind::System, "N03"),
+    (Kind::System, "N04"),
+    (Kind::System, "N05"),
+    (Kind::System, "N06"),
+    (Kind::System, "N07"),
+    (Kind::System, "N08"),
+    (Kind::System, "N09"),
+    (Kind::System, "N10"),
+    (Kind::System, "N11"),
+    (Kind::System, "N12"),
+    (Kind::System, "N13"),
+    (Kind::Link, "N14"),
+    (Kind::Link, "N15"),
+    (Kind::Link, "N16"),
+    (Kind::Link, "N17"),
+    (Kind::Link, "N18"),
+    (Kind::Link, "N19"),
 ];
 
 /// The codes that the program prints, in the order of docs/formats.md.

@@ -19,6 +19,8 @@ pub(crate) fn texts_of(kind: Kind) -> &'static str {
         Kind::Bench => BENCH,
         Kind::Capture => CAPTURE,
         Kind::Survey => SURVEY,
+        Kind::System => SYSTEM,
+        Kind::Link => LINK,
     }
 }
 
@@ -472,3 +474,102 @@ silent
 no word of the stream came
 an empty capture: `stream A-203 words 0 least - greatest - jitter 0 over 0 silent`
 nothing, where the source was off; else look at the words that are `undeclared` on its bus: the label or SDI of the stream may be another one";
+
+/// Of the faults of a system.
+const SYSTEM: &str = "\
+N01
+the text is over its limit, not UTF-8 or no TOML document
+`version = 1` twice: N01 at top
+mend the text
+
+N02
+`version` is absent or not 1
+`version = 2`: N02 at top
+write `version = 1`
+
+N03
+a wanted key is absent
+no `most_us` in the first link: N03 at link 0
+add it
+
+N04
+a key is unknown
+`colour = 1` in the first link: N04 at link 0
+mend its spelling, or take it out
+
+N05
+a value is not of its key's kind
+the first link's `most_us = 2.0`: N05 at link 0
+write a number, a text or a list, as docs/formats.md says of the key under \"Systems\"
+
+N06
+a number is outside its range
+the first link's `most_us = 1000001`: N06 at link 0
+write a number within the range of the key: docs/formats.md, \"Systems\"
+
+N07
+a text is not in its spelling
+the first link's `from = \"FWD\"`: N07 at link 0
+write the text as its key is spelled: docs/formats.md, \"Systems\"
+
+N08
+a list is outside its limits
+`concentrator = []` in the place of its tables: N08 at top
+write 1 to 64 concentrators and up to 1,024 links, or split the system
+
+N09
+the name of a concentrator is doubled
+the second concentrator's `name = \"FWD\"`: N09 at concentrator 1
+rename the later one
+
+N10
+a link leads from or to a concentrator that is not there
+the first link's `to = \"MIDDLE.FROMFWD\"`: N10 at link 0
+mend the name, or add the concentrator
+
+N11
+two links feed one bus
+the second link's `to = \"MID.FROMFWD\"`: N11 at link 1
+let the later one feed a bus of its own
+
+N12
+`least_us` over `most_us`
+the first link's `least_us = 1000000`: N12 at link 0
+exchange them
+
+N13
+links lead from a concentrator back to it: it is on a ring
+the first link's `from = \"MID.TOAFT\"`, from MID to itself: N13 at concentrator 1
+take out a link of the ring";
+
+/// Of the faults of a link.
+const LINK: &str = "\
+N14
+there is no such output, or no such bus
+the first link's `to = \"MID.TOAFT\"`, an output of MID: `refused N14 link 0`
+mend the name: `from` names an output, and `to` a bus, as in their tables
+
+N15
+the output and the bus have different speeds
+in mid.toml `speed = \"low\"` of FROMFWD: `refused N15 link 0`
+one speed for both
+
+N16
+two labels of the output feed one stream of the bus
+in fwd.toml CAS with `label = \"203\"`, `sdi = 1`, `offsets = [10, 50]`: `refused N16 link 0 stream FWD-ALT`
+part the stream by SDI
+
+N17
+the label that feeds a stream has another format
+in mid.toml the first parameter's `format = \"bcd\"`: `refused N17 link 0 stream FWD-ALT`
+one format for both
+
+N18
+the stream's `min_us` + what its `jitter_us` does not cover of the link's `most_us - least_us` > the `min_us` of the label that feeds it: words could come too soon
+the first link's `most_us = 1000`: `refused N18 link 0 stream FWD-ALT`
+a greater `jitter_us` or a smaller `min_us` of the stream, a greater `min_us` of the label, or a link that varies less
+
+N19
+the `max_us` of the label that feeds a stream + the link's `most_us - least_us` > the stream's `max_us`: words could come too late
+the first link's `most_us = 800`: `refused N19 link 0 stream FWD-ALT`
+a greater `max_us` of the stream, a smaller one of the label, or a link that varies less";
