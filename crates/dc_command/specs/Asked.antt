@@ -10,7 +10,7 @@ use Rattle.dc_word.specs.declared.format.Format.{Format}
 use Rattle.dc_word.specs.declared.format.Format.TheVariants.{Bnr, Bcd, Disc}
 use Rattle.dc_command.specs.Program.{program_app}
 use Rattle.dc_command.specs.declared.asked.Order.{Order}
-use Rattle.dc_command.specs.declared.asked.Order.TheVariants.{Decode, Check, Find, Report, Margins, Survey, Trace, Replay, Audit, Observe, Bench, Design, Explain}
+use Rattle.dc_command.specs.declared.asked.Order.TheVariants.{Decode, Check, Find, Report, Margins, Survey, Trace, Replay, Audit, Observe, Bench, Network, Design, Explain}
 use Rattle.dc_command.specs.declared.explained.When.{When}
 use Rattle.dc_command.specs.declared.explained.When.TheVariants.{Always, Never, Auto}
 use Rattle.dc_command.specs.declared.limits.TheConstants.{LAST_BEGIN, LONGEST_TICK, MOST_DRIFT, MOST_HEADROOM, MOST_TICKS, MOST_WORKERS, SHORTEST_TICK, USUAL_TICKS}
@@ -137,6 +137,7 @@ AsksBy name rows (Observe tables certificate) =
 AsksBy name rows (Bench tables certificate ticks marks) =
     (name ≡ codes "bench") × (first_of (codes "TABLES") rows ≡ Some tables.now) × (first_of (codes "CERT") rows ≡ Some certificate.now)
     × TicksAre (first_of (codes "ticks") rows) ticks × IsSet (one_of (codes "marks") rows) marks
+AsksBy name rows (Network system) = (name ≡ codes "network") × (first_of (codes "SYSTEM") rows ≡ Some system.now)
 AsksBy name rows (Design inputs outputs tick headroom police certificate) =
     (name ≡ codes "design") × (first_of (codes "INPUTS") rows ≡ Some inputs.now) × (first_of (codes "OUTPUTS") rows ≡ Some outputs.now)
     × TickIs (first_of (codes "tick") rows) tick × HeadroomIs (first_of (codes "headroom") rows) headroom × IsSet (one_of (codes "police") rows) police

@@ -137,6 +137,10 @@ replay_app = with_rule (with_rule (tables_app (codes "replay")) all_rule) long_r
 abbrev pub audit_app : App
 audit_app = with_rule (certificate_app (codes "audit")) long_rule
 
+-- `network`, which reads the text of a system
+abbrev pub network_app : App
+network_app = explaining_app (codes "network") (file_rule (codes "SYSTEM"))
+
 -- a command that reads two sheets
 abbrev pub sheets_app : App
 sheets_app = with_rule (explaining_app (codes "design") (file_rule (codes "INPUTS"))) (file_rule (codes "OUTPUTS"))
@@ -156,9 +160,9 @@ bare_app = on_top (λ s. record s { has_version = true; subcommand_required = tr
 -- the program, whose formats are read by this parser
 abbrev pub program_app : ValueParser → App
 program_app formats =
-    with_subcommand (with_subcommand (with_subcommand (with_subcommand (with_subcommand (with_subcommand (with_subcommand (with_subcommand (with_subcommand (with_subcommand (with_subcommand (with_subcommand (with_subcommand
+    with_subcommand (with_subcommand (with_subcommand (with_subcommand (with_subcommand (with_subcommand (with_subcommand (with_subcommand (with_subcommand (with_subcommand (with_subcommand (with_subcommand (with_subcommand (with_subcommand
     bare_app (decode_app formats).top) check_app.top) (tables_app (codes "find")).top) (tables_app (codes "survey")).top) trace_app.top) replay_app.top) audit_app.top) (certificate_app (codes "observe")).top) bench_app.top)
-    report_app.top) margins_app.top) design_app.top) explain_app.top
+    network_app.top) report_app.top) margins_app.top) design_app.top) explain_app.top
 
 -- clap reads this of a command, none of whose arguments is global
 abbrev pub IsRead : App → Command → Type 0

@@ -129,6 +129,19 @@ Exit status:
   2  a text that can't be read, or a wrong command line
   3  a file, a device, memory or a thread was not to be had";
 
+/// Behind the options of `network`.
+pub(crate) const AFTER_NETWORK: &str = "Example: dc429 network system.toml
+
+A system named - is standard input; a file of that name is ./-. The files that
+it names are taken from its folder, or where it is standard input from the
+current one; as they are where they begin with /
+
+Exit status:
+  0  accepted
+  1  refused
+  2  a text that can't be read, or a wrong command line
+  3  a file, a device or memory was not to be had";
+
 /// Behind the options of `design`.
 pub(crate) const AFTER_DESIGN: &str = "Example: dc429 design inputs.csv outputs.csv > tables.toml
 

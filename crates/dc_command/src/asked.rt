@@ -105,6 +105,11 @@ pub enum Order<'a> {
         /// Whether the greatest backlog of each bus is told.
         marks: bool,
     },
+    /// Judge the network of certified concentrators that a text of a system says.
+    Network {
+        /// The path of the text of the system.
+        system: &'a str,
+    },
     /// Design tables for the two sheets of an interface document.
     Design {
         /// The path of the sheet of the inputs.
@@ -425,6 +430,14 @@ fn bench_in<'a>(matches: &ArgMatches<'a>) -> Option<Order<'a>>
     }
 }
 
+/// What the matches of `network` ask.
+fn network_in<'a>(matches: &ArgMatches<'a>) -> Option<Order<'a>>
+    ensures { IfSome result (AsksBy (codes "network") (rows_of (found_of matches.now))) }
+{
+    let system = matches.get_str("SYSTEM")?;
+    Some(Order::Network { system })
+}
+
 /// What the matches of `design` ask.
 fn design_in<'a>(matches: &ArgMatches<'a>) -> Option<Order<'a>>
     ensures { IfSome result (AsksBy (codes "design") (rows_of (found_of matches.now))) }
@@ -488,6 +501,7 @@ fn order_by<'a>(name: &str, matches: &ArgMatches<'a>) -> Option<Order<'a>>
         "audit" => audit_in(matches),
         "observe" => observe_in(matches),
         "bench" => bench_in(matches),
+        "network" => network_in(matches),
         "design" => design_in(matches),
         "explain" => explain_in(matches),
         _ => None,

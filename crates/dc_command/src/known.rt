@@ -1,11 +1,12 @@
 //! The commands that there are, with their arguments and what is said of them.
 ghost use Rattle.std.specs.Prelude.{◌≡◌, false, codes, IfOk};
 ghost use Rattle.clap.specs.Words.{App, Rule, new_app, new_rule, rule_of, with_rule, with_subcommand};
-ghost use Rattle.dc_command.specs.Program.{IsDecode, IsProgram, IsRead, audit_app, bare_app, bench_app, certificate_app, certificate_rule, check_app, design_app, drift_rule, explain_app, explain_rule, file_rule, flag_rule, from_rule, headroom_rule, margins_app, optional_app, replay_app, report_app, sheets_app, tables_app, tick_rule, ticks_rule, trace_app, workers_rule};
+ghost use Rattle.dc_command.specs.Program.{IsDecode, IsProgram, IsRead, audit_app, bare_app, bench_app, certificate_app, certificate_rule, check_app, design_app, drift_rule, explain_app, explain_rule, file_rule, flag_rule, from_rule, headroom_rule, margins_app, network_app, optional_app, replay_app, report_app, sheets_app, tables_app, tick_rule, ticks_rule, trace_app, workers_rule};
 
 use crate::after::{
     AFTER_AUDIT, AFTER_BENCH, AFTER_CHECK, AFTER_DECODE, AFTER_DESIGN, AFTER_EXPLAIN, AFTER_FIND,
-    AFTER_MARGINS, AFTER_OBSERVE, AFTER_REPLAY, AFTER_REPORT, AFTER_SURVEY, AFTER_TRACE,
+    AFTER_MARGINS, AFTER_NETWORK, AFTER_OBSERVE, AFTER_REPLAY, AFTER_REPORT, AFTER_SURVEY,
+    AFTER_TRACE,
 };
 use crate::limits::{
     LAST_BEGIN, LONGEST_TICK, MOST_DRIFT, MOST_HEADROOM, MOST_TICKS, MOST_WORKERS, SHORTEST_TICK,
@@ -341,6 +342,20 @@ fn bench<'a>(alloc: Global) -> Result<Command<'a>, Error>
     with_argument(with_argument(bench, ticks(alloc)), marks)
 }
 
+/// The command `network`.
+fn network<'a>(alloc: Global) -> Result<Command<'a>, Error>
+    ensures { IfOk result (IsRead network_app) }
+{
+    let network = named(
+        alloc,
+        "network",
+        "Judges a network of concentrators, and tells how old data can be",
+        AFTER_NETWORK,
+    );
+    let explaining = with_argument(Ok(network), explained(alloc));
+    with_argument(explaining, file(alloc, "SYSTEM", "The system, in TOML"))
+}
+
 /// The option `--tick`.
 fn tick<'a>(alloc: Global) -> Arg<'a>
     ensures rule { rule_of result ≡ tick_rule }
@@ -452,6 +467,7 @@ pub fn program<'a>(alloc: Global) -> Result<Command<'a>, Error>
     let program = with_command(program, audit(alloc));
     let program = with_command(program, observe(alloc));
     let program = with_command(program, bench(alloc));
+    let program = with_command(program, network(alloc));
     let program = with_command(program, report(alloc));
     let program = with_command(program, margins(alloc));
     let program = with_command(program, design(alloc));

@@ -14,7 +14,8 @@ returns c =
     let p7 = c.with_command-program-7.ensures _ _ p6 c.audit.ensures in
     let p8 = c.with_command-program-8.ensures _ _ p7 c.observe.ensures in
     let p9 = c.with_command-program-9.ensures _ _ p8 c.bench.ensures in
-    let p10 = c.with_command-program-10.ensures _ _ p9 c.report.ensures in
-    let p11 = c.with_command-program-11.ensures _ _ p10 c.margins.ensures in
-    let p12 = c.with_command-program-12.ensures _ _ p11 c.design.ensures in
-    IfOk-weaker _ _ IsProgram (λ _ is. (decode.0, is)) (c.with_command.ensures _ _ p12 c.explain.ensures)
+    let p10 = c.with_command-program-10.ensures _ _ p9 c.network.ensures in
+    let p11 = c.with_command-program-11.ensures _ _ p10 c.report.ensures in
+    let p12 = c.with_command-program-12.ensures _ _ p11 c.margins.ensures in
+    let p13 = c.with_command-program-13.ensures _ _ p12 c.design.ensures in
+    IfOk-weaker _ _ IsProgram (λ _ is. (decode.0, is)) (c.with_command.ensures _ _ p13 c.explain.ensures)
