@@ -104,6 +104,19 @@ impl Slot {
         self.cause.set(Some(cause));
     }
 
+    /// Forgets what was kept so far.
+    fn forget(&self) {
+        self.cause.set(None);
+        let Ok(mut guard) = self.held.try_borrow_mut() else {
+            return;
+        };
+        let held = &mut *guard;
+        held.earlier.clear();
+        held.later.clear();
+        held.before = Passed::new();
+        held.is_cut = false;
+    }
+
     /// What was kept; nothing of it is kept any more.
     ///
     /// # Errors
@@ -130,13 +143,20 @@ impl Slot {
     }
 }
 
-/// What is kept of a run: of its two files in the order in which it opens them, of standard input and of what it writes.
+/// What is kept of a run: of its two files in the order in which it opens them, of the last two that a text named, of
+/// standard input and of what it writes.
 #[derive(Drop)]
 pub struct Notes {
     /// The file that is opened first.
     pub first: Slot,
     /// The file that is opened next.
     pub second: Slot,
+    /// Of the last pair of files that a text named, the one that was opened first.
+    pub named_first: Slot,
+    /// The one that was opened next.
+    pub named_second: Slot,
+    /// Whether the next file that a text names is the second of a pair.
+    is_paired: Cell<bool>,
     /// Standard input, where it is read as a stream.
     pub input: Slot,
     /// What is written.
@@ -151,6 +171,9 @@ impl Notes {
         Notes {
             first: Slot::new(alloc, MOST_OF_FILE),
             second: Slot::new(alloc, MOST_OF_FILE),
+            named_first: Slot::new(alloc, MOST_OF_FILE),
+            named_second: Slot::new(alloc, MOST_OF_FILE),
+            is_paired: Cell::new(false),
             input: Slot::new(alloc, MOST_OF_STREAM),
             output: Slot::new(alloc, MOST_OF_OUTPUT),
             progress: Progress::new(),
@@ -164,7 +187,22 @@ impl Notes {
         }
         self.first.want();
         self.second.want();
+        self.named_first.want();
+        self.named_second.want();
         self.input.want();
         self.output.want();
+    }
+
+    /// The slot of a file that a text names and that is opened next: they come in pairs, and what was kept of the pair
+    /// before is forgotten.
+    pub fn next_named(&self) -> &Slot {
+        let is_second = self.is_paired.get();
+        self.is_paired.set(!is_second);
+        if is_second {
+            return &self.named_second;
+        }
+        self.named_first.forget();
+        self.named_second.forget();
+        &self.named_first
     }
 }

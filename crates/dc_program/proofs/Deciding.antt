@@ -20,7 +20,7 @@ use Rattle.dc_run.specs.Check.{AnswersCheck, AnswersTables, AreCertified, Report
 use Rattle.dc_tables.specs.TableRows.{TableRows}
 use Rattle.dc_toml.specs.Reading.{tables_of}
 use Rattle.dc_command.specs.declared.asked.Order.{Order}
-use Rattle.dc_command.specs.declared.asked.Order.TheVariants.{Decode, Check, Find, Report, Margins, Survey, Trace, Replay, Audit, Observe, Bench, Design, Explain}
+use Rattle.dc_command.specs.declared.asked.Order.TheVariants.{Decode, Check, Find, Report, Margins, Survey, Trace, Replay, Audit, Observe, Bench, Design, Explain, Network}
 use Rattle.dc_program.specs.Carries.{Carries}
 use Rattle.dc_program.specs.Headline.{Decides, DecidesFiles}
 use Rattle.dc_program.specs.World.{WorldState}
@@ -96,3 +96,4 @@ carried_decides (Observe tables certificate) w w' input input' sink sink' exit h
 carried_decides (Bench tables certificate ticks marks) w w' input input' sink sink' exit h = tt
 carried_decides (Design inputs outputs tick headroom police certificate) w w' input input' sink sink' exit h = tt
 carried_decides (Explain code) w w' input input' sink sink' exit h = tt
+carried_decides (Network system) w w' input input' sink sink' exit h = tt

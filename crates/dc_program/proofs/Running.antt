@@ -7,10 +7,12 @@ use Rattle.dc_answer.specs.Answer.{Any, Reported}
 use Rattle.dc_answer.specs.Judging.{Leaves}
 use Rattle.dc_answer.specs.declared.exit.Exit.TheVariants.{Done, Failed}
 use Rattle.dc_run_design.specs.Design.{ReportsDesign}
-use Rattle.dc_program.specs.Carries.{Carries, Makes, Saves}
+use Rattle.dc_run_network.specs.Answer.{ReportsNetwork}
+use Rattle.dc_run_network.specs.Paths.{folder_of}
+use Rattle.dc_program.specs.Carries.{Carries, Judges, Makes, Saves}
 use Rattle.dc_program.specs.Opening.{AreNotOpened, AreOpened, AreOpenedFor, TellsFailure, failure_of}
 use Rattle.dc_program.specs.Orders.{ReportsAny, ReportsOrder, crew_of, files_of}
-use Rattle.dc_program.specs.World.{IsNew, WorldState, new_source}
+use Rattle.dc_program.specs.World.{IsKept, IsNew, WorldState, new_source}
 use Rattle.dc_program.specs.declared.world.Crew.{Crew}
 use Rattle.dc_program.specs.declared.world.NotOpened.{NotOpened}
 
@@ -106,6 +108,21 @@ made inputs outputs certificate w w1 w' input sink mid sink' failed text ended e
   reported = reported;
   saves = saves;
 }
+
+-- the text of a system was opened, and the engine ran over it and what it names
+pub network_judged : (system : List ℕ) (w mid w' : WorldState) (held : List ℕ → Option (List ℕ)) (s input : SourceState) (sink sink' : SinkState) (exit : Exit)
+    → AreOpened (system ∷ []) mid → s ≡ new_source (w.holds system) → mid.holds ≡ w.holds → held ≡ mid.holds → IsKept mid w'
+    → IfSome s.remaining (λ text. ReportsNetwork held (folder_of system) text sink sink' exit) → Judges system w w' input input sink sink' exit
+network_judged system w mid w' held s input sink sink' exit opened file same is kept reports =
+    let P : (List ℕ → Option (List ℕ)) → Type 0 = λ h. IfSome (w.holds system) (λ text. ReportsNetwork h (folder_of system) text sink sink' exit) in
+    let Q : SourceState → Type 0 = λ x. IfSome x.remaining (λ text. ReportsNetwork held (folder_of system) text sink sink' exit) in
+    record {
+      opened = kept.opened ∙ opened.opened;
+      crew = kept.crew ∙ opened.crew;
+      saved = kept.saved ∙ opened.saved;
+      unread = refl;
+      reports = subst P (is ∙ same) (subst Q file reports);
+    }
 
 -- where the sink was left well by an engine, it is so by what stands behind it
 pub left_after : (a b c : SinkState) (ended exit : Exit) → Leaves a b → (ended ≢ Failed → b.failed ≡ a.failed) → ((c ≡ b) × (exit ≡ ended)) ⊎ ((ended ≡ Done) × Leaves b c) → Leaves a c

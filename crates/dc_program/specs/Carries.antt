@@ -1,15 +1,17 @@
 -- How an order is carried out in a world.
-use Rattle.std.specs.Prelude.{◌≡◌, ◌⊎◌, ℕ, List, [], ◌∷◌, Option, None, Some, option_map}
+use Rattle.std.specs.Prelude.{◌≡◌, ◌⊎◌, ℕ, List, [], ◌∷◌, IfSome, Option, None, Some, option_map}
 use Rattle.dc_answer.specs.Answer.{Any, Reported}
 use Rattle.dc_answer.specs.declared.exit.Exit.{Exit}
 use Rattle.dc_answer.specs.declared.exit.Exit.TheVariants.{Done}
 use Rattle.dc_command.specs.declared.asked.Order.{Order}
-use Rattle.dc_command.specs.declared.asked.Order.TheVariants.{Design}
+use Rattle.dc_command.specs.declared.asked.Order.TheVariants.{Design, Network}
 use Rattle.dc_device.specs.States.{SinkState, SourceState}
 use Rattle.dc_program.specs.Opening.{AreNotOpened, TellsFailure, failure_of}
 use Rattle.dc_program.specs.Orders.{ReportsAny, ReportsOrder, crew_of, files_of}
 use Rattle.dc_program.specs.World.{WorldState}
 use Rattle.dc_run_design.specs.Design.{ReportsDesign}
+use Rattle.dc_run_network.specs.Answer.{ReportsNetwork}
+use Rattle.dc_run_network.specs.Paths.{folder_of}
 use Rattle.dc_program.specs.declared.world.NotOpened.{NotOpened}
 
 -- Its files were opened, none was made, and its engine ran over what they hold.
@@ -66,10 +68,19 @@ pub record Makes (inputs outputs : List ℕ) (certificate : Option (List ℕ)) (
   pub reported : Reported Any sink.contents mid.contents 0 failed sink.failed mid.failed ended
   pub saves : Saves certificate text w' mid sink' ended exit
 
--- the same of an order; of one that is no design it never is so
+-- The text of a system was opened, and the engine of `network` ran over what it holds and what the files hold that it names; none was made.
+pub record Judges (system : List ℕ) (w w' : WorldState) (input input' : SourceState) (sink sink' : SinkState) (exit : Exit) : Type 0 where
+  pub opened : w'.opened ≡ system ∷ []
+  pub crew : w'.crew ≡ None
+  pub saved : w'.saved ≡ None
+  pub unread : input' ≡ input
+  pub reports : IfSome (w.holds system) (λ text. ReportsNetwork w.holds (folder_of system) text sink sink' exit)
+
+-- the same of an order; of one that is neither a design nor a network it never is so
 abbrev pub MakesOf : Order → WorldState → WorldState → SourceState → SourceState → SinkState → SinkState → Exit → Type 0
 MakesOf (Design inputs outputs tick headroom police certificate) w w' input input' sink sink' exit =
     Makes inputs.now outputs.now (option_map (λ s. s.now) certificate) w w' input input' sink sink' exit
+MakesOf (Network system) w w' input input' sink sink' exit = Judges system.now w w' input input' sink sink' exit
 MakesOf _ w w' input input' sink sink' exit = ⊥
 
 -- one of the three

@@ -32,3 +32,10 @@ pub record IsNew (w : WorldState) : Type 0 where
   pub refused : w.refused ≡ None
   pub crew : w.crew ≡ None
   pub saved : w.saved ≡ None
+
+-- it is what it was, but for why a file was not opened
+pub record IsKept (w w' : WorldState) : Type 0 where
+  pub holds : w'.holds ≡ w.holds
+  pub opened : w'.opened ≡ w.opened
+  pub crew : w'.crew ≡ w.crew
+  pub saved : w'.saved ≡ w.saved

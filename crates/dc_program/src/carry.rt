@@ -11,7 +11,7 @@ ghost use Rattle.dc_program.specs.World.{IsNew};
 use crate::crews::ByThreads;
 use crate::designs::design;
 use crate::engines::{
-    audit, bench, check, check_by, decode, explain, find, observe, replay, survey, trace,
+    audit, bench, check, check_by, decode, explain, find, network, observe, replay, survey, trace,
 };
 use crate::optional::{margins, page};
 use crate::world::World;
@@ -72,6 +72,7 @@ fn obey<'a, W: World<'a>, S: Source, K: Sink, H: ByThreads>(
             };
             margins(alloc, world, sink, tables, certificate, told)
         }
+        Order::Network { system } => network(alloc, world, sink, system),
         Order::Survey { tables } => survey(alloc, world, input, sink, tables),
         Order::Trace { tables, from } => trace(alloc, world, input, sink, tables, from),
         Order::Replay { tables, all, long } => {

@@ -1,13 +1,16 @@
 //! The world of real files.
 ghost use Rattle.std.specs.Prelude.{◌≡◌, ◌≢◌, [], None, map, option_map};
+ghost use Rattle.std.proofs.Common.{◌∙◌, refl};
 ghost use Rattle.std.specs.IoError.{error_kind};
 
 use crate::limits::MOST_FILES;
 use crate::world::{Crew, NotOpened, World};
 use arrayvec::ArrayVec;
+use dc_answer::Failure;
 use dc_command::{Asked, Order, When};
 use dc_device::ReadSource;
 use dc_keep::{Noted, Notes, Origin, Slot};
+use dc_run_network::Shelf;
 use std::fs::{self, File};
 use std::io::{self, ErrorKind};
 use std::rt::Files;
@@ -66,6 +69,14 @@ impl<'a, R> Disk<'a, R> {
     }
 }
 
+/// What failed, where a file was not opened.
+fn failure_of(why: NotOpened) -> Failure {
+    match why {
+        NotOpened::Device => Failure::Source,
+        NotOpened::Memory => Failure::Memory,
+    }
+}
+
 /// Why a file was not opened, by the error of the call.
 fn reason_of(error: io::Error) -> NotOpened
     ensures memory { error_kind error ≡ ErrorKind.OutOfMemory → result ≡ NotOpened.Memory }
@@ -110,10 +121,39 @@ impl<'a, R: Files<File = File> + Input> Disk<'a, R> {
     }
 }
 
-impl<'a, R: AllocGlobal + Files<File = File> + Input> World<'a> for Disk<'a, R> {
+impl<'a, R: AllocGlobal + Files<File = File> + Input> Shelf for Disk<'a, R> {
     type File = ReadSource<Noted<'a, Origin<File, R::Reader>>>;
 
+    ghost holds = { λ w name. None };
+
+    ghost keeps = { λ w w'. (w'.opened ≡ w.opened) × (w'.crew ≡ w.crew) × (w'.saved ≡ w.saved) };
+
+    ghost keeps_same = { λ s. (refl, refl, refl) };
+
+    ghost keeps_on = { λ r s t one next. (next.0 ∙ one.0, next.1 ∙ one.1, next.2 ∙ one.2) };
+
+    fn open_named(
+        &mut self,
+        name: &str,
+    ) -> Result<ReadSource<Noted<'a, Origin<File, R::Reader>>>, Failure> {
+        let slot = self.notes.next_named();
+        match fs::open(self.runtime, name) {
+            Ok(file) => {
+                let noted = Noted::new(Origin::File(file), self.runtime.alloc(), slot);
+                Ok(ReadSource::new(noted))
+            }
+            Err(error) => {
+                slot.blame(error);
+                Err(failure_of(reason_of(error)))
+            }
+        }
+    }
+}
+
+impl<'a, R: AllocGlobal + Files<File = File> + Input> World<'a> for Disk<'a, R> {
     ghost state = { λ w. record { holds = λ name. None; opened = map (λ name. name.now) w.opened.items; refused = w.refused; crew = w.crew; saved = option_map (λ s. (s.name.now, s.text.items)) w.saved } };
+
+    fn is_shelf(&self) {}
 
     fn open(
         &mut self,

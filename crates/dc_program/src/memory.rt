@@ -1,12 +1,15 @@
 //! A world in memory, for tests.
 ghost use Rattle.std.specs.Prelude.{◌≡◌, [], None, map, option_map};
+ghost use Rattle.std.proofs.Common.{◌∙◌, refl};
 ghost use Rattle.dc_program.specs.Memory.{held_by};
 
 use crate::limits::MOST_FILES;
 use crate::world::{Crew, NotOpened, World};
 use arrayvec::ArrayVec;
+use dc_answer::Failure;
 use dc_command::Asked;
 use dc_device::MemSource;
+use dc_run_network::Shelf;
 
 /// How many bytes a file in memory gives at a pull.
 const PIECE: usize = 1000;
@@ -101,9 +104,26 @@ impl<'a> MemWorld<'a> {
     }
 }
 
-impl<'a> World<'a> for MemWorld<'a> {
+impl<'a> Shelf for MemWorld<'a> {
     type File = MemSource<'a>;
 
+    ghost holds = { λ w. held_by w.first (held_by w.second (λ _. None)) };
+
+    ghost keeps = { λ w w'. (w'.first ≡ w.first) × (w'.second ≡ w.second) × (w'.opened ≡ w.opened) × (w'.crew ≡ w.crew) × (w'.saved ≡ w.saved) };
+
+    ghost keeps_same = { λ s. (refl, refl, refl, refl, refl) };
+
+    ghost keeps_on = { λ r s t one next. (next.0 ∙ one.0, next.1 ∙ one.1, next.2 ∙ one.2, next.3 ∙ one.3, next.4 ∙ one.4) };
+
+    fn open_named(&mut self, name: &str) -> Result<MemSource<'a>, Failure> {
+        match self.text_of(name) {
+            Some(text) => Ok(MemSource::new(text.as_bytes(), PIECE, 0)),
+            None => Err(Failure::Source),
+        }
+    }
+}
+
+impl<'a> World<'a> for MemWorld<'a> {
     ghost state = { λ w. record {
       holds = held_by w.first (held_by w.second (λ _. None));
       opened = map (λ name. name.now) w.opened.items;
@@ -111,6 +131,8 @@ impl<'a> World<'a> for MemWorld<'a> {
       crew = w.crew;
       saved = option_map (λ s. (s.name.now, s.text.items)) w.saved;
     } };
+
+    fn is_shelf(&self) {}
 
     fn open(&mut self, name: &'a str) -> Result<MemSource<'a>, NotOpened> {
         self.opened.push(name);

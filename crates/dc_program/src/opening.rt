@@ -19,6 +19,7 @@ pub fn open_one<'a, W: World<'a>>(world: &mut W, name: &'a str) -> Result<W::Fil
     ensures opened { IfOk result (λ f. AreOpened (name.now ∷ []) (W.state world.new)) }
     ensures file { IfOk result (λ f. W.File.state f ≡ new_source ((W.state world.old).holds name.now)) }
     ensures refused { IfErr result (λ why. AreNotOpened (name.now ∷ []) why (W.state world.new)) }
+    ensures holds { (W.state world.new).holds ≡ (W.state world.old).holds }
 {
     world.open(name)
 }

@@ -1,10 +1,10 @@
 //! What the program works in: files, opened or made by their names, and a note of who asked for threads.
 ghost use Rattle.std.specs.Prelude.{◌≡◌, ◌∷◌, [], ◌++◌, ◌<◌, length, IfOk, None, Some};
-ghost use Rattle.dc_program.specs.World.{WorldState, new_source, refusal_of};
+ghost use Rattle.dc_program.specs.World.{IsKept, WorldState, new_source, refusal_of};
 ghost use Rattle.dc_program.specs.declared.limits.TheConstants.{MOST_FILES};
 
 use dc_command::Asked;
-use dc_device::Source;
+use dc_run_network::Shelf;
 
 /// Why a file was not opened.
 #[derive(Clone, Copy, Debug, PartialEq, Eq)]
@@ -24,11 +24,9 @@ pub enum Crew {
     Actors,
 }
 
-/// Files, and a note of for whom threads are asked. The names of files live as long as `'a`.
-pub trait World<'a> {
-    /// A file that is read.
-    type File: Source + Drop;
-
+/// Files, and a note of for whom threads are asked. The names of files that the command line has live as long as `'a`;
+/// those that a text names are opened as of a [`Shelf`].
+pub trait World<'a>: Shelf {
     // What is known of it.
     ghost state: { Self → WorldState };
 
@@ -56,4 +54,10 @@ pub trait World<'a> {
     /// Notes that threads are asked for these.
     fn ask_threads(&mut self, crew: Crew)
         ensures { state self.new ≡ record (state self.old) { crew = Some crew } };
+
+    /// The files of the shelf hold what its own do, and opening them leaves all but why one was not opened. The call does
+    /// nothing.
+    fn is_shelf(&self)
+        ensures held { Self.holds self.now ≡ (state self.now).holds }
+        ensures stays { (w w' : Self) → Self.keeps w w' → IsKept (state w) (state w') };
 }

@@ -1,0 +1,13 @@
+use Rattle.std.proofs.Common.{List, [], ◌∷◌, ◌++◌, map, take, sym, ap, ◌∙◌}
+use Rattle.std.proofs.lemmas.List.{map_more}
+use Rattle.dc_order.specs.declared.hop.Hop.{Hop}
+use Rattle.dc_system_text.specs.declared.parts.LinkText.{LinkText}
+use Rattle.dc_run_network.specs.Links.{hop_of}
+use Rattle.dc_run_network.proofs.links.hops.Goals as goal
+
+pub loop-link-preserved : goal.loop-link-preserved
+loop-link-preserved c =
+    let f : LinkText → Hop = hop_of c.args.concentrators.now in
+    let so_far = map f (take c.loop-link.link-index c.args.links.now) in
+    c.in_ok-push.ensures.items ∙ ap (λ l. l ++ c.hop_of.result ∷ []) c.loop-link.invariant ∙ ap (λ x. so_far ++ x ∷ []) (c.hop_of.ensures ∙ ap f c.link-item.is)
+    ∙ sym (map_more f c.args.links.now c.loop-link.link-index c.link-item.result c.loop-link-test.true)

@@ -1,0 +1,7 @@
+pub mod Paths
+pub mod Codes
+pub mod Lines
+pub mod Links
+pub mod Members
+pub mod Answer
+pub mod lemmas

@@ -1,0 +1,261 @@
+//! The concentrators of a system: their files are opened, read and judged.
+ghost use Rattle.std.specs.Prelude.{◌≡◌, ℕ, List, IfErr, IfOk, IfSome, MatchResult, Ok, Some};
+ghost use Rattle.dc_cert.specs.NamedRows.{named_rows};
+ghost use Rattle.dc_cert.specs.Reading.{certificate_of};
+ghost use Rattle.dc_build.specs.Reported.{AreWrittenBy};
+ghost use Rattle.dc_device.specs.States.{IsCountable};
+ghost use Rattle.dc_toml.specs.Reading.{tables_of};
+ghost use Rattle.dc_run_network.specs.Members.{AnswersHalt, AreMembers, Halts, IsHaltAt, IsMemberAt, IsMemberOf, IsSaid, OfTexts, ReadsCertificate, ReadsTables, TellsBehind};
+ghost use Rattle.dc_run_network.specs.Paths.{path_of};
+
+use crate::lines::tell_at;
+use crate::paths::path_of;
+use crate::shelf::Shelf;
+use dc_answer::{Failure, Outcome, Page, Unloaded, load_certificate, load_written};
+use dc_build::WrittenTables;
+use dc_cert::Certificate;
+use dc_device::Source;
+use dc_document::Name;
+use dc_print::{Text, append, print_cert_fault, print_refused, print_table_fault};
+use dc_system_text::ConcentratorText;
+use dc_ways::Member;
+use std::alloc::Global;
+
+/// What ended the judging of concentrators.
+#[derive(Clone, Copy, Debug, PartialEq, Eq)]
+pub enum Halt {
+    /// What `check` answers was told.
+    Told(Outcome),
+    /// A file was not to be had, which was told.
+    NoFile,
+    /// Memory was refused.
+    Memory,
+}
+
+/// What ends where a file failed, and its line.
+fn halt_by(failure: Failure, line: &mut Text) -> Halt
+    ensures said { IsSaid line.new.items result }
+    ensures untold { (tables certificate : List ℕ) → AnswersHalt tables certificate line.new.items result }
+{
+    match failure {
+        Failure::Memory => Halt::Memory,
+        Failure::Source | Failure::Sink => {
+            line.clear();
+            append(line, b"failed device");
+            Halt::NoFile
+        }
+    }
+}
+
+/// The tables of a concentrator beside their document.
+fn read_tables<S: Source>(
+    alloc: Global,
+    source: &mut S,
+    line: &mut Text,
+) -> Result<WrittenTables, Halt>
+    requires { IsCountable (S.state source.old) }
+    ensures said { IfErr result (IsSaid line.new.items) }
+    ensures read { IfSome (S.state source.old).remaining (λ tables. ReadsTables tables line.new.items result) }
+{
+    match load_written(alloc, source) {
+        Ok(written) => Ok(written),
+        Err(Unloaded::Refused(fault)) => {
+            print_table_fault(line, fault);
+            Err(Halt::Told(Outcome::Unreadable))
+        }
+        Err(Unloaded::Failed(failure)) => Err(halt_by(failure, line)),
+    }
+}
+
+/// The certificate of a concentrator.
+fn read_certificate<S: Source>(
+    alloc: Global,
+    source: &mut S,
+    line: &mut Text,
+) -> Result<Certificate, Halt>
+    requires { IsCountable (S.state source.old) }
+    ensures said { IfErr result (IsSaid line.new.items) }
+    ensures read { IfSome (S.state source.old).remaining (λ certificate. ReadsCertificate certificate line.new.items result) }
+{
+    match load_certificate(alloc, source) {
+        Ok(certificate) => Ok(certificate),
+        Err(Unloaded::Refused(fault)) => {
+            print_cert_fault(line, fault);
+            Err(Halt::Told(Outcome::Unreadable))
+        }
+        Err(Unloaded::Failed(failure)) => Err(halt_by(failure, line)),
+    }
+}
+
+/// Judges the certificate of a concentrator.
+fn judge(written: WrittenTables, certificate: Certificate, line: &mut Text) -> Result<Member, Halt>
+    ensures said { IfErr result (IsSaid line.new.items) }
+    ensures judged { (rows text : List ℕ) → AreWrittenBy (tables_of rows) written → certificate_of text ≡ Ok (named_rows certificate)
+        → MatchResult result (IsMemberOf rows text) (AnswersHalt rows text line.new.items) }
+{
+    match Member::judge(written, certificate) {
+        Ok(member) => {
+            member.judged();
+            Ok(member)
+        }
+        Err(refused) => {
+            print_refused(line, refused.written.tables(), refused.fault);
+            Err(Halt::Told(Outcome::Refused))
+        }
+    }
+}
+
+/// The concentrator of tables and of the text of a certificate.
+fn read_behind<C: Source>(
+    alloc: Global,
+    written: WrittenTables,
+    certificate: &mut C,
+    line: &mut Text,
+) -> Result<Member, Halt>
+    requires { IsCountable (C.state certificate.old) }
+    ensures said { IfErr result (IsSaid line.new.items) }
+    ensures judged { (rows text : List ℕ) → AreWrittenBy (tables_of rows) written → (C.state certificate.old).remaining ≡ Some text
+        → MatchResult result (IsMemberOf rows text) (AnswersHalt rows text line.new.items) }
+{
+    match read_certificate(alloc, certificate, line) {
+        Ok(certificate) => judge(written, certificate, line),
+        Err(halt) => Err(halt),
+    }
+}
+
+/// The concentrator of two texts.
+fn read_both<T: Source, C: Source>(
+    alloc: Global,
+    tables: &mut T,
+    certificate: &mut C,
+    line: &mut Text,
+) -> Result<Member, Halt>
+    requires tables { IsCountable (T.state tables.old) }
+    requires certificate { IsCountable (C.state certificate.old) }
+    ensures said { IfErr result (IsSaid line.new.items) }
+    ensures judged { (rows text : List ℕ) → (T.state tables.old).remaining ≡ Some rows → (C.state certificate.old).remaining ≡ Some text
+        → MatchResult result (IsMemberOf rows text) (AnswersHalt rows text line.new.items) }
+{
+    match read_tables(alloc, tables, line) {
+        Ok(written) => read_behind(alloc, written, certificate, line),
+        Err(halt) => Err(halt),
+    }
+}
+
+/// The file of this name in a folder.
+fn open<F: Shelf>(
+    alloc: Global,
+    shelf: &mut F,
+    folder: &str,
+    name: &str,
+) -> Result<F::File, Failure>
+    ensures same { F.holds shelf.new ≡ F.holds shelf.old }
+    ensures keeps { F.keeps shelf.old shelf.new }
+    ensures text { IfOk result (λ f. (F.File.state f).remaining ≡ F.holds shelf.old (path_of folder.now name.now)) }
+    ensures countable { IfOk result (λ f. IsCountable (F.File.state f)) }
+{
+    match path_of(alloc, folder, name) {
+        Ok(path) => shelf.open_named(path.as_str()),
+        Err(_) => Err(Failure::Memory),
+    }
+}
+
+/// Both files of a concentrator; the tables are opened first.
+fn open_both<F: Shelf>(
+    alloc: Global,
+    shelf: &mut F,
+    folder: &str,
+    concentrator: &ConcentratorText,
+) -> Result<(F::File, F::File), Failure>
+    ensures same { F.holds shelf.new ≡ F.holds shelf.old }
+    ensures keeps { F.keeps shelf.old shelf.new }
+    ensures tables { IfOk result (λ f. (F.File.state f.0).remaining ≡ F.holds shelf.old (path_of folder.now concentrator.now.tables)) }
+    ensures certificate { IfOk result (λ f. (F.File.state f.1).remaining ≡ F.holds shelf.old (path_of folder.now concentrator.now.certificate)) }
+    ensures countable { IfOk result (λ f. IsCountable (F.File.state f.0) × IsCountable (F.File.state f.1)) }
+{
+    let tables = open(alloc, shelf, folder, concentrator.tables())?;
+    let certificate = open(alloc, shelf, folder, concentrator.certificate())?;
+    Ok((tables, certificate))
+}
+
+/// The concentrator of its files; where it is none, its line.
+fn read_one<F: Shelf>(
+    alloc: Global,
+    shelf: &mut F,
+    folder: &str,
+    concentrator: &ConcentratorText,
+    line: &mut Text,
+) -> Result<Member, Halt>
+    ensures same { F.holds shelf.new ≡ F.holds shelf.old }
+    ensures keeps { F.keeps shelf.old shelf.new }
+    ensures said { IfErr result (IsSaid line.new.items) }
+    ensures judged { OfTexts (F.holds shelf.old) folder.now concentrator.now
+        (λ rows text. MatchResult result (IsMemberOf rows text) (AnswersHalt rows text line.new.items)) }
+{
+    match open_both(alloc, shelf, folder, concentrator) {
+        Ok((mut tables, mut certificate)) => {
+            read_both(alloc, &mut tables, &mut certificate, line)
+        }
+        Err(failure) => Err(halt_by(failure, line)),
+    }
+}
+
+/// Makes the page the line of a concentrator that is not accepted, behind its name.
+fn tell_halt(page: &mut Page, name: Name, line: &Text, halt: Halt) -> Halt
+    ensures { TellsBehind name line.now.items page.new halt result }
+{
+    match halt {
+        Halt::Memory => Halt::Memory,
+        _ => match tell_at(page, name, line.as_slice()) {
+            Ok(()) => halt,
+            Err(_) => Halt::Memory,
+        },
+    }
+}
+
+/// The concentrator of its files; where it is none, the page is its line.
+fn member_of<F: Shelf>(
+    alloc: Global,
+    shelf: &mut F,
+    folder: &str,
+    concentrator: &ConcentratorText,
+    page: &mut Page,
+) -> Result<Member, Halt>
+    ensures same { F.holds shelf.new ≡ F.holds shelf.old }
+    ensures keeps { F.keeps shelf.old shelf.new }
+    ensures judged { MatchResult result (IsMemberAt (F.holds shelf.old) folder.now concentrator.now) (IsHaltAt (F.holds shelf.old) folder.now concentrator.now page.new) }
+{
+    let mut line = Text::new();
+    match read_one(alloc, shelf, folder, concentrator, &mut line) {
+        Ok(member) => Ok(member),
+        Err(halt) => Err(tell_halt(page, concentrator.name(), &line, halt)),
+    }
+}
+
+/// The concentrators of a system, in order; where one of them is not accepted, the page is the line of the first.
+///
+/// # Errors
+/// What that ends with; `Memory` where memory was refused.
+pub(crate) fn members_of<F: Shelf>(
+    alloc: Global,
+    shelf: &mut F,
+    folder: &str,
+    concentrators: &[ConcentratorText],
+    page: &mut Page,
+) -> Result<Vec<Member>, Halt>
+    ensures keeps { F.keeps shelf.old shelf.new }
+    ensures judged { MatchResult result (λ v. AreMembers (F.holds shelf.old) folder.now concentrators.now v.items)
+        (Halts (F.holds shelf.old) folder.now concentrators.now page.new) }
+{
+    let mut members = Vec::new(alloc);
+    for concentrator in concentrators {
+        match member_of(alloc, shelf, folder, concentrator, page) {
+            Ok(member) => match members.push(member) {
+                Ok(()) => {}
+                Err(_) => return Err(Halt::Memory),
+            },
+            Err(halt) => return Err(halt),
+        }
+    }
+    Ok(members)
+}
