@@ -4,6 +4,8 @@ use dc_word::digit_in;
 /// A line that says what ended a run, by its words.
 #[derive(Clone, Copy)]
 pub(crate) struct Answer<'a> {
+    /// The line.
+    whole: &'a str,
     /// The first word of the line.
     pub(crate) verb: &'a str,
     /// The second word: a code, or what failed.
@@ -17,6 +19,7 @@ pub(crate) struct Answer<'a> {
 /// The words of a line of the end of a run.
 fn answer_in(line: &str) -> Answer<'_> {
     let mut answer = Answer {
+        whole: line,
         verb: "",
         code: "",
         name: "",
@@ -90,7 +93,40 @@ pub(crate) fn answer_of(output: &[u8]) -> Option<Answer<'_>> {
     Some(answer_in(line_at(text, last)))
 }
 
+/// What stands in a line behind so many of its words.
+fn rest_of(line: &str, words: usize) -> &str {
+    let mut count = 0usize;
+    for (at, byte) in line.as_bytes().iter().enumerate() {
+        if *byte != b' ' {
+            continue;
+        }
+        count = count.saturating_add(1);
+        if count == words {
+            return line.get(at.saturating_add(1)..line.len()).unwrap_or("");
+        }
+    }
+    ""
+}
+
+/// The number that a word of a line writes, counted from 0; 0 where it writes none.
+pub(crate) fn index_in(word: &str) -> usize {
+    let mut index = 0usize;
+    for byte in word.as_bytes() {
+        if byte.is_ascii_digit() {
+            index = index
+                .saturating_mul(10)
+                .saturating_add(usize::from(*byte & 0x0F));
+        }
+    }
+    index
+}
+
 impl<'a> Answer<'a> {
+    /// What stands behind so many of its words, as a line.
+    pub(crate) fn behind(self, words: usize) -> Answer<'a> {
+        answer_in(rest_of(self.whole, words))
+    }
+
     /// The number of the line that it names, where it names one: the last of its words.
     pub(crate) fn line(self) -> Option<u64> {
         let mut number = 0u64;

@@ -5,6 +5,8 @@ use crate::designed::repeat_lines;
 use crate::devices::explain_failure;
 use crate::faults::explain_line;
 use crate::judged::{explain_refused, explain_unread};
+use crate::members::explain_member;
+use crate::network::explain_network;
 use crate::output::{Answer, answer_of};
 use crate::plain::explain_plainly;
 use dc_answer::Exit;
@@ -29,6 +31,10 @@ pub(crate) struct Ran<'a> {
     pub(crate) first: &'a Kept,
     /// Its second file.
     pub(crate) second: &'a Kept,
+    /// The tables of the concentrator of a network that was read last.
+    pub(crate) named_first: &'a Kept,
+    /// Its certificate.
+    pub(crate) named_second: &'a Kept,
     /// Standard input.
     pub(crate) input: &'a Kept,
     /// What it wrote last.
@@ -36,7 +42,7 @@ pub(crate) struct Ran<'a> {
 }
 
 /// The name of a file as it is told.
-fn told(name: &str) -> &str {
+pub(crate) fn told(name: &str) -> &str {
     if name == STANDARD_INPUT {
         "<stdin>"
     } else {
@@ -49,6 +55,7 @@ impl<'a> Ran<'a> {
     pub(crate) fn names(&self) -> (&'a str, &'a str) {
         match self.order {
             Order::Decode(_) | Order::Explain { .. } => ("", ""),
+            Order::Network { system } => (told(system), ""),
             Order::Find { tables, .. }
             | Order::Survey { tables }
             | Order::Trace { tables, .. }
@@ -148,6 +155,16 @@ fn is_design(ran: &Ran<'_>) -> bool {
     matches!(ran.order, Order::Design { .. })
 }
 
+/// Whether it was to judge a network.
+fn is_network(ran: &Ran<'_>) -> bool {
+    matches!(ran.order, Order::Network { .. })
+}
+
+/// Whether a line says that a file of a concentrator was not to be had.
+fn is_without_file(answer: Answer<'_>) -> bool {
+    answer.verb == "at" && answer.behind(2).verb == "failed"
+}
+
 /// What there is to say of the end of a run: nothing where all is well, or where nobody reads what it wrote.
 fn explain(alloc: Global, ran: &Ran<'_>) -> Option<String> {
     if ran.is_unread() {
@@ -159,19 +176,22 @@ fn explain(alloc: Global, ran: &Ran<'_>) -> Option<String> {
     match ran.exit {
         Exit::Done => explain_empty(alloc, ran),
         Exit::Failed if answer.verb == "failed" => explain_failure(alloc, ran, answer.code),
+        Exit::Failed if is_without_file(answer) => explain_member(alloc, ran, answer),
         Exit::Failed => explain_failure(alloc, ran, "device"),
         Exit::Unreadable | Exit::Refused if is_design(ran) => repeat_lines(alloc, ran.output),
+        Exit::Unreadable | Exit::Refused if is_network(ran) => explain_network(alloc, ran, answer),
         Exit::Unreadable => explain_text(alloc, ran, answer),
         Exit::Refused => explain_judged(alloc, ran, answer),
     }
 }
 
-/// What there is to say of the end of a run of which both files were kept.
+/// What there is to say of the end of a run of which its files were kept, and those that a text named.
 fn explain_behind(
     alloc: Global,
     order: Order<'_>,
     exit: Exit,
     files: (&Kept, &Kept),
+    named: (&Kept, &Kept),
     notes: &Notes,
 ) -> Result<Option<String>, AllocError> {
     let input = notes.input.end(alloc)?;
@@ -181,10 +201,32 @@ fn explain_behind(
         exit,
         first: files.0,
         second: files.1,
+        named_first: named.0,
+        named_second: named.1,
         input: &input,
         output: &output,
     };
     Ok(explain(alloc, &ran))
+}
+
+/// What there is to say of the end of a run of which both files of the command line were kept.
+fn explain_with(
+    alloc: Global,
+    order: Order<'_>,
+    exit: Exit,
+    files: (&Kept, &Kept),
+    notes: &Notes,
+) -> Result<Option<String>, AllocError> {
+    let named_first = notes.named_first.end(alloc)?;
+    let named_second = notes.named_second.end(alloc)?;
+    explain_behind(
+        alloc,
+        order,
+        exit,
+        files,
+        (&named_first, &named_second),
+        notes,
+    )
 }
 
 /// What there is to say of the end of a run, by the notes that were kept of it.
@@ -199,5 +241,5 @@ pub fn explain_end(
 ) -> Result<Option<String>, AllocError> {
     let first = notes.first.end(alloc)?;
     let second = notes.second.end(alloc)?;
-    explain_behind(alloc, order, exit, (&first, &second), notes)
+    explain_with(alloc, order, exit, (&first, &second), notes)
 }
