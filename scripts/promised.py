@@ -1,6 +1,6 @@
 """The promises of docs/assessment/promises.tsv, the sentences that are marked on the pages, and the wrong bodies that were refused.
 
-Marked are: on README.md the paragraphs and the numbered list of "The theorem" but for its premises, the first two cells of each row of
+Marked are: on README.md the paragraphs and the numbered list of "The theorem" but for its premises, "The theorem on networks", the first two cells of each row of
 "Commands", and the rows of what is proved; on docs/formats.md each code or word with what it means, and each status; on a crate's page
 the first cell of each row of a table that is headed "Promise"."""
 import re
@@ -66,7 +66,7 @@ def rows_of(text):
 def of_readme():
     text = (ROOT / "README.md").read_text()
     theorem = re.sub(r"^```.*?^```\n", "", section(text, "The theorem"), flags=re.M | re.S)
-    for line in theorem.splitlines():
+    for line in [*theorem.splitlines(), *section(text, "The theorem on networks").splitlines()]:
         if line and not line.startswith("|") and not line.startswith("The premises"):
             yield re.sub(r"^\d\. ", "", line)
     for _, line in rows_of(section(text, "Commands")):

@@ -105,3 +105,25 @@ def named(file, text, takes=""):
     """What a clause of a file names, and the types that its call takes."""
     found = {resolved(*imports(file)[n]) for n in names_in(text) & set(imports(file))}
     return found | {declared(file, n) for n in names_in(takes)}
+
+
+def steps(waiting):
+    """The same, step by step: those that are named first, what these ask for that is new, and so on."""
+    seen, waiting = set(), {it for it in waiting if it}
+    while waiting:
+        yield sorted(waiting)
+        seen |= waiting
+        waiting = set().union(*(asked_by(*it) for it in waiting)) - seen - {None}
+
+
+def outside(reached):
+    """The names of the toolchain's libraries that these definitions ask for, with the library of each."""
+    return {f"{name} of {path[0]}" for file, its in reached if file.suffix == ".antt"
+            for path, name, _ in (imports(file)[n] for n in names_in(definitions(file)[its]) & set(imports(file))) if not (CRATES / path[0]).is_dir()}
+
+
+def place_of(file, name):
+    """Where a definition or a type begins."""
+    begins = re.compile(r"((abbrev|unfoldable|pub|pub\(crate\)|record|data|struct|enum|const) )*%s\b" % re.escape(name))
+    line = next((n for n, line in enumerate(text_of(file).splitlines(), 1) if begins.match(line)), 1)
+    return f"{file.relative_to(ROOT)}:{line}"
