@@ -16,4 +16,4 @@ mod worker;
 pub use fault::ParFault;
 pub use gate::{Gate, Open, Stuck};
 pub use limits::MOST_WORKERS;
-pub use par::check_par;
+pub use par::{check_par, verdict_par};

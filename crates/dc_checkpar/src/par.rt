@@ -47,7 +47,7 @@ pub fn check_par<G: Gate, R: Threads + Wait + Sync>(
     ensures exact { IsParVerdict (arc_value tables) (named_rows certificate) result }
     ensures stuck { IfErr result (λ fault. fault ≡ GateStuck → MayStick (job_count (arc_value tables)) (G.may_stick gate.now)) }
 {
-    match verdict_by(rt, alloc, &tables, &certificate, workers, gate) {
+    match verdict_par(rt, alloc, &tables, &certificate, workers, gate) {
         Err(fault) => Err(fault),
         Ok(()) => {
             let certified = certify(tables, certificate);
@@ -57,8 +57,12 @@ pub fn check_par<G: Gate, R: Threads + Wait + Sync>(
     }
 }
 
-/// The verdict, by so many workers.
-fn verdict_by<G: Gate, R: Threads + Wait + Sync>(
+/// The verdict on a certificate for tables, as `dc_check::verdict` gives it, by 1 to [`MOST_WORKERS`](crate::MOST_WORKERS)
+/// workers.
+///
+/// # Errors
+/// As those of [`check_par`].
+pub fn verdict_par<G: Gate, R: Threads + Wait + Sync>(
     rt: &R,
     alloc: Global,
     tables: &Tables,

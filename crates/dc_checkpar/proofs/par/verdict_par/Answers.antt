@@ -2,7 +2,7 @@ use Rattle.std.proofs.Common.{None, Some, sym, ◌∙◌}
 use Rattle.dc_cert.specs.NamedRows.{named_rows}
 use Rattle.dc_check.specs.lemmas.Jobs.{verdict-jobs, verdict-names}
 use Rattle.dc_check.specs.lemmas.Places.{verdict_placed}
-use Rattle.dc_checkpar.proofs.par.verdict_by.Goals as goal
+use Rattle.dc_checkpar.proofs.par.verdict_par.Goals as goal
 
 pub returns-in-Some-clause-exact : goal.returns-in-Some-clause-exact
 returns-in-Some-clause-exact g c =
