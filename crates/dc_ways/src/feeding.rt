@@ -1,3 +1,4 @@
+//! Which labels feed which streams over a link.
 ghost use Rattle.std.specs.Prelude.{◌≡◌, ◌<◌, length};
 ghost use Rattle.dc_tables.specs.Declares.{fits};
 ghost use Rattle.dc_network.specs.Networks.{feeds};
@@ -8,7 +9,7 @@ use dc_tables::Tables;
 use dc_word::Sdi;
 
 /// Whether the words of the label of the link's output are of the stream of its bus.
-pub(crate) fn feeds(
+pub fn feeds(
     from: &Tables,
     to: &Tables,
     link: &Connection,

@@ -9,6 +9,7 @@ mod member;
 mod row;
 
 pub use connection::Connection;
+pub use feeding::feeds;
 pub use fitting::{LinkFault, StreamRule, link_fault};
 pub use longest::ways;
 pub use member::{Member, Refused};

@@ -49,10 +49,27 @@ impl Member {
         ensures { MatchResult result (λ m. (verdict_of written.tables (named_rows certificate) ≡ None) × (m ≡ record { written = written; claims = named_rows certificate }))
             (λ r. (verdict_of written.tables (named_rows certificate) ≡ Some r.fault) × (r.written ≡ written)) }
     {
+        let fault = verdict(written.tables(), &certificate).err();
+        Member::of_verdict(written, certificate, fault)
+    }
+
+    /// The concentrator of tables and a certificate of which this is the verdict: a fault, or none.
+    ///
+    /// # Errors
+    /// The tables with that fault.
+    pub fn of_verdict(
+        written: WrittenTables,
+        certificate: Certificate,
+        fault: Option<CheckFault>,
+    ) -> Result<Member, Refused>
+        requires { fault ≡ verdict_of written.tables (named_rows certificate) }
+        ensures { MatchResult result (λ m. (fault ≡ None) × (m ≡ record { written = written; claims = named_rows certificate }))
+            (λ r. (fault ≡ Some r.fault) × (r.written ≡ written)) }
+    {
         no_fault_is_acceptance(written.tables());
-        match verdict(written.tables(), &certificate) {
-            Ok(()) => Ok(Member::new(written, certificate)),
-            Err(fault) => Err(Refused { written, fault }),
+        match fault {
+            None => Ok(Member::new(written, certificate)),
+            Some(fault) => Err(Refused { written, fault }),
         }
     }
 
