@@ -1,3 +1,4 @@
 pub mod Hyphen
 pub mod Reading
 pub mod Simple
+pub mod Tied

@@ -10,7 +10,7 @@ use Rattle.dc_word.specs.declared.format.Format.{Format}
 use Rattle.dc_word.specs.declared.format.Format.TheVariants.{Bnr, Bcd, Disc}
 use Rattle.dc_command.specs.Program.{program_app}
 use Rattle.dc_command.specs.declared.asked.Order.{Order}
-use Rattle.dc_command.specs.declared.asked.Order.TheVariants.{Decode, Check, Find, Report, Margins, Survey, Trace, Replay, Audit, Observe, Bench, Network, Design, Explain}
+use Rattle.dc_command.specs.declared.asked.Order.TheVariants.{Decode, Check, Find, Report, ReportNetwork, Margins, Survey, Trace, Replay, Audit, Observe, Bench, Network, Design, Explain}
 use Rattle.dc_command.specs.declared.explained.When.{When}
 use Rattle.dc_command.specs.declared.explained.When.TheVariants.{Always, Never, Auto}
 use Rattle.dc_command.specs.declared.limits.TheConstants.{LAST_BEGIN, LONGEST_TICK, MOST_DRIFT, MOST_HEADROOM, MOST_TICKS, MOST_WORKERS, SHORTEST_TICK, USUAL_TICKS}
@@ -120,6 +120,7 @@ AsksBy name rows (Find tables) = (name ≡ codes "find") × (first_of (codes "TA
 AsksBy name rows (Report tables certificate drift) =
     (name ≡ codes "report") × (first_of (codes "TABLES") rows ≡ Some tables.now) × (option_map (λ s. s.now) certificate ≡ first_of (codes "CERT") rows)
     × DriftIs (first_of (codes "drift") rows) drift
+AsksBy name rows (ReportNetwork system) = (name ≡ codes "report") × (first_of (codes "network") rows ≡ Some system.now)
 AsksBy name rows (Margins tables certificate microseconds drift) =
     (name ≡ codes "margins") × (first_of (codes "TABLES") rows ≡ Some tables.now) × (option_map (λ s. s.now) certificate ≡ first_of (codes "CERT") rows)
     × IsSet (one_of (codes "us") rows) microseconds × DriftIs (first_of (codes "drift") rows) drift
@@ -137,7 +138,8 @@ AsksBy name rows (Observe tables certificate) =
 AsksBy name rows (Bench tables certificate ticks marks) =
     (name ≡ codes "bench") × (first_of (codes "TABLES") rows ≡ Some tables.now) × (first_of (codes "CERT") rows ≡ Some certificate.now)
     × TicksAre (first_of (codes "ticks") rows) ticks × IsSet (one_of (codes "marks") rows) marks
-AsksBy name rows (Network system) = (name ≡ codes "network") × (first_of (codes "SYSTEM") rows ≡ Some system.now)
+AsksBy name rows (Network system workers) =
+    (name ≡ codes "network") × (first_of (codes "SYSTEM") rows ≡ Some system.now) × AreGiven (first_of (codes "workers") rows) workers
 AsksBy name rows (Design inputs outputs tick headroom police certificate) =
     (name ≡ codes "design") × (first_of (codes "INPUTS") rows ≡ Some inputs.now) × (first_of (codes "OUTPUTS") rows ≡ Some outputs.now)
     × TickIs (first_of (codes "tick") rows) tick × HeadroomIs (first_of (codes "headroom") rows) headroom × IsSet (one_of (codes "police") rows) police
@@ -176,6 +178,7 @@ ExplainsIn words when = (formats : ValueParser) × Explains (subcommand_of (prog
 -- each number is in its range
 abbrev pub IsInRange : Order → Type 0
 IsInRange (Check tables certificate workers) = IfSome workers (λ n. (1 ≤ n) × (n ≤ MOST_WORKERS))
+IsInRange (Network system workers) = IfSome workers (λ n. (1 ≤ n) × (n ≤ MOST_WORKERS))
 IsInRange (Bench tables certificate ticks marks) = (1 ≤ ticks) × (ticks ≤ MOST_TICKS)
 IsInRange (Report tables certificate drift) = IfSome drift (λ n. n ≤ MOST_DRIFT)
 IsInRange (Margins tables certificate microseconds drift) = IfSome drift (λ n. n ≤ MOST_DRIFT)

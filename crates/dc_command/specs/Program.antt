@@ -1,7 +1,8 @@
 -- What clap reads of the commands that there are.
 use Rattle.std.specs.Prelude.{◌≡◌, Some, true, false, codes, pos}
-use Rattle.clap.specs.Words.{App, Rule, Text, app_of, new_app, new_rule, with_rule, with_subcommand}
+use Rattle.clap.specs.Words.{App, Rule, Text, app_of, new_app, new_rule, rule_of, with_rule, with_subcommand}
 use Rattle.clap.specs.Simple.{on_top}
+use Rattle.clap.specs.declared.builder.arg.Arg.{Arg}
 use Rattle.clap.specs.declared.builder.command.Command.{Command}
 use Rattle.clap.specs.declared.builder.command.Command.TheViews.{out-Command}
 use Rattle.clap.specs.declared.builder.action.ArgAction.TheVariants.{SetTrue}
@@ -113,17 +114,29 @@ check_app = with_rule (certificate_app (codes "check")) workers_rule
 abbrev pub bench_app : App
 bench_app = with_rule (with_rule (certificate_app (codes "bench")) ticks_rule) marks_rule
 
--- a command that reads tables, and a certificate where one is given
-abbrev pub optional_app : Text → App
-optional_app name = with_rule (tables_app name) (new_rule (codes "CERT"))
+-- a certificate that need not be given
+abbrev pub some_certificate_rule : Rule
+some_certificate_rule = new_rule (codes "CERT")
 
--- `report`, which may be told a drift
+-- an argument on which clap has a rule by other arguments
+abbrev pub tied_rule : Rule → Rule
+tied_rule rule = record rule { is_free = false }
+
+-- the tables of `report`, which are wanted where no network is said
+abbrev pub reported_tables_rule : Rule
+reported_tables_rule = tied_rule (new_rule (codes "TABLES"))
+
+-- `--network`
+abbrev pub network_rule : Rule
+network_rule = record (new_rule (codes "network")) { long = Some (codes "network"); value_names = 1 }
+
+-- `report`, which reads tables, and a certificate where one is given, and may be told a drift; or reads the text of a system
 abbrev pub report_app : App
-report_app = with_rule (optional_app (codes "report")) drift_rule
+report_app = with_rule (with_rule (with_rule (explaining_app (codes "report") reported_tables_rule) some_certificate_rule) drift_rule) (tied_rule network_rule)
 
--- `margins`, which may be told to tell microseconds, and a drift
+-- `margins`, which reads tables, and a certificate where one is given, and may be told to tell microseconds, and a drift
 abbrev pub margins_app : App
-margins_app = with_rule (with_rule (optional_app (codes "margins")) us_rule) drift_rule
+margins_app = with_rule (with_rule (with_rule (tables_app (codes "margins")) some_certificate_rule) us_rule) drift_rule
 
 -- `trace`, which reads tables and may be told when tick 0 begins
 abbrev pub trace_app : App
@@ -137,9 +150,9 @@ replay_app = with_rule (with_rule (tables_app (codes "replay")) all_rule) long_r
 abbrev pub audit_app : App
 audit_app = with_rule (certificate_app (codes "audit")) long_rule
 
--- `network`, which reads the text of a system
+-- `network`, which reads the text of a system and may be told how many workers
 abbrev pub network_app : App
-network_app = explaining_app (codes "network") (file_rule (codes "SYSTEM"))
+network_app = with_rule (explaining_app (codes "network") (file_rule (codes "SYSTEM"))) workers_rule
 
 -- a command that reads two sheets
 abbrev pub sheets_app : App
@@ -163,6 +176,10 @@ program_app formats =
     with_subcommand (with_subcommand (with_subcommand (with_subcommand (with_subcommand (with_subcommand (with_subcommand (with_subcommand (with_subcommand (with_subcommand (with_subcommand (with_subcommand (with_subcommand (with_subcommand
     bare_app (decode_app formats).top) check_app.top) (tables_app (codes "find")).top) (tables_app (codes "survey")).top) trace_app.top) replay_app.top) audit_app.top) (certificate_app (codes "observe")).top) bench_app.top)
     network_app.top) report_app.top) margins_app.top) design_app.top) explain_app.top
+
+-- clap reads this of an argument, which is not global
+abbrev pub IsReadOf : Rule → Arg → Type 0
+IsReadOf rule a = (rule_of a ≡ rule) × (a.global ≡ false)
 
 -- clap reads this of a command, none of whose arguments is global
 abbrev pub IsRead : App → Command → Type 0

@@ -38,7 +38,8 @@ pub(crate) const AFTER_REPORT: &str =
     "Example: dc429 report tables.toml certificate.json > report.html
 
 A file named - is standard input, which only one of the two can be; one of that
-name is ./-
+name is ./-. With --network SYSTEM the system's files are taken as network takes
+them: dc429 report --network system.toml > network.html
 
 Exit status:
   0  accepted
@@ -140,7 +141,7 @@ Exit status:
   0  accepted
   1  refused
   2  a text that can't be read, or a wrong command line
-  3  a file, a device or memory was not to be had";
+  3  a file, a device, memory or a thread was not to be had";
 
 /// Behind the options of `design`.
 pub(crate) const AFTER_DESIGN: &str = "Example: dc429 design inputs.csv outputs.csv > tables.toml

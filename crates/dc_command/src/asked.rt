@@ -46,6 +46,11 @@ pub enum Order<'a> {
         /// The drift of clocks, in millionths, 0 to [`MOST_DRIFT`](crate::MOST_DRIFT), where one is said.
         drift: Option<u16>,
     },
+    /// Report on the network of certified concentrators that a text of a system says.
+    ReportNetwork {
+        /// The path of the text of the system.
+        system: &'a str,
+    },
     /// Tell the margins of the certificate in a file, or of the least one, for the tables in another.
     Margins {
         /// The path of the tables.
@@ -109,6 +114,8 @@ pub enum Order<'a> {
     Network {
         /// The path of the text of the system.
         system: &'a str,
+        /// By how many workers each certificate is judged, 1 to [`MOST_WORKERS`](crate::MOST_WORKERS), where that is said.
+        workers: Option<u8>,
     },
     /// Design tables for the two sheets of an interface document.
     Design {
@@ -217,7 +224,7 @@ fn ticks_in(matches: &ArgMatches<'_>) -> Result<u16, OutOfRange>
     }
 }
 
-/// The number of workers that the matches of `check` say.
+/// The number of workers that the matches of `check` or `network` say.
 fn workers_in(matches: &ArgMatches<'_>) -> Result<Option<u8>, OutOfRange>
     ensures { MatchResult result (AreGiven (first_value (found_of matches.now) (codes "workers")))
         (λ _. IfSome (first_value (found_of matches.now) (codes "workers")) IsNoCount) }
@@ -323,8 +330,8 @@ fn find_in<'a>(matches: &ArgMatches<'a>) -> Option<Order<'a>>
     Some(Order::Find { tables })
 }
 
-/// What the matches of `report` ask.
-fn report_in<'a>(matches: &ArgMatches<'a>) -> Option<Order<'a>>
+/// What the matches of `report` ask of tables.
+fn tables_report_in<'a>(matches: &ArgMatches<'a>) -> Option<Order<'a>>
     ensures { IfSome result (AsksBy (codes "report") (rows_of (found_of matches.now))) }
 {
     let tables = matches.get_str("TABLES")?;
@@ -336,6 +343,16 @@ fn report_in<'a>(matches: &ArgMatches<'a>) -> Option<Order<'a>>
             drift,
         }),
         Err(_) => None,
+    }
+}
+
+/// What the matches of `report` ask.
+fn report_in<'a>(matches: &ArgMatches<'a>) -> Option<Order<'a>>
+    ensures { IfSome result (AsksBy (codes "report") (rows_of (found_of matches.now))) }
+{
+    match matches.get_str("network") {
+        Some(system) => Some(Order::ReportNetwork { system }),
+        None => tables_report_in(matches),
     }
 }
 
@@ -435,7 +452,10 @@ fn network_in<'a>(matches: &ArgMatches<'a>) -> Option<Order<'a>>
     ensures { IfSome result (AsksBy (codes "network") (rows_of (found_of matches.now))) }
 {
     let system = matches.get_str("SYSTEM")?;
-    Some(Order::Network { system })
+    match workers_in(matches) {
+        Ok(workers) => Some(Order::Network { system, workers }),
+        Err(_) => None,
+    }
 }
 
 /// What the matches of `design` ask.

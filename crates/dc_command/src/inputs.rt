@@ -51,9 +51,11 @@ pub(crate) fn refuse_second_input(order: &Order<'_>) -> Result<(), &'static str>
     ensures { MatchResult result (λ _. HasOneInput order.now) (λ _. HasOneInput order.now → ⊥) }
 {
     match *order {
-        Order::Decode(_) | Order::Find { .. } | Order::Network { .. } | Order::Explain { .. } => {
-            Ok(())
-        }
+        Order::Decode(_)
+        | Order::Find { .. }
+        | Order::Network { .. }
+        | Order::ReportNetwork { .. }
+        | Order::Explain { .. } => Ok(()),
         Order::Check {
             tables,
             certificate,

@@ -1,7 +1,7 @@
 //! The commands that there are, with their arguments and what is said of them.
 ghost use Rattle.std.specs.Prelude.{◌≡◌, false, codes, IfOk};
 ghost use Rattle.clap.specs.Words.{App, Rule, new_app, new_rule, rule_of, with_rule, with_subcommand};
-ghost use Rattle.dc_command.specs.Program.{IsDecode, IsProgram, IsRead, audit_app, bare_app, bench_app, certificate_app, certificate_rule, check_app, design_app, drift_rule, explain_app, explain_rule, file_rule, flag_rule, from_rule, headroom_rule, margins_app, network_app, optional_app, replay_app, report_app, sheets_app, tables_app, tick_rule, ticks_rule, trace_app, workers_rule};
+ghost use Rattle.dc_command.specs.Program.{IsDecode, IsProgram, IsRead, IsReadOf, audit_app, bare_app, bench_app, certificate_app, certificate_rule, check_app, design_app, drift_rule, explain_app, explain_rule, file_rule, flag_rule, from_rule, headroom_rule, margins_app, network_app, network_rule, replay_app, report_app, reported_tables_rule, sheets_app, some_certificate_rule, tables_app, tick_rule, ticks_rule, tied_rule, trace_app, workers_rule};
 
 use crate::after::{
     AFTER_AUDIT, AFTER_BENCH, AFTER_CHECK, AFTER_DECODE, AFTER_DESIGN, AFTER_EXPLAIN, AFTER_FIND,
@@ -109,21 +109,16 @@ fn on_certificate<'a>(
     with_argument(on_tables, file(alloc, "CERT", "The certificate, in JSON"))
 }
 
-/// A subcommand that reads tables, and a certificate where one is given.
-fn on_some_certificate<'a>(
-    alloc: Global,
-    name: &'a str,
-    about: &'a str,
-    after: &'a str,
-) -> Result<Command<'a>, Error>
-    ensures { IfOk result (IsRead (optional_app name.entry.now)) }
+/// A certificate that need not be given.
+fn some_certificate<'a>(alloc: Global) -> Arg<'a>
+    ensures rule { rule_of result ≡ some_certificate_rule }
+    ensures local { result.global ≡ false }
 {
-    let certificate = optional(
+    optional(
         alloc,
         "CERT",
         "The certificate, in JSON; without it the least one is taken",
-    );
-    with_argument(on_tables(alloc, name, about, after), certificate)
+    )
 }
 
 /// The command `decode`.
@@ -195,17 +190,49 @@ fn drift<'a>(alloc: Global) -> Arg<'a>
         .value_parser(value_parser!(u16).range(0..=i64::from(MOST_DRIFT)))
 }
 
+/// The tables of `report`, which are wanted where no network is said.
+fn reported_tables<'a>(alloc: Global) -> Result<Arg<'a>, Error>
+    ensures { IfOk result (IsReadOf reported_tables_rule) }
+{
+    Ok(optional(alloc, "TABLES", "The tables, in TOML").required_unless_present("network")?)
+}
+
+/// The option `--network`.
+fn reported<'a>(alloc: Global) -> Arg<'a>
+    ensures rule { rule_of result ≡ network_rule }
+    ensures local { result.global ≡ false }
+{
+    Arg::new(alloc, "network")
+        .long("network")
+        .value_name("SYSTEM")
+        .help("Reports on this system's network, in place of TABLES")
+}
+
+/// The option `--network`, beside which nothing else stands that `report` reads.
+fn reported_alone<'a>(alloc: Global) -> Result<Arg<'a>, Error>
+    ensures { IfOk result (IsReadOf (tied_rule network_rule)) }
+{
+    let no_tables = reported(alloc).conflicts_with("TABLES")?;
+    let no_certificate = no_tables.conflicts_with("CERT")?;
+    Ok(no_certificate.conflicts_with("drift")?)
+}
+
 /// The command `report`.
 fn report<'a>(alloc: Global) -> Result<Command<'a>, Error>
     ensures { IfOk result (IsRead report_app) }
 {
-    let report = on_some_certificate(
+    let tables = reported_tables(alloc)?;
+    let network = reported_alone(alloc)?;
+    let report = named(
         alloc,
         "report",
         "Writes a page of HTML: why a certificate is accepted or refused",
         AFTER_REPORT,
     );
-    with_argument(report, drift(alloc))
+    let explaining = with_argument(Ok(report), explained(alloc));
+    let reading = with_argument(explaining, tables);
+    let certified = with_argument(reading, some_certificate(alloc));
+    with_argument(with_argument(certified, drift(alloc)), network)
 }
 
 /// The command `margins`.
@@ -217,13 +244,14 @@ fn margins<'a>(alloc: Global) -> Result<Command<'a>, Error>
         "us",
         "Tells margins that count ticks in microseconds too",
     );
-    let margins = on_some_certificate(
+    let margins = on_tables(
         alloc,
         "margins",
         "Judges a certificate, and how far each condition is from failing",
         AFTER_MARGINS,
     );
-    with_argument(with_argument(margins, us), drift(alloc))
+    let certified = with_argument(margins, some_certificate(alloc));
+    with_argument(with_argument(certified, us), drift(alloc))
 }
 
 /// The command `survey`.
@@ -353,7 +381,8 @@ fn network<'a>(alloc: Global) -> Result<Command<'a>, Error>
         AFTER_NETWORK,
     );
     let explaining = with_argument(Ok(network), explained(alloc));
-    with_argument(explaining, file(alloc, "SYSTEM", "The system, in TOML"))
+    let reading = with_argument(explaining, file(alloc, "SYSTEM", "The system, in TOML"));
+    with_argument(reading, workers(alloc))
 }
 
 /// The option `--tick`.
