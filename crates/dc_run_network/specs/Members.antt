@@ -15,7 +15,7 @@ use Rattle.dc_ways.specs.Members.{MemberRows, concentrator}
 use Rattle.dc_run_network.specs.Lines.{at_text, no_row}
 use Rattle.dc_run_network.specs.Paths.{path_of}
 use Rattle.dc_run_network.specs.declared.members.Halt.{Halt}
-use Rattle.dc_run_network.specs.declared.members.Halt.TheVariants.{Told, NoFile, Memory}
+use Rattle.dc_run_network.specs.declared.members.Halt.TheVariants.{Told, NoFile, Memory, Threads}
 
 -- what the files hold, by their names, where it is known
 abbrev pub Holds : Type 0
@@ -34,12 +34,14 @@ abbrev pub AnswersHalt : (tables certificate line : List ℕ) → Halt → Type 
 AnswersHalt tables certificate line (Told outcome) = AnswersCheck tables certificate (one_line line outcome)
 AnswersHalt tables certificate line NoFile = Unit {0}
 AnswersHalt tables certificate line Memory = Unit {0}
+AnswersHalt tables certificate line Threads = Unit {0}
 
 -- what is known of the line whatever the texts are: it is no yes; or it tells of a file that was not to be had
 abbrev pub IsSaid : (line : List ℕ) → Halt → Type 0
 IsSaid line (Told outcome) = outcome ≢ Done
 IsSaid line NoFile = line ≡ codes "failed device"
 IsSaid line Memory = Unit {0}
+IsSaid line Threads = Unit {0}
 
 -- what was read of the text of tables; where that can't be read, the line says so, whatever the certificate is
 abbrev pub ReadsTables : (tables line : List ℕ) → Result WrittenRows Halt → Type 0
@@ -66,17 +68,19 @@ pub record TellsHalt (holds : Holds) (folder : List ℕ) (c : ConcentratorRow) (
   pub said : IsSaid line halt
   pub answers : OfTexts holds folder c (λ tables certificate. AnswersHalt tables certificate line halt)
 
--- what was told of it behind its name, where this line was to be told, or for want of memory nothing
+-- what was told of it behind its name, where this line was to be told, or for want of memory or of a thread nothing
 abbrev pub TellsBehind : (name line page : List ℕ) → Halt → Halt → Type 0
 TellsBehind name line page halt Memory = Unit {0}
+TellsBehind name line page halt Threads = Unit {0}
 TellsBehind name line page halt (Told outcome) = (page ≡ at_text name line) × (halt ≡ Told outcome)
 TellsBehind name line page halt NoFile = (page ≡ at_text name line) × (halt ≡ NoFile)
 
--- the same; of want of memory nothing is told
+-- the same; of want of memory or of a thread nothing is told
 abbrev pub IsHaltAt : Holds → (folder : List ℕ) → ConcentratorRow → (page : List ℕ) → Halt → Type 0
 IsHaltAt holds folder c page (Told outcome) = TellsHalt holds folder c page (Told outcome)
 IsHaltAt holds folder c page NoFile = TellsHalt holds folder c page NoFile
 IsHaltAt holds folder c page Memory = Unit {0}
+IsHaltAt holds folder c page Threads = Unit {0}
 
 -- ---- all of them
 
@@ -101,8 +105,9 @@ pub record HaltsFirst (holds : Holds) (folder : List ℕ) (cs : List Concentrato
   pub before : AreMembersTo holds folder cs members index
   pub told : IsHaltAt holds folder (row_at cs index) page halt
 
--- the same; of want of memory nothing is told
+-- the same; of want of memory or of a thread nothing is told
 abbrev pub Halts : Holds → (folder : List ℕ) → List ConcentratorRow → (page : List ℕ) → Halt → Type 0
 Halts holds folder cs page (Told outcome) = HaltsFirst holds folder cs page (Told outcome)
 Halts holds folder cs page NoFile = HaltsFirst holds folder cs page NoFile
 Halts holds folder cs page Memory = Unit {0}
+Halts holds folder cs page Threads = Unit {0}

@@ -1,8 +1,9 @@
 //! The concentrators of a system: their files are opened, read and judged.
-ghost use Rattle.std.specs.Prelude.{◌≡◌, ℕ, List, IfErr, IfOk, IfSome, MatchResult, Ok, Some};
+ghost use Rattle.std.specs.Prelude.{◌≡◌, ◌≢◌, ℕ, List, IfErr, IfOk, IfSome, MatchResult, Ok, Some};
 ghost use Rattle.dc_cert.specs.NamedRows.{named_rows};
 ghost use Rattle.dc_cert.specs.Reading.{certificate_of};
 ghost use Rattle.dc_build.specs.Reported.{AreWrittenBy};
+ghost use Rattle.dc_check.specs.Verdict.{verdict_of};
 ghost use Rattle.dc_device.specs.States.{IsCountable};
 ghost use Rattle.dc_toml.specs.Reading.{tables_of};
 ghost use Rattle.dc_run_network.specs.Members.{AnswersHalt, AreMembers, Halts, IsHaltAt, IsMemberAt, IsMemberOf, IsSaid, OfTexts, ReadsCertificate, ReadsTables, TellsBehind};
@@ -11,9 +12,11 @@ ghost use Rattle.dc_run_network.specs.Paths.{path_of};
 use crate::lines::tell_at;
 use crate::paths::path_of;
 use crate::shelf::Shelf;
+use crate::verdicts::{Undecided, Verdicts};
 use dc_answer::{Failure, Outcome, Page, Unloaded, load_certificate, load_written};
 use dc_build::WrittenTables;
 use dc_cert::Certificate;
+use dc_check::CheckFault;
 use dc_device::Source;
 use dc_document::Name;
 use dc_print::{Text, append, print_cert_fault, print_refused, print_table_fault};
@@ -30,12 +33,15 @@ pub enum Halt {
     NoFile,
     /// Memory was refused.
     Memory,
+    /// No thread could be started.
+    Threads,
 }
 
 /// What ends where a file failed, and its line.
 fn halt_by(failure: Failure, line: &mut Text) -> Halt
     ensures said { IsSaid line.new.items result }
     ensures untold { (tables certificate : List ℕ) → AnswersHalt tables certificate line.new.items result }
+    ensures threads { result ≢ Halt.Threads }
 {
     match failure {
         Failure::Memory => Halt::Memory,
@@ -56,6 +62,7 @@ fn read_tables<S: Source>(
     requires { IsCountable (S.state source.old) }
     ensures said { IfErr result (IsSaid line.new.items) }
     ensures read { IfSome (S.state source.old).remaining (λ tables. ReadsTables tables line.new.items result) }
+    ensures threads { IfErr result (λ halt. halt ≢ Halt.Threads) }
 {
     match load_written(alloc, source) {
         Ok(written) => Ok(written),
@@ -76,6 +83,7 @@ fn read_certificate<S: Source>(
     requires { IsCountable (S.state source.old) }
     ensures said { IfErr result (IsSaid line.new.items) }
     ensures read { IfSome (S.state source.old).remaining (λ certificate. ReadsCertificate certificate line.new.items result) }
+    ensures threads { IfErr result (λ halt. halt ≢ Halt.Threads) }
 {
     match load_certificate(alloc, source) {
         Ok(certificate) => Ok(certificate),
@@ -87,13 +95,20 @@ fn read_certificate<S: Source>(
     }
 }
 
-/// Judges the certificate of a concentrator.
-fn judge(written: WrittenTables, certificate: Certificate, line: &mut Text) -> Result<Member, Halt>
+/// The concentrator of tables and a certificate of which this is the verdict.
+fn judged(
+    written: WrittenTables,
+    certificate: Certificate,
+    fault: Option<CheckFault>,
+    line: &mut Text,
+) -> Result<Member, Halt>
+    requires { fault ≡ verdict_of written.tables (named_rows certificate) }
     ensures said { IfErr result (IsSaid line.new.items) }
     ensures judged { (rows text : List ℕ) → AreWrittenBy (tables_of rows) written → certificate_of text ≡ Ok (named_rows certificate)
         → MatchResult result (IsMemberOf rows text) (AnswersHalt rows text line.new.items) }
+    ensures threads { IfErr result (λ halt. halt ≢ Halt.Threads) }
 {
-    match Member::judge(written, certificate) {
+    match Member::of_verdict(written, certificate, fault) {
         Ok(member) => {
             member.judged();
             Ok(member)
@@ -105,39 +120,65 @@ fn judge(written: WrittenTables, certificate: Certificate, line: &mut Text) -> R
     }
 }
 
+/// Judges the certificate of a concentrator.
+fn judge<J: Verdicts>(
+    verdicts: &J,
+    written: WrittenTables,
+    certificate: Certificate,
+    line: &mut Text,
+) -> Result<Member, Halt>
+    requires { J.may_judge verdicts.now }
+    ensures said { IfErr result (IsSaid line.new.items) }
+    ensures judged { (rows text : List ℕ) → AreWrittenBy (tables_of rows) written → certificate_of text ≡ Ok (named_rows certificate)
+        → MatchResult result (IsMemberOf rows text) (AnswersHalt rows text line.new.items) }
+    ensures threads { IfErr result (λ halt. halt ≡ Halt.Threads → J.starts_threads verdicts.now) }
+{
+    match verdicts.verdict(written.tables(), &certificate) {
+        Ok(fault) => judged(written, certificate, fault, line),
+        Err(Undecided::Memory) => Err(Halt::Memory),
+        Err(Undecided::Threads) => Err(Halt::Threads),
+    }
+}
+
 /// The concentrator of tables and of the text of a certificate.
-fn read_behind<C: Source>(
+fn read_behind<J: Verdicts, C: Source>(
     alloc: Global,
+    verdicts: &J,
     written: WrittenTables,
     certificate: &mut C,
     line: &mut Text,
 ) -> Result<Member, Halt>
-    requires { IsCountable (C.state certificate.old) }
+    requires may { J.may_judge verdicts.now }
+    requires certificate { IsCountable (C.state certificate.old) }
     ensures said { IfErr result (IsSaid line.new.items) }
     ensures judged { (rows text : List ℕ) → AreWrittenBy (tables_of rows) written → (C.state certificate.old).remaining ≡ Some text
         → MatchResult result (IsMemberOf rows text) (AnswersHalt rows text line.new.items) }
+    ensures threads { IfErr result (λ halt. halt ≡ Halt.Threads → J.starts_threads verdicts.now) }
 {
     match read_certificate(alloc, certificate, line) {
-        Ok(certificate) => judge(written, certificate, line),
+        Ok(certificate) => judge(verdicts, written, certificate, line),
         Err(halt) => Err(halt),
     }
 }
 
 /// The concentrator of two texts.
-fn read_both<T: Source, C: Source>(
+fn read_both<J: Verdicts, T: Source, C: Source>(
     alloc: Global,
+    verdicts: &J,
     tables: &mut T,
     certificate: &mut C,
     line: &mut Text,
 ) -> Result<Member, Halt>
+    requires may { J.may_judge verdicts.now }
     requires tables { IsCountable (T.state tables.old) }
     requires certificate { IsCountable (C.state certificate.old) }
     ensures said { IfErr result (IsSaid line.new.items) }
     ensures judged { (rows text : List ℕ) → (T.state tables.old).remaining ≡ Some rows → (C.state certificate.old).remaining ≡ Some text
         → MatchResult result (IsMemberOf rows text) (AnswersHalt rows text line.new.items) }
+    ensures threads { IfErr result (λ halt. halt ≡ Halt.Threads → J.starts_threads verdicts.now) }
 {
     match read_tables(alloc, tables, line) {
-        Ok(written) => read_behind(alloc, written, certificate, line),
+        Ok(written) => read_behind(alloc, verdicts, written, certificate, line),
         Err(halt) => Err(halt),
     }
 }
@@ -179,22 +220,25 @@ fn open_both<F: Shelf>(
 }
 
 /// The concentrator of its files; where it is none, its line.
-fn read_one<F: Shelf>(
+fn read_one<J: Verdicts, F: Shelf>(
     alloc: Global,
+    verdicts: &J,
     shelf: &mut F,
     folder: &str,
     concentrator: &ConcentratorText,
     line: &mut Text,
 ) -> Result<Member, Halt>
+    requires { J.may_judge verdicts.now }
     ensures same { F.holds shelf.new ≡ F.holds shelf.old }
     ensures keeps { F.keeps shelf.old shelf.new }
     ensures said { IfErr result (IsSaid line.new.items) }
     ensures judged { OfTexts (F.holds shelf.old) folder.now concentrator.now
         (λ rows text. MatchResult result (IsMemberOf rows text) (AnswersHalt rows text line.new.items)) }
+    ensures threads { IfErr result (λ halt. halt ≡ Halt.Threads → J.starts_threads verdicts.now) }
 {
     match open_both(alloc, shelf, folder, concentrator) {
         Ok((mut tables, mut certificate)) => {
-            read_both(alloc, &mut tables, &mut certificate, line)
+            read_both(alloc, verdicts, &mut tables, &mut certificate, line)
         }
         Err(failure) => Err(halt_by(failure, line)),
     }
@@ -202,10 +246,12 @@ fn read_one<F: Shelf>(
 
 /// Makes the page the line of a concentrator that is not accepted, behind its name.
 fn tell_halt(page: &mut Page, name: Name, line: &Text, halt: Halt) -> Halt
-    ensures { TellsBehind name line.now.items page.new halt result }
+    ensures told { TellsBehind name line.now.items page.new halt result }
+    ensures threads { result ≡ Halt.Threads → halt ≡ Halt.Threads }
 {
     match halt {
         Halt::Memory => Halt::Memory,
+        Halt::Threads => Halt::Threads,
         _ => match tell_at(page, name, line.as_slice()) {
             Ok(()) => halt,
             Err(_) => Halt::Memory,
@@ -214,19 +260,22 @@ fn tell_halt(page: &mut Page, name: Name, line: &Text, halt: Halt) -> Halt
 }
 
 /// The concentrator of its files; where it is none, the page is its line.
-fn member_of<F: Shelf>(
+fn member_of<J: Verdicts, F: Shelf>(
     alloc: Global,
+    verdicts: &J,
     shelf: &mut F,
     folder: &str,
     concentrator: &ConcentratorText,
     page: &mut Page,
 ) -> Result<Member, Halt>
+    requires { J.may_judge verdicts.now }
     ensures same { F.holds shelf.new ≡ F.holds shelf.old }
     ensures keeps { F.keeps shelf.old shelf.new }
     ensures judged { MatchResult result (IsMemberAt (F.holds shelf.old) folder.now concentrator.now) (IsHaltAt (F.holds shelf.old) folder.now concentrator.now page.new) }
+    ensures threads { IfErr result (λ halt. halt ≡ Halt.Threads → J.starts_threads verdicts.now) }
 {
     let mut line = Text::new();
-    match read_one(alloc, shelf, folder, concentrator, &mut line) {
+    match read_one(alloc, verdicts, shelf, folder, concentrator, &mut line) {
         Ok(member) => Ok(member),
         Err(halt) => Err(tell_halt(page, concentrator.name(), &line, halt)),
     }
@@ -235,21 +284,24 @@ fn member_of<F: Shelf>(
 /// The concentrators of a system, in order; where one of them is not accepted, the page is the line of the first.
 ///
 /// # Errors
-/// What that ends with; `Memory` where memory was refused.
-pub(crate) fn members_of<F: Shelf>(
+/// What that ends with; `Memory` where memory was refused, `Threads` where no thread could be started.
+pub(crate) fn members_of<J: Verdicts, F: Shelf>(
     alloc: Global,
+    verdicts: &J,
     shelf: &mut F,
     folder: &str,
     concentrators: &[ConcentratorText],
     page: &mut Page,
 ) -> Result<Vec<Member>, Halt>
+    requires { J.may_judge verdicts.now }
     ensures keeps { F.keeps shelf.old shelf.new }
     ensures judged { MatchResult result (λ v. AreMembers (F.holds shelf.old) folder.now concentrators.now v.items)
         (Halts (F.holds shelf.old) folder.now concentrators.now page.new) }
+    ensures threads { IfErr result (λ halt. halt ≡ Halt.Threads → J.starts_threads verdicts.now) }
 {
     let mut members = Vec::new(alloc);
     for concentrator in concentrators {
-        match member_of(alloc, shelf, folder, concentrator, page) {
+        match member_of(alloc, verdicts, shelf, folder, concentrator, page) {
             Ok(member) => match members.push(member) {
                 Ok(()) => {}
                 Err(_) => return Err(Halt::Memory),

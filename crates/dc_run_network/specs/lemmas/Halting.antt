@@ -26,7 +26,7 @@ use Rattle.dc_ways.specs.Members.{MemberRows, concentrator, no_member}
 use Rattle.dc_run_network.specs.Lines.{at_text}
 use Rattle.dc_run_network.specs.Members.{AnswersHalt, AreMembersTo, HaltsFirst, Halts, Holds, IsHaltAt, IsMemberAt, IsSaid, OfTexts, ReadsCertificate, ReadsTables, TellsBehind, row_at}
 use Rattle.dc_run_network.specs.declared.members.Halt.{Halt}
-use Rattle.dc_run_network.specs.declared.members.Halt.TheVariants.{Told, NoFile, Memory}
+use Rattle.dc_run_network.specs.declared.members.Halt.TheVariants.{Told, NoFile, Memory, Threads}
 
 -- ---- what `check` answers
 
@@ -93,6 +93,7 @@ halt-told holds folder c name line page halt NoFile named (behind, is) said answ
   answers = λ rows text one two. subst (AnswersHalt rows text line) is (answers rows text one two);
 }
 halt-told holds folder c name line page halt Memory named tells said answers = tt
+halt-told holds folder c name line page halt Threads named tells said answers = tt
 
 -- ---- one more
 
@@ -118,3 +119,4 @@ pub halts-here : (holds : Holds) (folder : List ℕ) (cs : List ConcentratorRow)
 halts-here holds folder cs members n page (Told outcome) there before told = record { index = n; there = there; members = members; before = before; told = told }
 halts-here holds folder cs members n page NoFile there before told = record { index = n; there = there; members = members; before = before; told = told }
 halts-here holds folder cs members n page Memory there before told = tt
+halts-here holds folder cs members n page Threads there before told = tt

@@ -13,13 +13,13 @@ use Rattle.dc_tables.specs.TableRows.{TableRows}
 use Rattle.dc_toml.specs.Reading.{tables_of}
 use Rattle.dc_ways.specs.Members.{MemberRows}
 use Rattle.dc_run_network.specs.lemmas.Halting.{refused-answer}
-use Rattle.dc_run_network.proofs.members.judge.Goals as goal
+use Rattle.dc_run_network.proofs.members.judged.Goals as goal
 
 pub print_refused-requires : goal.print_refused-requires
 print_refused-requires c =
     let P : TableRows → Type 0 = λ t. IsPlaced t c.in-Err.refused.fault in
     let (refused, same) = c.in-Err.ensures in
-    subst P (sym (c.tables.ensures ∙ ap (λ (w : WrittenRows). w.tables) same)) (verdict_placed c.args.written.tables (named_rows c.args.certificate) c.in-Err.refused.fault refused)
+    subst P (sym (c.tables.ensures ∙ ap (λ (w : WrittenRows). w.tables) same)) (verdict_placed c.args.written.tables (named_rows c.args.certificate) c.in-Err.refused.fault (sym c.requires ∙ refused))
 
 pub returns-in-Ok-clause-judged : goal.returns-in-Ok-clause-judged
 returns-in-Ok-clause-judged c = λ rows text are read.
@@ -36,4 +36,4 @@ returns-in-Err-clause-judged c = λ rows text are read.
     let (refused, same) = c.in-Err.ensures in
     let P : List ℕ → Type 0 = λ l. AnswersCheck rows text (one_line l WasRefused) in
     subst P (sym (c.print_refused.ensures ∙ ap (λ (t : TableRows). refused_text t c.in-Err.refused.fault) (c.tables.ensures ∙ ap (λ (w : WrittenRows). w.tables) same)))
-    (refused-answer rows text c.args.written (named_rows c.args.certificate) c.in-Err.refused.fault are read refused)
+    (refused-answer rows text c.args.written (named_rows c.args.certificate) c.in-Err.refused.fault are read (sym c.requires ∙ refused))
