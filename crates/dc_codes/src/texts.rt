@@ -54,9 +54,9 @@ memory was refused
 give the process more memory
 
 threads
-a thread that `check --workers` or `bench` needs could not be started
+a thread that `check --workers`, `network --workers` or `bench` needs could not be started
 `check --workers 64` with 64 mebibytes of memory, which hold no 64 stacks
-fewer workers, or a higher limit of threads. Without `--workers` the verdict of `check` is the same and needs none";
+fewer workers, or a higher limit of threads. Without `--workers` the verdict is the same and needs none";
 
 /// Of the faults of tables.
 const TABLE: &str = "\

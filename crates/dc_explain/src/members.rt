@@ -124,7 +124,7 @@ fn explain_named(
 
 /// Explains the line of a concentrator of a network: what stands behind its name is a line of `check`.
 pub(crate) fn explain_member(alloc: Global, ran: &Ran<'_>, answer: Answer<'_>) -> Option<String> {
-    let Order::Network { system } = ran.order else {
+    let Some(system) = ran.system() else {
         return None;
     };
     let line = answer.behind(2);

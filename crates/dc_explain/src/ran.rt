@@ -55,7 +55,7 @@ impl<'a> Ran<'a> {
     pub(crate) fn names(&self) -> (&'a str, &'a str) {
         match self.order {
             Order::Decode(_) | Order::Explain { .. } => ("", ""),
-            Order::Network { system } => (told(system), ""),
+            Order::Network { system, .. } | Order::ReportNetwork { system } => (told(system), ""),
             Order::Find { tables, .. }
             | Order::Survey { tables }
             | Order::Trace { tables, .. }
@@ -94,6 +94,14 @@ impl<'a> Ran<'a> {
                 outputs,
                 ..
             } => (told(inputs), told(outputs)),
+        }
+    }
+
+    /// The text of the system of the network that it was to judge or to report on, as the command line names it.
+    pub(crate) fn system(&self) -> Option<&'a str> {
+        match self.order {
+            Order::Network { system, .. } | Order::ReportNetwork { system } => Some(system),
+            _ => None,
         }
     }
 
@@ -155,9 +163,9 @@ fn is_design(ran: &Ran<'_>) -> bool {
     matches!(ran.order, Order::Design { .. })
 }
 
-/// Whether it was to judge a network.
+/// Whether it was to judge a network, or to report on one.
 fn is_network(ran: &Ran<'_>) -> bool {
-    matches!(ran.order, Order::Network { .. })
+    ran.system().is_some()
 }
 
 /// Whether a line says that a file of a concentrator was not to be had.
