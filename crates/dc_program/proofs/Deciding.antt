@@ -96,4 +96,5 @@ carried_decides (Observe tables certificate) w w' input input' sink sink' exit h
 carried_decides (Bench tables certificate ticks marks) w w' input input' sink sink' exit h = tt
 carried_decides (Design inputs outputs tick headroom police certificate) w w' input input' sink sink' exit h = tt
 carried_decides (Explain code) w w' input input' sink sink' exit h = tt
-carried_decides (Network system) w w' input input' sink sink' exit h = tt
+carried_decides (Network system workers) w w' input input' sink sink' exit h = tt
+carried_decides (ReportNetwork system) w w' input input' sink sink' exit h = tt

@@ -7,7 +7,7 @@ use Rattle.dc_answer.specs.Answer.{Any, Reported}
 use Rattle.dc_answer.specs.Judging.{Leaves}
 use Rattle.dc_answer.specs.declared.exit.Exit.TheVariants.{Done, Failed}
 use Rattle.dc_run_design.specs.Design.{ReportsDesign}
-use Rattle.dc_run_network.specs.Answer.{ReportsNetwork}
+use Rattle.dc_run_network.specs.Answer.{ReportsNetwork, Saying}
 use Rattle.dc_run_network.specs.Paths.{folder_of}
 use Rattle.dc_program.specs.Carries.{Carries, Judges, Makes, Saves}
 use Rattle.dc_program.specs.Opening.{AreNotOpened, AreOpened, AreOpenedFor, TellsFailure, failure_of}
@@ -109,17 +109,17 @@ made inputs outputs certificate w w1 w' input sink mid sink' failed text ended e
   saves = saves;
 }
 
--- the text of a system was opened, and the engine ran over it and what it names
-pub network_judged : (system : List ℕ) (w mid w' : WorldState) (held : List ℕ → Option (List ℕ)) (s input : SourceState) (sink sink' : SinkState) (exit : Exit)
-    → AreOpened (system ∷ []) mid → s ≡ new_source (w.holds system) → mid.holds ≡ w.holds → held ≡ mid.holds → IsKept mid w'
-    → IfSome s.remaining (λ text. ReportsNetwork held (folder_of system) text sink sink' exit) → Judges system w w' input input sink sink' exit
-network_judged system w mid w' held s input sink sink' exit opened file same is kept reports =
-    let P : (List ℕ → Option (List ℕ)) → Type 0 = λ h. IfSome (w.holds system) (λ text. ReportsNetwork h (folder_of system) text sink sink' exit) in
-    let Q : SourceState → Type 0 = λ x. IfSome x.remaining (λ text. ReportsNetwork held (folder_of system) text sink sink' exit) in
+-- the text of a system was opened, and an engine ran over it and what it names
+pub network_judged : (Says : Saying) (Starts : Type 0) (crew : Option Crew) (system : List ℕ) (w mid w' : WorldState) (held : List ℕ → Option (List ℕ)) (s input : SourceState) (sink sink' : SinkState) (exit : Exit)
+    → mid.opened ≡ system ∷ [] → mid.crew ≡ crew → mid.saved ≡ None → s ≡ new_source (w.holds system) → mid.holds ≡ w.holds → held ≡ mid.holds → IsKept mid w'
+    → IfSome s.remaining (λ text. ReportsNetwork Says Starts held (folder_of system) text sink sink' exit) → Judges Says Starts crew system w w' input input sink sink' exit
+network_judged Says Starts crew system w mid w' held s input sink sink' exit opened asked saved file same is kept reports =
+    let P : (List ℕ → Option (List ℕ)) → Type 0 = λ h. IfSome (w.holds system) (λ text. ReportsNetwork Says Starts h (folder_of system) text sink sink' exit) in
+    let Q : SourceState → Type 0 = λ x. IfSome x.remaining (λ text. ReportsNetwork Says Starts held (folder_of system) text sink sink' exit) in
     record {
-      opened = kept.opened ∙ opened.opened;
-      crew = kept.crew ∙ opened.crew;
-      saved = kept.saved ∙ opened.saved;
+      opened = kept.opened ∙ opened;
+      asked = kept.crew ∙ asked;
+      saved = kept.saved ∙ saved;
       unread = refl;
       reports = subst P (is ∙ same) (subst Q file reports);
     }

@@ -4,13 +4,15 @@ use Rattle.dc_answer.specs.Answer.{Any, Reported}
 use Rattle.dc_answer.specs.declared.exit.Exit.{Exit}
 use Rattle.dc_answer.specs.declared.exit.Exit.TheVariants.{Done}
 use Rattle.dc_command.specs.declared.asked.Order.{Order}
-use Rattle.dc_command.specs.declared.asked.Order.TheVariants.{Design, Network}
+use Rattle.dc_command.specs.declared.asked.Order.TheVariants.{Design, Network, ReportNetwork}
 use Rattle.dc_device.specs.States.{SinkState, SourceState}
 use Rattle.dc_program.specs.Opening.{AreNotOpened, TellsFailure, failure_of}
 use Rattle.dc_program.specs.Orders.{ReportsAny, ReportsOrder, crew_of, files_of}
 use Rattle.dc_program.specs.World.{WorldState}
+use Rattle.dc_program.specs.declared.world.Crew.{Crew}
+use Rattle.dc_program.specs.declared.world.Crew.TheVariants.{Workers}
 use Rattle.dc_run_design.specs.Design.{ReportsDesign}
-use Rattle.dc_run_network.specs.Answer.{ReportsNetwork}
+use Rattle.dc_run_network.specs.Answer.{IsAnyPage, IsLines, ReportsNetwork, Saying}
 use Rattle.dc_run_network.specs.Paths.{folder_of}
 use Rattle.dc_program.specs.declared.world.NotOpened.{NotOpened}
 
@@ -68,19 +70,23 @@ pub record Makes (inputs outputs : List ℕ) (certificate : Option (List ℕ)) (
   pub reported : Reported Any sink.contents mid.contents 0 failed sink.failed mid.failed ended
   pub saves : Saves certificate text w' mid sink' ended exit
 
--- The text of a system was opened, and the engine of `network` ran over what it holds and what the files hold that it names; none was made.
-pub record Judges (system : List ℕ) (w w' : WorldState) (input input' : SourceState) (sink sink' : SinkState) (exit : Exit) : Type 0 where
+-- The text of a system was opened, threads were asked for these then where they are some, and an engine of networks that tells this of those
+-- that are accepted ran over what it holds and what the files hold that it names; none was made. That no thread could be started is
+-- reported only where this holds.
+pub record Judges (Says : Saying) (Starts : Type 0) (crew : Option Crew) (system : List ℕ) (w w' : WorldState) (input input' : SourceState) (sink sink' : SinkState) (exit : Exit) : Type 0 where
   pub opened : w'.opened ≡ system ∷ []
-  pub crew : w'.crew ≡ None
+  pub asked : w'.crew ≡ crew
   pub saved : w'.saved ≡ None
   pub unread : input' ≡ input
-  pub reports : IfSome (w.holds system) (λ text. ReportsNetwork w.holds (folder_of system) text sink sink' exit)
+  pub reports : IfSome (w.holds system) (λ text. ReportsNetwork Says Starts w.holds (folder_of system) text sink sink' exit)
 
 -- the same of an order; of one that is neither a design nor a network it never is so
 abbrev pub MakesOf : Order → WorldState → WorldState → SourceState → SourceState → SinkState → SinkState → Exit → Type 0
 MakesOf (Design inputs outputs tick headroom police certificate) w w' input input' sink sink' exit =
     Makes inputs.now outputs.now (option_map (λ s. s.now) certificate) w w' input input' sink sink' exit
-MakesOf (Network system) w w' input input' sink sink' exit = Judges system.now w w' input input' sink sink' exit
+MakesOf (Network system None) w w' input input' sink sink' exit = Judges IsLines ⊥ None system.now w w' input input' sink sink' exit
+MakesOf (Network system (Some count)) w w' input input' sink sink' exit = Judges IsLines (Unit {0}) (Some (Workers count)) system.now w w' input input' sink sink' exit
+MakesOf (ReportNetwork system) w w' input input' sink sink' exit = Judges IsAnyPage ⊥ None system.now w w' input input' sink sink' exit
 MakesOf _ w w' input input' sink sink' exit = ⊥
 
 -- one of the three

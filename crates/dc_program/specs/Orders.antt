@@ -7,7 +7,7 @@ use Rattle.dc_answer.specs.declared.exit.Exit.{Exit}
 use Rattle.dc_answer.specs.declared.exit.Exit.TheVariants.{Failed}
 use Rattle.dc_command.specs.declared.asked.Order.{Order}
 use Rattle.dc_capture.specs.declared.capture_lines.TheConstants.{CAPTURE_LIMIT}
-use Rattle.dc_command.specs.declared.asked.Order.TheVariants.{Decode, Check, Find, Report, Margins, Survey, Trace, Replay, Audit, Observe, Bench, Design, Explain, Network}
+use Rattle.dc_command.specs.declared.asked.Order.TheVariants.{Decode, Check, Find, Report, Margins, Survey, Trace, Replay, Audit, Observe, Bench, Design, Explain, Network, ReportNetwork}
 use Rattle.dc_device.specs.States.{AsksUpTo, SinkState, SourceState}
 use Rattle.dc_program.specs.declared.world.Crew.{Crew}
 use Rattle.dc_program.specs.declared.world.Crew.TheVariants.{Workers, Actors}
@@ -45,7 +45,8 @@ files_of (Observe tables certificate) = tables.now ∷ certificate.now ∷ []
 files_of (Bench tables certificate ticks marks) = tables.now ∷ certificate.now ∷ []
 files_of (Design inputs outputs tick headroom police certificate) = inputs.now ∷ outputs.now ∷ []
 files_of (Explain code) = []
-files_of (Network system) = system.now ∷ []
+files_of (Network system workers) = system.now ∷ []
+files_of (ReportNetwork system) = system.now ∷ []
 
 -- as many workers as are said
 abbrev pub workers_of : Option ℕ → Option Crew
@@ -55,6 +56,7 @@ workers_of (Some count) = Some (Workers count)
 -- for whom threads are asked
 abbrev pub crew_of : Order → Option Crew
 crew_of (Check tables certificate workers) = workers_of workers
+crew_of (Network system workers) = workers_of workers
 crew_of (Bench tables certificate ticks marks) = Some Actors
 crew_of _ = None
 
@@ -85,8 +87,8 @@ sources_in _ failed input = failed
 -- ---- what is reported
 
 -- What the engine of an order reports of the texts that its files hold, in their order, and of standard input, with the
--- order's flags and numbers; so many calls of the files' sources failed in it. `design` makes a file too and `network` opens files that a
--- text names: both are told of apart.
+-- order's flags and numbers; so many calls of the files' sources failed in it. `design` makes a file too, and `network` and
+-- `report --network` open files that a text names: these are told of apart.
 abbrev pub ReportsOrder : Order → (List ℕ → Option (List ℕ)) → ℕ → SourceState → SourceState → SinkState → SinkState → Exit → Type 0
 ReportsOrder (Decode format) holds failed input input' sink sink' exit =
     (text : List ℕ) → input.remaining ≡ Some text → Reports sink.contents sink'.contents Source (sink'.failed - sink.failed) (decode_text format text) exit
@@ -129,7 +131,8 @@ ReportsOrder (Bench tables certificate ticks marks) holds failed input input' si
     → ReportsBench rows claims ticks marks sink.contents sink'.contents 0 failed sink.failed sink'.failed exit
     ⊎ ReportsThreads sink.contents sink'.contents 0 failed sink.failed sink'.failed exit
 ReportsOrder (Design inputs outputs tick headroom police certificate) holds failed input input' sink sink' exit = ⊥
-ReportsOrder (Network system) holds failed input input' sink sink' exit = ⊥
+ReportsOrder (Network system workers) holds failed input input' sink sink' exit = ⊥
+ReportsOrder (ReportNetwork system) holds failed input input' sink sink' exit = ⊥
 ReportsOrder (Explain code) holds failed input input' sink sink' exit = ReportsExplain sink.contents sink'.contents sink.failed sink'.failed exit
 
 -- What it reports whatever the texts are: what is told to have failed has failed.

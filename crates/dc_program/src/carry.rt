@@ -11,7 +11,8 @@ ghost use Rattle.dc_program.specs.World.{IsNew};
 use crate::crews::ByThreads;
 use crate::designs::design;
 use crate::engines::{
-    audit, bench, check, check_by, decode, explain, find, network, observe, replay, survey, trace,
+    audit, bench, check, check_by, decode, explain, find, network, network_by, network_page, observe,
+    replay, survey, trace,
 };
 use crate::optional::{margins, page};
 use crate::world::World;
@@ -72,7 +73,15 @@ fn obey<'a, W: World<'a>, S: Source, K: Sink, H: ByThreads>(
             };
             margins(alloc, world, sink, tables, certificate, told)
         }
-        Order::Network { system } => network(alloc, world, sink, system),
+        Order::Network {
+            system,
+            workers: None,
+        } => network(alloc, world, sink, system),
+        Order::Network {
+            system,
+            workers: Some(workers),
+        } => network_by(threads, world, sink, system, workers),
+        Order::ReportNetwork { system } => network_page(alloc, world, sink, system),
         Order::Survey { tables } => survey(alloc, world, input, sink, tables),
         Order::Trace { tables, from } => trace(alloc, world, input, sink, tables, from),
         Order::Replay { tables, all, long } => {

@@ -3,7 +3,7 @@ ghost use Rattle.std.specs.Prelude.{◌≡◌, ◌≤◌, None, Some};
 ghost use Rattle.dc_answer.specs.Judging.{Leaves};
 ghost use Rattle.dc_device.specs.States.{AsksUpTo, CanFail, IsCountable, SourceState};
 ghost use Rattle.dc_capture.specs.declared.capture_lines.TheConstants.{CAPTURE_LIMIT};
-ghost use Rattle.dc_command.specs.declared.asked.Order.TheVariants.{Audit, Bench, Check, Decode, Explain, Find, Network, Observe, Replay, Survey, Trace};
+ghost use Rattle.dc_command.specs.declared.asked.Order.TheVariants.{Audit, Bench, Check, Decode, Explain, Find, Network, Observe, Replay, ReportNetwork, Survey, Trace};
 ghost use Rattle.dc_run.specs.Limits.{trace_limit};
 ghost use Rattle.dc_program.specs.Carries.{Carries};
 ghost use Rattle.dc_run.specs.declared.limits.TheConstants.{LONG_TRACE_LIMIT};
@@ -19,7 +19,7 @@ use dc_device::{Sink, Source};
 use dc_run::{run_check, run_decode, run_find, run_replay};
 use dc_run_audit::run_audit;
 use dc_run_explain::run_explain;
-use dc_run_network::run_network;
+use dc_run_network::{run_network, run_network_page};
 use dc_run_observe::run_observe;
 use dc_run_survey::run_survey;
 use dc_run_trace::run_trace;
@@ -280,7 +280,7 @@ pub fn network<'a, W: World<'a>, K: Sink>(
 ) -> Exit
     requires new { IsNew (W.state world.old) }
     requires sink { CanFail (K.state sink.old) }
-    ensures carries { (input : SourceState) → Carries (Network system.entry) (W.state world.old) (W.state world.new) input input
+    ensures carries { (input : SourceState) → Carries (Network system.entry None) (W.state world.old) (W.state world.new) input input
         (K.state sink.old) (K.state sink.new) result }
     ensures left { Leaves (K.state sink.old) (K.state sink.new) }
 {
@@ -288,6 +288,54 @@ pub fn network<'a, W: World<'a>, K: Sink>(
         Ok(mut text) => {
             world.is_shelf();
             run_network(alloc, system, &mut text, world, sink)
+        }
+        Err(why) => end_unopened(why, sink),
+    }
+}
+
+/// Judges the network that a system's text says, each certificate by so many workers.
+pub fn network_by<'a, W: World<'a>, K: Sink, H: ByThreads>(
+    threads: &H,
+    world: &mut W,
+    sink: &mut K,
+    system: &'a str,
+    workers: u8,
+) -> Exit
+    requires may { H.may_start threads.now }
+    requires range { (1 ≤ workers) × (workers ≤ 64) }
+    requires new { IsNew (W.state world.old) }
+    requires sink { CanFail (K.state sink.old) }
+    ensures carries { (input : SourceState) → Carries (Network system.entry (Some workers)) (W.state world.old) (W.state world.new) input input
+        (K.state sink.old) (K.state sink.new) result }
+    ensures left { Leaves (K.state sink.old) (K.state sink.new) }
+{
+    match open_one(world, system) {
+        Ok(mut text) => {
+            world.ask_threads(Crew::Workers(workers));
+            world.is_shelf();
+            threads.network(workers, system, &mut text, world, sink)
+        }
+        Err(why) => end_unopened(why, sink),
+    }
+}
+
+/// Makes the page on the network that a system's text says.
+pub fn network_page<'a, W: World<'a>, K: Sink>(
+    alloc: Global,
+    world: &mut W,
+    sink: &mut K,
+    system: &'a str,
+) -> Exit
+    requires new { IsNew (W.state world.old) }
+    requires sink { CanFail (K.state sink.old) }
+    ensures carries { (input : SourceState) → Carries (ReportNetwork system.entry) (W.state world.old) (W.state world.new) input input
+        (K.state sink.old) (K.state sink.new) result }
+    ensures left { Leaves (K.state sink.old) (K.state sink.new) }
+{
+    match open_one(world, system) {
+        Ok(mut text) => {
+            world.is_shelf();
+            run_network_page(alloc, system, &mut text, world, sink)
         }
         Err(why) => end_unopened(why, sink),
     }

@@ -1,4 +1,5 @@
-use Rattle.std.proofs.Common.{inr}
+use Rattle.std.proofs.Common.{None, inr}
+use Rattle.dc_run_network.specs.Answer.{IsLines}
 use Rattle.dc_program.proofs.Running.{network_judged}
 use Rattle.dc_program.proofs.engines.network.Goals as goal
 
@@ -6,5 +7,5 @@ pub returns-in-Ok-clause-carries : goal.returns-in-Ok-clause-carries
 returns-in-Ok-clause-carries g c = λ input.
     let mid = g.W.World.state c.open_one.new.world in
     let w' = g.W.World.state c.run_network.new.shelf in
-    inr (inr (network_judged c.args.system.now (g.W.World.state c.args.world.now) mid w' (g.W.Shelf.holds c.open_one.new.world) (g.W.File.Source.state c.in-Ok.text) input (g.K.Sink.state c.args.sink.now) (g.K.Sink.state c.run_network.new.sink) c.run_network.result
-    c.in-Ok.ensures.opened c.in-Ok.ensures.file c.open_one.ensures.holds c.is_shelf.ensures.held (c.is_shelf.ensures.stays c.open_one.new.world c.run_network.new.shelf c.run_network.ensures.keeps) c.run_network.ensures.reports))
+    inr (inr (network_judged IsLines ⊥ None c.args.system.now (g.W.World.state c.args.world.now) mid w' (g.W.Shelf.holds c.open_one.new.world) (g.W.File.Source.state c.in-Ok.text) input (g.K.Sink.state c.args.sink.now) (g.K.Sink.state c.run_network.new.sink) c.run_network.result
+    c.in-Ok.ensures.opened.opened c.in-Ok.ensures.opened.crew c.in-Ok.ensures.opened.saved c.in-Ok.ensures.file c.open_one.ensures.holds c.is_shelf.ensures.held (c.is_shelf.ensures.stays c.open_one.new.world c.run_network.new.shelf c.run_network.ensures.keeps) c.run_network.ensures.reports))
