@@ -20,7 +20,7 @@ use Rattle.dc_run.specs.Check.{AnswersCheck, AnswersTables, AreCertified, Report
 use Rattle.dc_tables.specs.TableRows.{TableRows}
 use Rattle.dc_toml.specs.Reading.{tables_of}
 use Rattle.dc_command.specs.declared.asked.Order.{Order}
-use Rattle.dc_command.specs.declared.asked.Order.TheVariants.{Decode, Check, Find, Report, Margins, Survey, Trace, Replay, Audit, Observe, Bench, Design, Explain, Network}
+use Rattle.dc_command.specs.declared.asked.Order.TheVariants.{Decode, Check, Find, Report, Margins, Survey, Trace, Replay, Audit, Observe, Bench, Design, Explain, Network, ReportNetwork}
 use Rattle.dc_program.specs.Carries.{Carries}
 use Rattle.dc_program.specs.Headline.{Decides, DecidesFiles}
 use Rattle.dc_program.specs.World.{WorldState}
