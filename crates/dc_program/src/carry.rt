@@ -11,8 +11,8 @@ ghost use Rattle.dc_program.specs.World.{IsNew};
 use crate::crews::ByThreads;
 use crate::designs::design;
 use crate::engines::{
-    audit, bench, check, check_by, decode, explain, find, network, network_by, network_page, observe,
-    replay, survey, trace,
+    audit, bench, check, check_by, decode, explain, find, network, network_by, network_page,
+    observe, replay, survey, trace,
 };
 use crate::optional::{margins, page};
 use crate::world::World;

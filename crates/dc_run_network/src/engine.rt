@@ -117,7 +117,14 @@ fn judge_ordered<J: Verdicts, T: Telling, F: Shelf>(
     ensures answers { IfOk result (AnswersOrdered T.says (F.holds shelf.old) folder.now system.now page.new) }
     ensures threads { IfErr result (λ why. why ≡ Unjudged.Threads → J.starts_threads by.now.verdicts) }
 {
-    match members_of(alloc, &by.verdicts, shelf, folder, system.concentrators(), page) {
+    match members_of(
+        alloc,
+        &by.verdicts,
+        shelf,
+        folder,
+        system.concentrators(),
+        page,
+    ) {
         Ok(members) => judge_members(alloc, &by.telling, system, &members, page),
         Err(Halt::Told(outcome)) => Ok(outcome.exit()),
         Err(Halt::NoFile) => Ok(Exit::Failed),

@@ -51,7 +51,13 @@ impl Telling for Lines {
     ) -> Result<(), AllocError> {
         let _ = alloc;
         let _ = connections;
-        tell_ways(page, system.concentrators(), system.links().len(), members, ways)
+        tell_ways(
+            page,
+            system.concentrators(),
+            system.links().len(),
+            members,
+            ways,
+        )
     }
 }
 

@@ -9,13 +9,7 @@ use dc_tables::Tables;
 use dc_word::Sdi;
 
 /// Whether the words of the label of the link's output are of the stream of its bus.
-pub fn feeds(
-    from: &Tables,
-    to: &Tables,
-    link: &Connection,
-    label: usize,
-    stream: usize,
-) -> bool
+pub fn feeds(from: &Tables, to: &Tables, link: &Connection, label: usize, stream: usize) -> bool
     requires label { label < length from.now.labels }
     requires stream { stream < length to.now.streams }
     ensures { result ≡ feeds from.now to.now (link_of link.now) label stream }
