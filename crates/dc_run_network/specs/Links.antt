@@ -1,5 +1,5 @@
 -- The links of a system by the numbers of their ends.
-use Rattle.std.specs.Prelude.{ℕ, Bool, Option, List, length, map, position, unwrap_or}
+use Rattle.std.specs.Prelude.{ℕ, Bool, List, length, map, position, unwrap_or}
 use Rattle.std.specs.Str.{bytes_eq}
 use Rattle.dc_document.specs.Names.{number_of}
 use Rattle.dc_order.specs.declared.hop.Hop.{Hop}

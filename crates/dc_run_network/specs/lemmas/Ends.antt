@@ -10,7 +10,7 @@ use Rattle.std.proofs.Math.ListN.{get_or-map, length-map}
 use Rattle.dc_order.specs.Rings.{AreNumbered, hop_at}
 use Rattle.dc_order.specs.declared.hop.Hop.{Hop}
 use Rattle.dc_order.specs.declared.limits.TheConstants.{LONGEST_LATENCY}
-use Rattle.dc_system_text.specs.System.{ConcentratorRow, KeepsRules, SystemRows, broken, is_absent, names_of, or_then, verdict_of}
+use Rattle.dc_system_text.specs.System.{ConcentratorRow, KeepsRules, SystemRows, broken, is_absent, names_of, or_then}
 use Rattle.dc_system_text.specs.declared.fault.SystemFault.{SystemFault}
 use Rattle.dc_system_text.specs.declared.fault.SystemPart.{SystemPart}
 use Rattle.dc_system_text.specs.declared.fault.SystemRule.{SystemRule}

@@ -1,5 +1,5 @@
 -- Lines, each behind a line feed.
-use Rattle.std.proofs.Common.{◌≡◌, ℕ, suc, add-one, ◌+◌, List, [], ◌∷◌, ◌++◌, length, refl, sym, ap, ◌∙◌, append_assoc, append-nil}
+use Rattle.std.proofs.Common.{◌≡◌, ℕ, add-one, ◌+◌, List, [], ◌∷◌, ◌++◌, length, refl, sym, ap, ◌∙◌, append_assoc, append-nil}
 use Rattle.dc_device.specs.Lines.{spelled}
 use Rattle.dc_event.specs.ReplyText.{name_at}
 use Rattle.dc_document.specs.Names.{text_of}

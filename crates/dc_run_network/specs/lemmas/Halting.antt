@@ -1,13 +1,13 @@
 -- What is told of texts that are no concentrator's.
-use Rattle.std.proofs.Common.{◌≡◌, ℕ, ◌<◌, ◌+◌, List, [], ◌∷◌, ◌++◌, Option, Some, None, IfSome, Ok, Err, length, get_or, refl, sym, ap, ◌∙◌, subst, arith, inl, inr}
+use Rattle.std.proofs.Common.{◌≡◌, ℕ, ◌<◌, ◌+◌, List, [], ◌∷◌, ◌++◌, Option, Some, None, IfSome, Ok, Err, length, refl, sym, ap, ◌∙◌, subst, arith, inl, inr}
 use Rattle.std.specs.Prelude.{codes}
 use Rattle.std.proofs.lemmas.Bool.{cases_lt}
 use Rattle.std.proofs.lemmas.List.{get_or_append_left, get_or_push, length_push}
-use Rattle.dc_answer.specs.Answer.{Answer, one_line}
+use Rattle.dc_answer.specs.Answer.{one_line}
 use Rattle.dc_answer.specs.Inputs.{LoadsCertificate, LoadsWritten}
 use Rattle.dc_answer.specs.declared.inputs.Unloaded.TheVariants.{Refused as RefusedText}
 use Rattle.dc_answer.specs.declared.exit.Outcome.TheVariants.{Refused as WasRefused, Unreadable as WasUnreadable}
-use Rattle.dc_build.specs.Reported.{AreTablesOf, AreWrittenBy, TellsTables, TellsWritten}
+use Rattle.dc_build.specs.Reported.{AreTablesOf, AreWrittenBy, TellsWritten}
 use Rattle.dc_build.specs.Written.{WrittenRows}
 use Rattle.dc_cert.specs.Faults.{fault_text}
 use Rattle.dc_cert.specs.NamedRows.{NamedRows}
@@ -24,7 +24,7 @@ use Rattle.dc_system_text.specs.System.{ConcentratorRow}
 use Rattle.dc_toml.specs.Reading.{tables_of}
 use Rattle.dc_ways.specs.Members.{MemberRows, concentrator, no_member}
 use Rattle.dc_run_network.specs.Lines.{at_text}
-use Rattle.dc_run_network.specs.Members.{AnswersHalt, AreMembersTo, HaltsFirst, Halts, Holds, IsHaltAt, IsMemberAt, IsSaid, OfTexts, ReadsCertificate, ReadsTables, TellsBehind, row_at}
+use Rattle.dc_run_network.specs.Members.{AnswersHalt, AreMembersTo, Halts, Holds, IsHaltAt, IsMemberAt, IsSaid, OfTexts, ReadsCertificate, ReadsTables, TellsBehind, row_at}
 use Rattle.dc_run_network.specs.declared.members.Halt.{Halt}
 use Rattle.dc_run_network.specs.declared.members.Halt.TheVariants.{Told, NoFile, Memory, Threads}
 

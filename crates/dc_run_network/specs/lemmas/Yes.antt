@@ -1,10 +1,10 @@
 -- What a yes says.
-use Rattle.std.proofs.Common.{◌≡◌, ◌≢◌, ℕ, List, [], ◌∷◌, ◌++◌, Option, Some, None, IfSome, IfErr, Result, Ok, Err, refl, sym, ◌∙◌, subst, inl, inr}
+use Rattle.std.proofs.Common.{◌≡◌, ℕ, List, [], ◌∷◌, ◌++◌, Option, Some, None, IfSome, IfErr, Result, Ok, Err, refl, sym, ◌∙◌, subst, inl, inr}
 use Rattle.std.specs.Io.KnownBytes.{Appends}
 use Rattle.std.proofs.lemmas.Bool.{cases_eq}
 use Rattle.dc_answer.specs.Exits.{exit_with}
 use Rattle.dc_answer.specs.declared.exit.Exit.{Exit}
-use Rattle.dc_answer.specs.declared.exit.Exit.TheVariants.{Done, Refused, Unreadable, Failed}
+use Rattle.dc_answer.specs.declared.exit.Exit.TheVariants.{Done, Unreadable, Failed}
 use Rattle.dc_answer.specs.declared.exit.Outcome.{Outcome}
 use Rattle.dc_answer.specs.declared.exit.Outcome.TheVariants.{Done as WasDone, Refused as WasRefused, Unreadable as WasUnreadable}
 use Rattle.dc_answer.specs.declared.judge.Unjudged.{Unjudged}

@@ -1,7 +1,6 @@
-use Rattle.std.proofs.Common.{List, length, sym, ap, subst}
+use Rattle.std.proofs.Common.{List, length, sym, subst}
 use Rattle.dc_ways.specs.Members.{AreConnections}
 use Rattle.dc_ways.specs.declared.connection.Connection.{Connection}
-use Rattle.dc_system_text.specs.declared.parts.LinkText.{LinkText}
 use Rattle.dc_run_network.specs.lemmas.Accepting.{accepted-answer, connections-is}
 use Rattle.dc_run_network.specs.lemmas.Ends.{connections-are}
 use Rattle.dc_run_network.proofs.engine.judge_members.Goals as goal

@@ -1,10 +1,9 @@
-use Rattle.std.proofs.Common.{List, length, map, sym, ap, ◌∙◌, subst, get_or}
-use Rattle.dc_order.specs.Rings.{AreNumbered, IsOnRing, IsOrder}
+use Rattle.std.proofs.Common.{List, length, sym, subst, get_or}
+use Rattle.dc_order.specs.Rings.{AreNumbered, IsOrder}
 use Rattle.dc_order.specs.declared.hop.Hop.{Hop}
 use Rattle.dc_order.specs.lemmas.Reaching.{orders-exclude_rings}
 use Rattle.dc_system_text.specs.System.{ConcentratorRow}
-use Rattle.dc_system_text.specs.declared.parts.LinkText.{LinkText}
-use Rattle.dc_run_network.specs.Links.{hop_of, hops_in}
+use Rattle.dc_run_network.specs.Links.{hops_in}
 use Rattle.dc_run_network.specs.lemmas.Ends.{hops-is, hops-numbered}
 use Rattle.dc_run_network.proofs.engine.ring_in.Goals as goal
 

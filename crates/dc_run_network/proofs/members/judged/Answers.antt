@@ -1,10 +1,9 @@
-use Rattle.std.proofs.Common.{◌≡◌, List, ℕ, Ok, sym, ap, ◌∙◌, subst}
+use Rattle.std.proofs.Common.{List, ℕ, Ok, sym, ap, ◌∙◌, subst}
 use Rattle.dc_answer.specs.Answer.{one_line}
 use Rattle.dc_answer.specs.declared.exit.Outcome.TheVariants.{Refused as WasRefused}
 use Rattle.dc_build.specs.Reported.{AreWrittenBy}
 use Rattle.dc_build.specs.Written.{WrittenRows}
 use Rattle.dc_cert.specs.NamedRows.{NamedRows, named_rows}
-use Rattle.dc_cert.specs.Reading.{certificate_of}
 use Rattle.dc_check.specs.Placed.{IsPlaced}
 use Rattle.dc_check.specs.lemmas.Places.{verdict_placed}
 use Rattle.dc_print.specs.Verdicts.{refused_text}

@@ -1,4 +1,4 @@
-use Rattle.std.proofs.Common.{Err, Ok}
+use Rattle.std.proofs.Common.{Err}
 use Rattle.dc_build.specs.Reported.{AreWrittenBy}
 use Rattle.dc_toml.specs.Reading.{tables_of}
 use Rattle.dc_run_network.specs.Members.{ReadsTables}

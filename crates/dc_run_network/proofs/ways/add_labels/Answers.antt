@@ -1,4 +1,4 @@
-use Rattle.std.proofs.Common.{List, ℕ, ◌∷◌, ◌++◌, ap, ◌∙◌}
+use Rattle.std.proofs.Common.{◌∷◌, ◌++◌, ap, ◌∙◌}
 use Rattle.dc_document.specs.Names.{text_of}
 use Rattle.dc_event.specs.ReplyText.{name_at}
 use Rattle.dc_ways.specs.Members.{ways_in}

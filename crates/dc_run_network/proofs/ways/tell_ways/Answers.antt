@@ -1,4 +1,4 @@
-use Rattle.std.proofs.Common.{List, ℕ, ◌++◌, length, ap, ◌∙◌}
+use Rattle.std.proofs.Common.{ℕ, ◌++◌, length, ap, ◌∙◌}
 use Rattle.std.proofs.lemmas.List.{get_or_default}
 use Rattle.dc_system_text.specs.System.{ConcentratorRow}
 use Rattle.dc_tables.specs.TableRows.{TableRows}
