@@ -1,5 +1,5 @@
 -- Files that were opened.
-use Rattle.std.proofs.Common.{◌≡◌, ℕ, List, [], ◌∷◌, ◌++◌, refl, None, Some}
+use Rattle.std.proofs.Common.{◌≡◌, ℕ, List, [], ◌∷◌, refl, None, Some}
 use Rattle.dc_program.specs.Opening.{AreNotOpened}
 use Rattle.dc_program.specs.World.{WorldState}
 use Rattle.dc_program.specs.declared.world.NotOpened.{NotOpened}

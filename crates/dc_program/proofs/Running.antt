@@ -12,7 +12,7 @@ use Rattle.dc_run_network.specs.Paths.{folder_of}
 use Rattle.dc_program.specs.Carries.{Carries, Judges, Makes, Saves}
 use Rattle.dc_program.specs.Opening.{AreNotOpened, AreOpened, AreOpenedFor, TellsFailure, failure_of}
 use Rattle.dc_program.specs.Orders.{ReportsAny, ReportsOrder, crew_of, files_of}
-use Rattle.dc_program.specs.World.{IsKept, IsNew, WorldState, new_source}
+use Rattle.dc_program.specs.World.{IsKept, WorldState, new_source}
 use Rattle.dc_program.specs.declared.world.Crew.{Crew}
 use Rattle.dc_program.specs.declared.world.NotOpened.{NotOpened}
 

@@ -1,4 +1,4 @@
-use Rattle.std.proofs.Common.{◌≡◌, ◌+◌, ℕ, List, Some, option_map, inr}
+use Rattle.std.proofs.Common.{◌+◌, option_map, inr}
 use Rattle.dc_answer.specs.Answer.{Any, Reported}
 use Rattle.dc_run_design.specs.Design.{ReportsDesign}
 use Rattle.dc_program.proofs.Running.{left_after, made, of_two, two_texts}

@@ -1,4 +1,4 @@
-use Rattle.std.proofs.Common.{◌≡◌, ◌+◌, ℕ, refl, Some}
+use Rattle.std.proofs.Common.{refl}
 use Rattle.dc_answer.specs.Answer.{Any, Reported}
 use Rattle.dc_command.specs.declared.asked.Order.TheVariants.{Find}
 use Rattle.dc_run.specs.Find.{ReportsFind}

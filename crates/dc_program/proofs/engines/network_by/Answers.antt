@@ -1,4 +1,4 @@
-use Rattle.std.proofs.Common.{List, ℕ, Option, Some, ap, inr, ◌∙◌}
+use Rattle.std.proofs.Common.{Some, ap, inr, ◌∙◌}
 use Rattle.dc_run_network.specs.Answer.{IsLines}
 use Rattle.dc_program.proofs.Running.{network_judged}
 use Rattle.dc_program.specs.World.{WorldState}

@@ -1,4 +1,4 @@
-use Rattle.std.proofs.Common.{◌≡◌, ◌⊎◌, ◌+◌, ℕ, refl, None, Some}
+use Rattle.std.proofs.Common.{◌+◌, refl, Some}
 use Rattle.dc_answer.specs.Answer.{Any, Reported}
 use Rattle.dc_command.specs.declared.asked.Order.TheVariants.{Report}
 use Rattle.dc_run_report.specs.Paper.{ReportsPage}

@@ -1,4 +1,4 @@
-use Rattle.std.proofs.Common.{None, ap, map, refl, ◌∙◌}
+use Rattle.std.proofs.Common.{None, ap, map, ◌∙◌}
 use Rattle.std.specs.Prelude.{option_map}
 use Rattle.dc_program.specs.Memory.{held_by}
 use Rattle.dc_program.proofs.memory.MemWorldWorld.is_shelf.Goals as goal
