@@ -1,9 +1,8 @@
 //! The longest ways as bars on one scale, each made of its stays and links.
 
-use crate::amount::{Grouped, Millis, Percent};
 use crate::parts::{Part, Parts};
-use crate::shares::{round_step, share};
 use crate::shown::Shown;
+use dc_page_text::{Grouped, Hundredths, Thousandths, round_step, share};
 use std::alloc::{AllocError, Global};
 
 /// How many ways are drawn.
@@ -108,9 +107,9 @@ fn push_scale(text: &mut String, scale: u64) -> Result<(), AllocError> {
     let step = round_step(scale, 4).max(1);
     for place in 0..(scale / step).min(5).saturating_add(1) {
         let us = place.saturating_mul(step);
-        let x = Percent(share(us, scale, WHOLE));
+        let x = Hundredths(share(us, scale, WHOLE));
         let anchor = if place == 0 { "start" } else { "middle" };
-        let time = Millis(us);
+        let time = Thousandths(us);
         write!(
             text,
             "<text x='{x}%' y='12' text-anchor='{anchor}'>{time} ms</text>"

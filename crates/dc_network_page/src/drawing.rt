@@ -1,8 +1,8 @@
 //! The drawing of the network: boxes from left to right, and the links between them.
 
-use crate::amount::{Grouped, Millis, Unit};
 use crate::layout::{BOX_WIDTH, Layout, Line, SINKS, Slot};
 use crate::shown::Shown;
+use dc_page_text::{Grouped, Thousandths, Unit};
 use dc_system_text::LinkText;
 use dc_tables::Tables;
 use std::alloc::AllocError;
@@ -112,7 +112,7 @@ fn push_row(text: &mut String, slot: &Slot, below: u64) -> Result<(), AllocError
 
 /// Adds what stands in a box below its name: the tick, and how many parts the concentrator has.
 fn push_counts(text: &mut String, slot: &Slot, tables: &Tables) -> Result<(), AllocError> {
-    let tick = Millis(u64::from(tables.tick_us()));
+    let tick = Thousandths(u64::from(tables.tick_us()));
     push_row(text, slot, 36)?;
     write!(text, "tick {tick} ms</text>")?;
     let buses = Unit::Buses.times(tables.bus_count());

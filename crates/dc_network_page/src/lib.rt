@@ -1,19 +1,15 @@
 //! The report on a network of concentrators: one page of HTML that holds all of itself, with its drawings as inline SVG.
 #![tactic(auto)]
 
-mod amount;
 mod bars;
 mod drawing;
-mod escape;
 mod feeds;
-pub mod laws;
 mod layout;
 mod links;
 mod page;
 mod parts;
 mod promise;
 mod sections;
-mod shares;
 mod shown;
 mod style;
 mod verdict;

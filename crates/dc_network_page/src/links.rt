@@ -1,8 +1,8 @@
 //! The table of links.
 
-use crate::amount::Grouped;
 use crate::feeds::Feeds;
 use crate::shown::Shown;
+use dc_page_text::Grouped;
 use dc_system_text::LinkText;
 use std::alloc::AllocError;
 

@@ -1,10 +1,9 @@
 //! The parts of the page on single concentrators.
 
-use crate::amount::{Grouped, Millis, Unit};
-use crate::escape::Escaped;
 use crate::layout::Layout;
 use crate::parts::{Part, Parts, longest};
 use crate::shown::Shown;
+use dc_page_text::{Escaped, Grouped, Thousandths, Unit};
 use dc_system_text::ConcentratorText;
 use dc_tables::Tables;
 use std::alloc::{AllocError, Global};
@@ -63,7 +62,7 @@ fn longest_stay(parts: &[Part]) -> u64 {
 
 /// Adds the claims in short.
 fn push_claims(text: &mut String, parts: &[Part]) -> Result<(), AllocError> {
-    let age = Millis(longest_stay(parts));
+    let age = Thousandths(longest_stay(parts));
     write!(
         text,
         "<p>No receive queue overruns; a word that leaves is no computed data, or copies one that came in less than {age} ms before; \

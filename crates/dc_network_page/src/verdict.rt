@@ -1,8 +1,8 @@
 //! The verdict, in words.
 
-use crate::amount::{Grouped, Millis, Unit};
 use crate::parts::{Part, Parts};
 use crate::shown::Shown;
+use dc_page_text::{Grouped, Thousandths, Unit};
 use std::alloc::AllocError;
 
 /// Adds the longest way.
@@ -10,7 +10,7 @@ fn push_longest(text: &mut String, shown: &Shown<'_>, part: &Part) -> Result<(),
     let name = shown.name(part.concentrator);
     let label = part.name.as_str();
     let way = Grouped(part.way);
-    let millis = Millis(part.way);
+    let millis = Thousandths(part.way);
     write!(
         text,
         "<p>The longest way is that of {name}.{label}: <b>{way} us</b> <small>({millis} ms)</small>.</p>"

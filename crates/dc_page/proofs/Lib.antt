@@ -1,3 +1,1 @@
-mod Names
-mod Numbers
 mod Faults

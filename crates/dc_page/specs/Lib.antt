@@ -1,2 +1,2 @@
--- Names and numbers as the page writes them.
+-- Ticks as the page writes them.
 pub mod Text

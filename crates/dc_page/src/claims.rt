@@ -2,11 +2,10 @@
 
 ghost use Rattle.std.specs.Prelude.{◌<◌, length};
 
-use crate::amount::Grouped;
-use crate::escape::Escaped;
 use crate::facts::source_at;
 use crate::time::TickLength;
 use dc_check::Fitted;
+use dc_page_text::{Escaped, Grouped};
 use dc_tables::Tables;
 use std::alloc::AllocError;
 
@@ -34,7 +33,7 @@ fn push_queues(text: &mut String, fitted: &Fitted<'_>) -> Result<(), AllocError>
         push_between(text, bus)?;
         let backlog = Grouped(u64::from(fitted.certificate.inputs[bus].backlog));
         let queue = Grouped(u64::from(fitted.tables.queue(bus)));
-        let name = Escaped(fitted.tables.bus_name(bus).text());
+        let name = Escaped(fitted.tables.bus_name(bus).as_str());
         write!(
             text,
             "at most {backlog} of {queue} places of {name} are ever taken"
@@ -52,7 +51,7 @@ fn push_ages(text: &mut String, fitted: &Fitted<'_>) -> Result<(), AllocError> {
     for label in 0..fitted.tables.label_count().min(NAMED) {
         push_between(text, label)?;
         let age = tick.age(fitted.certificate.labels[label].age);
-        let name = Escaped(fitted.tables.label_name(label).text());
+        let name = Escaped(fitted.tables.label_name(label).as_str());
         write!(text, "{age} of label {name}")?;
     }
     push_end(text, fitted.tables.label_count())
@@ -65,8 +64,8 @@ fn push_first(text: &mut String, tables: &Tables, label: usize) -> Result<(), Al
     tables.valid();
     let row = tables.label(label);
     let stale = TickLength::of(tables).span(row.stale);
-    let name = Escaped(tables.label_name(label).text());
-    let source = Escaped(tables.stream_name(source_at(tables, label, 0)).text());
+    let name = Escaped(tables.label_name(label).as_str());
+    let source = Escaped(tables.stream_name(source_at(tables, label, 0)).as_str());
     write!(text, "{source} of label {name}, looked at over {stale}")
 }
 
@@ -91,7 +90,7 @@ fn push_interval(text: &mut String, tables: &Tables, label: usize) -> Result<(),
     let tick = TickLength::of(tables);
     let minimum = Grouped(u64::from(row.minimum));
     let maximum = Grouped(u64::from(row.maximum));
-    let name = Escaped(tables.label_name(label).text());
+    let name = Escaped(tables.label_name(label).as_str());
     write!(
         text,
         "label {name} leaves at least {minimum} and at most {maximum} ticks after its last time"

@@ -1,8 +1,7 @@
 //! The section on clocks that drift.
 
-use crate::amount::{Grouped, Millionths};
-use crate::escape::Escaped;
 use dc_document::Name;
+use dc_page_text::{Escaped, Grouped, Millionths};
 use dc_tables::Tables;
 use std::alloc::AllocError;
 use std::fmt;
@@ -97,7 +96,7 @@ fn push_wires(text: &mut String, wires: &[WireDrift]) -> Result<(), AllocError> 
     }
     text.push_str("<table><tr><th>Wire</th><th>From word to word at least</th></tr>\n")?;
     for wire in wires {
-        let name = Escaped(wire.name.text());
+        let name = Escaped(wire.name.as_str());
         let spacing = Beside(wire.spacing);
         write!(text, "<tr><td>{name}</td><td>{spacing}</td></tr>\n")?;
     }
@@ -113,7 +112,7 @@ fn push_sources(text: &mut String, sources: &[SourceDrift]) -> Result<(), AllocE
         "<table><tr><th>Source</th><th>From word to word at least</th><th>At most, to be live</th><th>Jitter</th></tr>\n",
     )?;
     for source in sources {
-        let name = Escaped(source.name.text());
+        let name = Escaped(source.name.as_str());
         let least = Beside(source.least);
         let most = Beside(source.most);
         let jitter = Beside(source.jitter);
@@ -145,7 +144,7 @@ fn push_labels(text: &mut String, labels: &[LabelDrift]) -> Result<(), AllocErro
         "<p>Then each label keeps these:</p>\n<table><tr><th>Label</th><th>From word to word more than</th><th>Less than</th><th>Age under</th></tr>\n",
     )?;
     for label in labels {
-        let name = Escaped(label.name.text());
+        let name = Escaped(label.name.as_str());
         let least = Beside(label.least);
         let most = Beside(label.most);
         write!(

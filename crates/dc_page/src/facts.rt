@@ -11,6 +11,7 @@ use dc_document::Name;
 use dc_margin::{InputMargins, LabelMargins, OutputMargins, label_margins};
 use dc_tables::Tables;
 use dc_transmit::Schedule;
+use dc_word::Label;
 
 /// Of an input.
 #[derive(Clone, Copy)]
@@ -60,6 +61,7 @@ pub struct SourceFacts {
     pub name: Name,
     pub tick: TickLength,
     pub bus: Name,
+    pub label: Label,
     pub delay: u32,
     pub maximum: u32,
 }
@@ -161,11 +163,13 @@ pub fn source_facts(fitted: &Fitted<'_>, stream: usize) -> SourceFacts
     requires there { stream < length fitted.now.tables.now.streams }
 {
     let bus = fitted.tables.bus_of(stream);
+    let row = fitted.tables.stream(stream);
     SourceFacts {
         name: *fitted.tables.stream_name(stream),
         tick: TickLength::of(fitted.tables),
         bus: *fitted.tables.bus_name(bus),
+        label: row.label,
         delay: delay_of(fitted, stream),
-        maximum: fitted.tables.stream(stream).maximum,
+        maximum: row.maximum,
     }
 }

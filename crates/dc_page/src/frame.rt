@@ -2,9 +2,8 @@
 
 ghost use Rattle.std.specs.Prelude.{◌≤◌};
 
-use crate::amount::Tenths;
 use crate::facts::LabelFacts;
-use crate::shares::share;
+use dc_page_text::{Tenths, share};
 use dc_tables::Entry;
 use std::alloc::AllocError;
 

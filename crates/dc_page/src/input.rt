@@ -3,14 +3,13 @@
 ghost use Rattle.std.specs.Prelude.{◌≡◌, ◌<◌, length};
 ghost use Rattle.dc_check.specs.Verdict.{is_window};
 
-use crate::amount::{Unit, words};
-use crate::escape::Escaped;
 use crate::facts::{InputFacts, input_facts};
 use crate::plot::{Marks, needed, push_plot};
 use crate::rules::push_lines;
 use dc_busy::LONGEST_WINDOW;
 use dc_check::Fitted;
 use dc_margin::{InputMargins, input_lines};
+use dc_page_text::{Amount, Escaped, Unit};
 use dc_tables::Tables;
 use std::alloc::AllocError;
 
@@ -21,6 +20,13 @@ pub fn is_plotted(window: u32) -> bool
     1 <= window && window <= LONGEST_WINDOW
 }
 
+/// So many words.
+fn words(count: u32) -> Amount
+    ensures { result ≡ record { count = count; unit = Unit.Words } }
+{
+    Unit::Words.times(count as usize)
+}
+
 /// Adds what stands for a plot where the window is out of range.
 pub fn push_no_plot(text: &mut String) -> Result<(), AllocError> {
     text.push_str("<p class='s'>No plot: the window is out of range.</p>\n")
@@ -28,8 +34,8 @@ pub fn push_no_plot(text: &mut String) -> Result<(), AllocError> {
 
 /// Adds what the input is and what the certificate claims of it, in words.
 fn push_words(text: &mut String, facts: &InputFacts) -> Result<(), AllocError> {
-    let name = Escaped(facts.name.text());
-    let router = Escaped(facts.router.text());
+    let name = Escaped(facts.name.as_str());
+    let router = Escaped(facts.router.as_str());
     let queue = words(facts.queue);
     let police = if facts.police {
         "The bus is policed: words that come too soon are refused."

@@ -2,16 +2,17 @@
 
 ghost use Rattle.std.specs.Prelude.{◌<◌, length};
 
-use crate::amount::{Amount, Grouped, Unit};
-use crate::escape::Escaped;
 use crate::facts::{LabelFacts, SourceFacts, label_facts, source_at, source_facts};
 use crate::frame::{push_age, push_interval, push_strip};
 use crate::rules::{MarginText, remedy};
 use crate::time::TickLength;
 use dc_check::Fitted;
 use dc_margin::{MarginLine, label_lines};
+use dc_page_text::{Escaped, Grouped, Unit};
 use dc_tables::Tables;
+use dc_word::Label;
 use std::alloc::AllocError;
+use std::fmt;
 
 /// Adds the margin of a condition, and what to do where it is negative.
 fn push_margin(text: &mut String, line: MarginLine, tick: TickLength) -> Result<(), AllocError> {
@@ -37,10 +38,7 @@ fn push_due(text: &mut String, tables: &Tables, label: usize) -> Result<(), Allo
     let entries = output.entries.as_slice();
     push_strip(text, entries, output.frame, Some(label))?;
     let times = entries.iter().filter(|e| e.label == label).count();
-    let due = Amount {
-        count: times as u64,
-        unit: Unit::Entries,
-    };
+    let due = Unit::Entries.times(times);
     let frame = TickLength::of(tables).span(output.frame);
     write!(text, "{due} in {frame}</div>\n")
 }
@@ -135,20 +133,47 @@ fn push_longest(text: &mut String, facts: &SourceFacts, stale: u32) -> Result<()
     )
 }
 
-/// Adds a source, of the time for which it is fresh.
+/// A label by its three octal digits.
+#[derive(Clone, Copy)]
+struct Octal(Label);
+
+impl fmt::Display for Octal {
+    fn fmt<W: fmt::Write>(&self, f: &mut fmt::Formatter<W>) -> fmt::Result {
+        let number = self.0.number();
+        let first = number / 64;
+        let second = number / 8 % 8;
+        let third = number % 8;
+        write!(f, "{first}{second}{third}")
+    }
+}
+
+/// Adds that a source has words of another label than those that leave, where it has.
+fn push_other(text: &mut String, own: Label, source: Label) -> Result<(), AllocError> {
+    if own.number() == source.number() {
+        return Ok(());
+    }
+    let brought = Octal(source);
+    let leaves = Octal(own);
+    write!(text, " <b>label {brought}, sent as {leaves}</b>")
+}
+
+/// Adds a source of a label, of the time for which it is fresh.
 fn push_source(
     text: &mut String,
     fitted: &Fitted<'_>,
-    stale: u32,
+    label: usize,
     stream: usize,
 ) -> Result<(), AllocError>
+    requires label { label < length fitted.now.tables.now.labels }
     requires there { stream < length fitted.now.tables.now.streams }
 {
+    let own = fitted.tables.label(label);
     let facts = source_facts(fitted, stream);
-    let name = Escaped(facts.name.text());
-    let bus = Escaped(facts.bus.text());
+    let name = Escaped(facts.name.as_str());
+    let bus = Escaped(facts.bus.as_str());
     write!(text, "<br/>{name} ({bus}): ")?;
-    push_longest(text, &facts, stale)
+    push_longest(text, &facts, own.stale)?;
+    push_other(text, own.label, facts.label)
 }
 
 /// Adds the label's sources, with the margin of C12.
@@ -165,7 +190,7 @@ fn push_sources(
     write!(text, "<div>delay + longest interval, of {stale}")?;
     for place in 0..fitted.tables.label(label).sources.len() {
         let stream = source_at(fitted.tables, label, place);
-        push_source(text, fitted, facts.stale, stream)?;
+        push_source(text, fitted, label, stream)?;
     }
     push_margin(text, fresh, facts.tick)?;
     text.push_str("</div>\n")
@@ -177,7 +202,7 @@ pub fn push_label(text: &mut String, fitted: &Fitted<'_>, label: usize) -> Resul
 {
     let facts = label_facts(fitted, label);
     let [soon, late, age, age_limit, fresh] = label_lines(label, &facts.margins);
-    let name = Escaped(facts.name.text());
+    let name = Escaped(facts.name.as_str());
     write!(text, "<div class='l'><h4>Label {name}</h4><div class='g'>")?;
     push_due(text, fitted.tables, label)?;
     push_gaps(text, &facts, soon, late)?;

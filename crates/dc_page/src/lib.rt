@@ -1,21 +1,17 @@
 //! The report on a certificate: one page of HTML that holds all of itself, with its plots as inline SVG.
 #![tactic(auto)]
 
-mod amount;
 mod claims;
 mod drift;
-mod escape;
 mod facts;
 mod frame;
 mod html;
 mod input;
 mod known;
 mod labels;
-pub mod laws;
 mod output;
 mod plot;
 mod rules;
-mod shares;
 mod style;
 mod summary;
 mod time;

@@ -2,8 +2,6 @@
 
 ghost use Rattle.std.specs.Prelude.{◌<◌, length};
 
-use crate::amount::{Grouped, Unit};
-use crate::escape::Escaped;
 use crate::facts::{OutputFacts, output_facts};
 use crate::frame::push_strip;
 use crate::input::{is_plotted, push_no_plot};
@@ -13,12 +11,13 @@ use crate::rules::push_lines;
 use crate::time::TickLength;
 use dc_check::Fitted;
 use dc_margin::{OutputMargins, output_lines};
+use dc_page_text::{Escaped, Grouped, Unit};
 use dc_tables::Tables;
 use std::alloc::AllocError;
 
 /// Adds what the output is and what the certificate claims of it, in words.
 fn push_words(text: &mut String, facts: &OutputFacts) -> Result<(), AllocError> {
-    let name = Escaped(facts.name.text());
+    let name = Escaped(facts.name.as_str());
     let frame = facts.tick.span(facts.frame);
     let window = facts.tick.span(facts.window);
     let delay = facts.tick.span(facts.delay);

@@ -2,11 +2,10 @@
 
 ghost use Rattle.std.specs.Prelude.{◌≤◌};
 
-use crate::amount::{Amount, Grouped, Tenths, Unit};
-use crate::shares::{round_step, share};
 use crate::time::{Span, TickLength};
 use dc_bound::{ArrivalBound, ServiceBound};
 use dc_margin::{Decider, Margin};
+use dc_page_text::{Amount, Grouped, Tenths, Unit, round_step, share};
 use std::alloc::AllocError;
 
 /// The most ticks that a plot shows.

@@ -1,10 +1,10 @@
 //! The conditions of a certificate with their margins, as the page shows them.
 
-use crate::amount::{Amount, Unit};
 use crate::time::TickLength;
 use dc_busy::LONGEST_WINDOW;
 use dc_check::{CertificateList, Condition};
 use dc_margin::{Decider, Margin, MarginLine, Measure};
+use dc_page_text::{Amount, Unit};
 use std::alloc::AllocError;
 use std::fmt;
 

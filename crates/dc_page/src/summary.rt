@@ -2,7 +2,6 @@
 
 ghost use Rattle.std.specs.Prelude.{◌≡◌, ◌<◌, length};
 
-use crate::escape::Escaped;
 use crate::rules::{MarginText, asks, marks};
 use crate::time::TickLength;
 use dc_check::{CertificateList, Condition, Fitted};
@@ -10,6 +9,7 @@ use dc_document::Name;
 use dc_margin::{
     InputMargins, MarginLine, OutputMargins, input_lines, label_lines, label_margins, output_lines,
 };
+use dc_page_text::Escaped;
 use std::alloc::AllocError;
 
 /// The line of the least margin of a condition, and the name of what it is of: of those that are as small the first.
@@ -113,7 +113,7 @@ fn push_least(text: &mut String, least: &Least, tick: TickLength) -> Result<(), 
     let question = asks(line.condition);
     let margin = MarginText { line, tick };
     let member = member(line.list);
-    let name = Escaped(least.name.text());
+    let name = Escaped(least.name.as_str());
     write!(
         text,
         "<tr{attribute}><td class='n'>{mark}{code}</td><td>{question}</td><td class='n'>{margin}</td><td>{member} {name}</td></tr>\n"

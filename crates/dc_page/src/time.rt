@@ -3,12 +3,12 @@
 ghost use Rattle.std.specs.Prelude.{◌≡◌, ◌+◌, Some};
 ghost use Rattle.dc_page.specs.Text.{age_text, span_text, time_of};
 
-use crate::amount::{Amount, Thousandths, Unit};
+use dc_page_text::{Amount, Thousandths, Unit};
 use dc_tables::Tables;
 use std::fmt;
 
 /// How long a tick is, in microseconds.
-#[derive(Clone, Copy, Debug, PartialEq, Eq)]
+#[derive(Clone, Copy)]
 pub struct TickLength(pub u32);
 
 impl TickLength {
@@ -50,7 +50,7 @@ impl TickLength {
 }
 
 /// So many ticks, as `24 ticks (24 ms)`, the milliseconds in small.
-#[derive(Clone, Copy, Debug, PartialEq, Eq)]
+#[derive(Clone, Copy)]
 pub struct Span {
     pub ticks: u64,
     pub tick: TickLength,
@@ -70,7 +70,7 @@ impl fmt::Display for Span {
 }
 
 /// An age in ticks, as `24 ticks (under 25 ms)`, the milliseconds in small: in microseconds it is less than a tick more.
-#[derive(Clone, Copy, Debug, PartialEq, Eq)]
+#[derive(Clone, Copy)]
 pub struct Age {
     pub ticks: u64,
     pub under: Thousandths,

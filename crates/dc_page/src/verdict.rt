@@ -3,30 +3,20 @@
 ghost use Rattle.std.specs.Prelude.{◌<◌, length};
 ghost use Rattle.dc_check.specs.Placed.{IsPlaced, member_count};
 
-use crate::amount::{Amount, Unit};
-use crate::escape::Escaped;
 use crate::rules::{asks, remedy};
 use crate::summary::member;
 use crate::time::TickLength;
 use dc_check::{CertificateList, CheckFault, Condition};
 use dc_document::Name;
+use dc_page_text::{Escaped, Unit};
 use dc_tables::Tables;
 use std::alloc::AllocError;
 
 /// Adds that the certificate is accepted.
 pub fn push_accepted(text: &mut String, tables: &Tables) -> Result<(), AllocError> {
-    let inputs = Amount {
-        count: tables.bus_count() as u64,
-        unit: Unit::Inputs,
-    };
-    let outputs = Amount {
-        count: tables.output_count() as u64,
-        unit: Unit::Outputs,
-    };
-    let labels = Amount {
-        count: tables.label_count() as u64,
-        unit: Unit::Labels,
-    };
+    let inputs = Unit::Inputs.times(tables.bus_count());
+    let outputs = Unit::Outputs.times(tables.output_count());
+    let labels = Unit::Labels.times(tables.label_count());
     write!(
         text,
         "<div class='verdict'><p><b>Accepted:</b> the certificate keeps every rule for these tables, with {inputs}, {outputs} and {labels}.</p></div>\n"
@@ -53,7 +43,7 @@ fn push_place(text: &mut String, tables: &Tables, fault: CheckFault) -> Result<(
         return write!(text, "the {member}s");
     }
     let own = name(tables, fault.list, fault.index);
-    let name = Escaped(own.text());
+    let name = Escaped(own.as_str());
     write!(text, "{member} {name}")?;
     if fault.window == 0 {
         return Ok(());
