@@ -69,7 +69,7 @@ impl Kind {
             | Kind::System
             | Kind::Link => { "Refused where: " }
             Kind::Condition => {
-                "Refused where (`a` is the most that may come, `s` the least that is surely taken, in so many ticks): "
+                "Refused where (in formulas `a` is the most that may come in so many ticks, `s` the least that is surely taken, by `steps` and `within`): "
             }
             Kind::Failure | Kind::Reply | Kind::Step | Kind::Audit | Kind::Bench | Kind::Survey =>
                 "Means: ",

@@ -61,19 +61,19 @@ fewer workers, or a higher limit of threads. Without `--workers` the verdict is 
 /// Of the faults of tables.
 const TABLE: &str = "\
 T01
-the text is over its limit, not UTF-8 or no TOML document
+the text is over 1,048,576 bytes, not UTF-8 or no TOML document
 `version = 1` twice: T01 at top
-mend the text
+mend the text: `--explain always` shows the place
 
 T02
 `version` is absent or neither 1 nor 2
 `version = 3`: T02 at top
-write `version = 1`, or 2 with its two keys
+write `version = 1`; or `version = 2`, with `police` in each bus and `jitter_us` in each stream
 
 T03
 a wanted key is absent
 no `tick_us`: T03 at top; in policed.toml no `police`: T03 at bus 0
-add it
+add it: docs/formats.md, \"Tables\", has the keys of each table
 
 T04
 a key is unknown
@@ -98,27 +98,27 @@ write the text as its key is spelled: docs/formats.md, \"Tables\"
 T08
 a list, or a total over the tables, is outside its limits
 `visits = []`: T08 at router 0
-split the tables
+write at least one member into a list that has none; of more than the greatest number take some out, or split the tables
 
 T09
-a parameter is doubled
+two parameters have one label and equipment code
 the second parameter's `label = \"203\"`: T09 at parameter 1
-one row for each label with equipment code
+keep one of the two, or mend the `label` or `equipment` of the other
 
 T10
-`min_us` over `max_us`
+`min_us` is over `max_us`
 `min_us = 30000`: T10 at parameter 0
 exchange them
 
 T11
-a stream's parameter has an input minimum below one tick
+the `min_us` of a stream's parameter is shorter than one tick
 both `min_us = 999`: T11 at stream 0
-a shorter tick
+a greater `min_us`, or a shorter `tick_us`
 
 T12
-an output label's parameter leaves no output interval
-`tick_us = 10000`: T12 at label 0
-a shorter tick
+the parameter of an output label leaves it no interval in whole ticks: the least, `min_us / tick_us` rounded up and one more, is over the greatest, `max_us / tick_us` rounded down less one
+`tick_us = 10000`, where the least is 2 ticks and the greatest 1: T12 at label 0
+a greater `max_us`, a smaller `min_us`, or a shorter `tick_us`; where `min_us` and `max_us` are equal no tick helps
 
 T13
 a name is doubled within its kind
@@ -126,59 +126,59 @@ the second stream's `name = \"A-203\"`: T13 at stream 1
 rename the later one
 
 T14
-a stream or label names a parameter that is not there
+no parameter has the label and equipment code of a stream or label
 the second stream's `equipment = \"002\"`: T14 at stream 1
-add the parameter
+mend its `label` or `equipment`, or add the parameter
 
 T15
 two streams of a bus have one label, and equal SDI or one of them \"any\"
 the second stream's `label = \"203\"`: T15 at stream 1
-part them by SDI
+give them different SDI, none of them \"any\", or take one out
 
 T16
 `visits` or `sources` holds a name that is not there
 `visits = [\"A\", \"B\"]`: T16 at router 0
-mend the name
+mend the spelling, or add the bus or stream of this name
 
 T17
 a bus is in the visits of no router, or of two routers
 a second router that visits A: T17 at bus 0
-give it one router
+write it into the `visits` of one router and no other
 
 T18
-a source is doubled in a label
+a label names one source twice
 `sources = [\"A-203\", \"A-203\"]`: T18 at label 0
 name it once
 
 T19
 a label's format is not that of each of its sources
 the label's parameter is `bnr`, a source's `bcd`: T19 at label 0
-sources of the label's format
+take sources of the label's format, or mend the `format` of a parameter
 
 T20
-an offset is not below the frame
+an offset is not below the `frame`
 `offsets = [15]`: T20 at label 0
-a longer frame
+an offset from 0 to `frame` - 1, or a longer `frame`, which moves all labels of the output
 
 T21
-two entries of an output have one offset
+two offsets of an output are one tick of its frame, be they of one label or of two
 `offsets = [0, 0]`: T21 at label 0
-move one
+move one of the two to a tick of the frame that is free
 
 T22
 two labels of an output have one label and SDI
 a second label 203 with SDI 0: T22 at label 1
-part them by SDI
+give one of the two another SDI, or another output
 
 T23
-a router's steps > most x within
-R1 with `steps = 3`, `most = 1`: T23 at router 0
-the router could never keep its pace: lower `steps`, or raise `most` or `within`
+a router owes more steps than it may make: in `within` ticks of `most` steps each there is no room for `steps`, so `steps` > `most` x `within`
+R1 with `steps = 3`, `most = 1`, which owes 3 steps in 1 tick and may make 1: T23 at router 0
+a smaller `steps`, or a greater `most` or `within`
 
 T24
-an output's steps x gap > within
-O with `steps = 3`: T24 at output 0
-the output could never keep its pace: lower `steps` or raise `within`";
+an output owes more words than its wire carries: in `within` ticks there is no room for `steps` words that lie a gap apart (365 microseconds at high speed and 3,050 at low, in ticks, rounded up), so `steps` x gap > `within`
+O with `steps = 3`, which owes 3 words in 2 ticks, and one a tick has room: T24 at output 0
+a smaller `steps` or a greater `within`; or a longer tick, where `tick_us` is shorter than was meant";
 
 /// Of the faults of a certificate.
 const CERTIFICATE: &str = "\
@@ -195,7 +195,7 @@ write `\"version\":1`
 K3
 a wanted key is absent
 no `delay` of A: K3 at inputs 0
-add it
+add it, or let `dc429 find` write the certificate
 
 K4
 a key is unknown
@@ -217,79 +217,79 @@ const CONDITION: &str = "\
 C01
 the inputs are not the tables' buses, once each in their order; or the outputs, or the labels likewise
 no inputs: `refused C01 inputs`
-list them as the tables do
+write the names as the tables spell and order them
 
 C02
-window outside 1 to 100,000 ticks
+the window is not one of 1 to 100,000 ticks
 A's window 0: `refused C02 input A`
-a window in the range
+write a window that closes (C03): `dc429 find` writes the least
 
 C03
-`a(window) > s(window - 1)`: the window does not close
-A's window 2: `refused C03 input A`
-a longer window, or more steps
+the window does not close: more may come in it than is surely taken by its end, `a(window) > s(window - 1)`
+A's window 2, by whose end 2 words may have come and 1 has surely been taken: `refused C03 input A`
+a longer window; or, in the tables, more `steps` or a shorter `within`
 
 C04
-for some w up to the window `a(w) - s(w - 2)` is over the backlog; the first w is named
-A's backlog 1: `refused C04 input A window 1`
-a greater backlog
+more words may wait than the backlog says: for some w up to the window `a(w) - s(w - 2)` is over it; the first w is named
+A's backlog 1, where 2 words may come in tick 1 before any is taken: `refused C04 input A window 1`
+a greater backlog, up to the `queue` of the bus
 
 C05
-the backlog is over the queue's capacity
+the backlog is over the `queue` of the bus
 `queue = 1` in the tables: `refused C05 input A`
-a longer queue, or more steps
+a smaller backlog, where C04 lets it; else a longer `queue`, or more `steps` of the router and then a smaller backlog
 
 C06
-for some w up to the window `a(w) > s(w - 1 + delay)`; the first w is named
-A's delay 1: `refused C06 input A window 1`
-a greater delay
+a word may wait longer than the delay says: for some w up to the window, what may have come by tick w has not all surely been taken `delay` ticks later, `a(w) > s(w - 1 + delay)`; the first w is named
+A's delay 1, where 2 words may come in tick 1, and by tick 2 only 1 has surely been taken: `refused C06 input A window 1`
+a greater delay: `dc429 find` writes the least that is enough
 
 C07
 the delay is over 100,000 ticks
 A's delay 100001: `refused C07 input A`
-a delay in the range
+a delay of at most 100,000: `dc429 find` writes the least that is enough
 
 C08
-the least gap of the label's entries is below its output minimum + the output's delay
-O's delay 5: `refused C08 label x`
-entries further apart
+two words of the label may leave too soon after one another: the least gap of its entries is below its output minimum (`min_us / tick_us` rounded up, and one more) + the output's delay
+O's delay 5: a word may leave 5 ticks late and the next in time, 15 - 5 = 10 ticks apart, where 11 are wanted: `refused C08 label x`
+`offsets` further apart, or a smaller delay of the output, where C06 lets it
 
 C09
-the greatest gap of the label's entries + the output's delay is over its output maximum
-`frame = 18` in the tables: `refused C09 label x`
-entries nearer together
+two words of the label may leave too late after one another: the greatest gap of its entries + the output's delay is over its output maximum (`max_us / tick_us` rounded down, less one)
+`frame = 18` in the tables: a word may leave in time and the next 2 ticks late, 18 + 2 = 20 ticks apart, where 19 are allowed: `refused C09 label x`
+`offsets` nearer together, as by more of them or a shorter `frame`, or a smaller delay of the output, where C06 lets it
 
 C10
-the age is below stale + the greatest delay of its sources' buses
-age 23: `refused C10 label x`
-a greater age
+a word may leave that is older than the age says: the age is below `stale` + the greatest delay of its sources' buses
+age 23, where a word may be 2 ticks in the queue and be sent 22 (`stale`) after it, 24 in all: `refused C10 label x`
+a greater age, up to the `age` of the tables
 
 C11
-the age is over the label's limit
-age 31: `refused C11 label x`
-a smaller age, or a shorter stale
+the age is over the label's limit, its `age` in the tables
+age 31, where the tables allow 30: `refused C11 label x`
+a smaller age, where C10 lets it; else a shorter `stale`, a quicker router of its sources' buses, or a greater `age` in the tables
 
 C12
-stale is below the bus's delay + the input maximum of some source: a live source could be passed over
-`stale = 21` in the tables: `refused C12 label x`
-a longer stale";
+a source that keeps its interval could be passed over as silent: `stale` is below its bus's delay + its input maximum (`max_us / tick_us` rounded up)
+`stale = 21` in the tables: two words may come 20 ticks apart and the second wait 2, 22 in all: `refused C12 label x`
+a longer `stale`, with an `age` that lets it (C11), or a smaller delay of the bus, where C06 lets it";
 
 /// Of what stands in the way of each certificate.
 const FINDER: &str = "\
 F1
-no window of 1 to 100,000 ticks closes, as where in the long run as much may come as is surely taken, or more
-R1 with `within = 10`: `refused F1 input A`
-of an input: more `steps` of its router, a smaller `within`, more visits of the bus, or fewer streams on it; of an output: more `steps`, a smaller `within`, or fewer entries in its frame
+no window of 1 to 100,000 ticks closes: it is never sure that all that came is taken, as where in the long run as much may come as is surely taken, or more
+R1 with `within = 10`: 2 words may come in each 10 ticks, and 1 is surely taken: `refused F1 input A`
+of an input: more `steps` of its router, a smaller `within`, more visits of the bus where the router visits others too, a greater `min_us` of its streams, or fewer of them; of an output: more `steps`, a smaller `within`, or fewer entries in its frame
 
 F2
-by the bounds more words may wait in the receive queue than it holds
-`queue = 1`: `refused F2 input A`
-a longer queue, a quicker router, or less jitter
+more words may wait in the receive queue of a bus than it holds
+`queue = 1`, where 2 words may come in one tick before any is taken: `refused F2 input A`
+a longer `queue`, a quicker router, or less jitter
 
 F3
 whatever is accepted of the inputs and outputs, a condition on the label fails: C08, C09 or C12, or C10 and C11 together, which is told as C11
-`stale = 21`: `refused F3 label x C12`
-what the condition's own code asks for, as C12. Of C11: a greater `age`, a shorter `stale`, or a quicker router of its sources' buses";
+`stale = 21`, where two words may come 20 ticks apart and the second wait 2: `refused F3 label x C12`
+what the code behind the name asks for, as `dc429 explain C12`. Of C11: a greater `age`, a shorter `stale`, or a quicker router of its sources' buses";
 
 /// Of the faults of a trace.
 const TRACE: &str = "\
@@ -301,7 +301,7 @@ one event a line; a shorter trace: 1,073,741,824 bytes for `replay`, and 100,000
 E2
 the first field is not A, R, S or T (an empty line too)
 `t`: E2 at line 1
-begin the line with A, R, S or T in upper case; no empty lines and no comments
+begin the line with A (a word comes), R (a router steps), S (an output sends) or T (the tick ends), in upper case; no empty lines and no comments
 
 E3
 the number of fields is not that of its kind
@@ -480,7 +480,7 @@ const SYSTEM: &str = "\
 N01
 the text is over its limit, not UTF-8 or no TOML document
 `version = 1` twice: N01 at top
-mend the text
+mend the text: `--explain always` shows the place
 
 N02
 `version` is absent or not 1
@@ -490,7 +490,7 @@ write `version = 1`
 N03
 a wanted key is absent
 no `most_us` in the first link: N03 at link 0
-add it
+add it: docs/formats.md, \"Systems\", has the keys of each table
 
 N04
 a key is unknown
@@ -565,11 +565,11 @@ in mid.toml the first parameter's `format = \"bcd\"`: `refused N17 link 0 stream
 one format for both
 
 N18
-the stream's `min_us` + what its `jitter_us` does not cover of the link's `most_us - least_us` > the `min_us` of the label that feeds it: words could come too soon
+words could come too soon: the stream's `min_us` + what its `jitter_us` does not cover of the link's `most_us - least_us` > the `min_us` of the label that feeds it
 the first link's `most_us = 1000`: `refused N18 link 0 stream FWD-ALT`
 a greater `jitter_us` or a smaller `min_us` of the stream, a greater `min_us` of the label, or a link that varies less
 
 N19
-the `max_us` of the label that feeds a stream + the link's `most_us - least_us` > the stream's `max_us`: words could come too late
+words could come too late: the `max_us` of the label that feeds a stream + the link's `most_us - least_us` > the stream's `max_us`
 the first link's `most_us = 800`: `refused N19 link 0 stream FWD-ALT`
 a greater `max_us` of the stream, a smaller one of the label, or a link that varies less";

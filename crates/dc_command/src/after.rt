@@ -27,6 +27,9 @@ pub(crate) const AFTER_FIND: &str = "Example: dc429 find tables.toml > certifica
 
 A file named - is standard input; one of that name is ./-
 
+The keys of tables, with their units and ranges, stand in docs/formats.md under
+\"Tables\"; examples/policed.toml has each.
+
 Exit status:
   0  found
   1  refused: no certificate is accepted for the tables
@@ -145,6 +148,11 @@ Exit status:
 
 /// Behind the options of `design`.
 pub(crate) const AFTER_DESIGN: &str = "Example: dc429 design inputs.csv outputs.csv > tables.toml
+
+Columns of inputs: bus, speed, label, equipment, format, min, max, and where
+there is something to say sdi, jitter, police, queue, router, name. Columns of
+outputs: output, speed, label, equipment, sources, min, max, and likewise sdi,
+max_age, timeout, name, format. A time's title has its unit, as in \"Min ms\".
 
 A file named - is standard input, which only one of the two sheets can be; one
 of that name is ./-. Where no --tick is said, the first of eight that does is

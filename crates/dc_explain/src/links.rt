@@ -1,11 +1,11 @@
 //! Links that do not fit what they join: N14 to N19.
-use crate::no_system::without_mark;
-use crate::outline::{Outline, outline_of};
+use crate::ends::{concentrator_at, end_of};
 use crate::output::{Answer, index_in};
 use crate::ran::Ran;
-use dc_codes::{Kind, meaning_of};
-use dc_explain_text::{Fact, number};
-use dc_system_text::SystemPart;
+use dc_codes::{Kind as Sort, meaning_of};
+use dc_explain_text::{Fact, Refused};
+use dc_explain_unreadable::refused_of;
+use dc_tell::Kind;
 use dc_tell::Value::Text;
 use std::alloc::Global;
 
@@ -54,49 +54,40 @@ fn texts_of(code: &str) -> (&'static str, &'static str) {
     ("", "")
 }
 
-/// By how many microseconds the latency of a link varies.
-fn variation(outline: &Outline<'_>, row: usize) -> u64 {
-    let least = number(outline.value(row, "least_us")).unwrap_or(0);
-    let most = number(outline.value(row, "most_us")).unwrap_or(0);
-    most.saturating_sub(least)
-}
-
 /// Writes by how much the latency of a link varies, and for what that is too much.
-fn tell_variation(outline: &mut Outline<'_>, row: usize, code: &str, means: &'static str) {
+fn tell_variation(refused: &mut Refused<'_>, code: &str, means: &'static str) {
     if code != "N18" && code != "N19" {
         return;
     }
-    let varies = variation(outline, row);
-    outline.say(
+    let row = refused.row;
+    let most = refused.count(row, "most_us");
+    let varies = most.saturating_sub(refused.count(row, "least_us"));
+    refused.say(
         "\nnote: of this link `most_us` - `least_us` is {} microseconds\nnote: {}",
         &[Fact::Number(varies), Fact::Word(means)],
     );
 }
 
 /// Writes where the tables of a concentrator stand.
-fn tell_tables(outline: &mut Outline<'_>, row: usize, key: &str) {
-    let (name, _) = outline.end(row, key);
-    let Some(index) = outline.named(outline.refused.layout.piece(name)) else {
-        return;
-    };
-    let own = outline.row(SystemPart::Concentrator, index);
-    outline.say(
-        "\nnote: the tables of concentrator `{}` are {}",
-        &[Fact::Piece(name), Fact::At(own, "tables")],
-    );
+fn tell_tables(refused: &mut Refused<'_>, key: &str) {
+    if let Some(own) = concentrator_at(refused, refused.row, key) {
+        refused.say(
+            "\nnote: the tables of {} are {}",
+            &[Fact::Row(own), Fact::At(own, "tables")],
+        );
+    }
 }
 
 /// Tells which link does not fit, and why.
-fn tell_link(outline: &mut Outline<'_>, code: &str, stream: &str) {
-    let row = outline.refused.row;
+fn tell_link(refused: &mut Refused<'_>, code: &str, stream: &str) {
+    let row = refused.row;
     let (before, behind) = texts_of(code);
-    let (sender, output) = outline.end(row, "from");
-    let (receiver, bus) = outline.end(row, "to");
-    outline.put(row);
-    outline.say(": ", &[]);
-    outline.say(before, &[Fact::Piece(output), Fact::Piece(sender)]);
-    outline.refused.out.put(Text(stream));
-    outline.say(
+    let (sender, output) = end_of(refused, row, "from");
+    let (receiver, bus) = end_of(refused, row, "to");
+    refused.say("{}: ", &[Fact::Row(row)]);
+    refused.say(before, &[Fact::Piece(output), Fact::Piece(sender)]);
+    refused.out.put(Text(stream));
+    refused.say(
         behind,
         &[
             Fact::Piece(bus),
@@ -109,21 +100,22 @@ fn tell_link(outline: &mut Outline<'_>, code: &str, stream: &str) {
 /// Explains a link that does not fit what it joins.
 pub(crate) fn explain_link(alloc: Global, ran: &Ran<'_>, answer: Answer<'_>) -> Option<String> {
     let (file, _) = ran.files();
-    let Some(meaning) = meaning_of(Kind::Link, answer.code) else {
+    let Some(meaning) = meaning_of(Sort::Link, answer.code) else {
         return None;
     };
-    let Some(mut outline) = outline_of(alloc, without_mark(file)) else {
+    let Some(mut refused) = refused_of(alloc, file, Kind::System, true) else {
         return None;
     };
     let place = answer.behind(2);
-    let row = outline.row(SystemPart::Link, index_in(place.code));
-    outline.refused.row = row;
-    outline.refused.out.begin(answer.code);
+    let row = refused.layout.row(Kind::Link, index_in(place.code));
+    refused.row = row.unwrap_or(0);
+    refused.out.begin(answer.code);
     let stream = place.behind(3).verb;
-    tell_link(&mut outline, answer.code, stream);
-    tell_variation(&mut outline, row, answer.code, meaning.means);
-    tell_tables(&mut outline, row, "from");
-    tell_tables(&mut outline, row, "to");
-    outline.refused.out.help("{}", &[Text(meaning.mend)]);
-    outline.finish()
+    tell_link(&mut refused, answer.code, stream);
+    tell_variation(&mut refused, answer.code, meaning.means);
+    tell_tables(&mut refused, "from");
+    tell_tables(&mut refused, "to");
+    refused.out.help("{}", &[Text(meaning.mend)]);
+    let Refused { out, .. } = refused;
+    out.finish()
 }

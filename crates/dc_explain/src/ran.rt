@@ -186,7 +186,7 @@ fn explain(alloc: Global, ran: &Ran<'_>) -> Option<String> {
         Exit::Failed if answer.verb == "failed" => explain_failure(alloc, ran, answer.code),
         Exit::Failed if is_without_file(answer) => explain_member(alloc, ran, answer),
         Exit::Failed => explain_failure(alloc, ran, "device"),
-        Exit::Unreadable | Exit::Refused if is_design(ran) => repeat_lines(alloc, ran.output),
+        Exit::Unreadable | Exit::Refused if is_design(ran) => repeat_lines(alloc, ran),
         Exit::Unreadable | Exit::Refused if is_network(ran) => explain_network(alloc, ran, answer),
         Exit::Unreadable => explain_text(alloc, ran, answer),
         Exit::Refused => explain_judged(alloc, ran, answer),

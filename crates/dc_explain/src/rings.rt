@@ -1,7 +1,7 @@
 //! Links that lead from a concentrator back to it: N13.
-use crate::outline::Outline;
-use dc_explain_text::Fact;
-use dc_system_text::SystemPart;
+use crate::ends::concentrator_at;
+use dc_explain_text::{Fact, Refused};
+use dc_tell::Kind;
 use std::alloc::Global;
 
 /// How many concentrators a system has at most.
@@ -10,30 +10,41 @@ const MOST: usize = 64;
 /// In the place of a link, where none leads on.
 const NONE: usize = usize::MAX;
 
-/// From which concentrator to which a link leads, by their numbers.
+/// From which concentrator to which a link leads, by their numbers, and the row of the link.
 #[derive(Clone, Copy)]
 struct Hop {
+    row: usize,
     from: usize,
     to: usize,
 }
 
 /// The concentrator at an end of a link, by its number; one that is not there where none has the name.
-fn end_of(outline: &Outline<'_>, row: usize, key: &str) -> usize {
-    let (name, _) = outline.end(row, key);
-    match outline.named(outline.refused.layout.piece(name)) {
-        Some(index) => index,
+fn end_of(refused: &Refused<'_>, row: usize, key: &str) -> usize {
+    match concentrator_at(refused, row, key) {
+        Some(concentrator) => index_of(refused, concentrator),
+        None => NONE,
+    }
+}
+
+/// The number of a table among those of its kind.
+fn index_of(refused: &Refused<'_>, row: usize) -> usize {
+    match refused.layout.rows.get(row) {
+        Some(it) => it.index,
         None => NONE,
     }
 }
 
 /// From which concentrator to which each link leads; nothing where memory was refused.
-fn hops_of(alloc: Global, outline: &Outline<'_>) -> Option<Vec<Hop>> {
+fn hops_of(alloc: Global, refused: &Refused<'_>) -> Option<Vec<Hop>> {
     let mut hops = Vec::new(alloc);
-    for index in 0..outline.links {
-        let row = outline.row(SystemPart::Link, index);
+    for (row, it) in refused.layout.rows.iter().enumerate() {
+        if it.kind != Kind::Link {
+            continue;
+        }
         let hop = Hop {
-            from: end_of(outline, row, "from"),
-            to: end_of(outline, row, "to"),
+            row,
+            from: end_of(refused, row, "from"),
+            to: end_of(refused, row, "to"),
         };
         if hops.push(hop).is_err() {
             return None;
@@ -67,19 +78,19 @@ fn ways_to(hops: &[Hop], goal: usize) -> [usize; MOST] {
 }
 
 /// Writes that a link is on the ring, and gives the concentrator to which it leads.
-fn tell_hop(outline: &mut Outline<'_>, hops: &[Hop], link: usize) -> usize {
-    let row = outline.row(SystemPart::Link, link);
-    outline.say("\nnote: ", &[]);
-    outline.put(row);
-    outline.say(" is on the ring, in line {}", &[Fact::Line(row, "to")]);
-    match hops.get(link) {
-        Some(hop) => hop.to,
-        None => NONE,
-    }
+fn tell_hop(refused: &mut Refused<'_>, hops: &[Hop], link: usize) -> usize {
+    let Some(hop) = hops.get(link) else {
+        return NONE;
+    };
+    refused.say(
+        "\nnote: {} is on the ring, in line {}",
+        &[Fact::Row(hop.row), Fact::Line(hop.row, "to")],
+    );
+    hop.to
 }
 
 /// Writes the links that lead from a concentrator back to it.
-fn tell_hops(outline: &mut Outline<'_>, hops: &[Hop], goal: usize) {
+fn tell_hops(refused: &mut Refused<'_>, hops: &[Hop], goal: usize) {
     let next = ways_to(hops, goal);
     let mut now = goal;
     for _ in 0..MOST {
@@ -87,7 +98,7 @@ fn tell_hops(outline: &mut Outline<'_>, hops: &[Hop], goal: usize) {
         if link == NONE {
             break;
         }
-        now = tell_hop(outline, hops, link);
+        now = tell_hop(refused, hops, link);
         if now == goal {
             break;
         }
@@ -95,20 +106,19 @@ fn tell_hops(outline: &mut Outline<'_>, hops: &[Hop], goal: usize) {
 }
 
 /// Tells of a concentrator from which links lead back to it.
-pub(crate) fn tell_ring(outline: &mut Outline<'_>) -> bool {
-    let row = outline.refused.row;
-    let (_, goal) = outline.part(row);
-    let Some(hops) = hops_of(outline.refused.alloc, outline) else {
-        outline.refused.out.lose();
+pub(crate) fn tell_ring(refused: &mut Refused<'_>) -> bool {
+    let row = refused.row;
+    let Some(hops) = hops_of(refused.alloc, refused) else {
+        refused.out.lose();
         return true;
     };
-    outline.put(row);
-    outline.say(
-        " is on a ring: links lead from it back to it{}",
-        &[Fact::Place(row, "name")],
+    refused.say(
+        "{} is on a ring: links lead from it back to it{}",
+        &[Fact::Row(row), Fact::Place(row, "name")],
     );
-    tell_hops(outline, hops.as_slice(), goal);
-    outline.say(
+    let goal = index_of(refused, row);
+    tell_hops(refused, hops.as_slice(), goal);
+    refused.say(
         "\nhelp: take out one of these links: how old data become that go round is not known",
         &[],
     );

@@ -1,118 +1,101 @@
 //! Rules on several tables of a system's text: N09 to N12.
-use crate::outline::Outline;
-use dc_explain_text::Fact;
-use dc_tell::{Span, Value};
+use crate::ends::{concentrator_at, end_of};
+use dc_explain_text::{Fact, Refused};
+use dc_tell::{Kind, Span, Value};
 
 /// The first table of the kind of that with the fault that has the same at a key.
-fn twin_of(outline: &Outline<'_>, key: &str) -> Option<usize> {
-    let row = outline.refused.row;
-    let (part, index) = outline.part(row);
-    for other in 0..index {
-        let twin = outline.row(part, other);
-        if outline.value(twin, key) == outline.value(row, key) {
-            return Some(twin);
+fn twin_of(refused: &Refused<'_>, key: &str) -> Option<usize> {
+    let row = refused.row;
+    let kind = refused.kind(row);
+    for (other, it) in refused.layout.rows.iter().enumerate() {
+        if other >= row {
+            break;
+        }
+        if it.kind == kind && refused.layout.value(other, key) == refused.layout.value(row, key) {
+            return Some(other);
         }
     }
     None
 }
 
-/// Writes where the first of two tables stands that do not go together.
-fn tell_first(outline: &mut Outline<'_>, twin: usize, key: &'static str) {
-    outline.say("\nnote: ", &[]);
-    outline.put(twin);
-    outline.say(" is here{}", &[Fact::Place(twin, key)]);
-}
+/// What is told of two concentrators of one name.
+const NAMESAKES: &str =
+    "{} stands there twice{}\nnote: {} is here{}\nhelp: give one of the two another name, here or in line {}, and write it in the `from` and `to` of the links that mean it";
 
-/// Tells of a concentrator with the name of another.
-pub(crate) fn tell_doubled(outline: &mut Outline<'_>) -> bool {
-    let row = outline.refused.row;
-    let Some(twin) = twin_of(outline, "name") else {
+/// What is told of two links to one bus.
+const RIVALS: &str =
+    "{} leads to a bus to which another leads{}\nnote: {} is here{}\nhelp: one link feeds a bus: let one of the two lead to a bus of its own, here or in line {}, or take it out";
+
+/// Tells of a concentrator with the name of another, or of a link to a bus to which another leads.
+pub(crate) fn tell_twin(refused: &mut Refused<'_>, key: &'static str) -> bool {
+    let row = refused.row;
+    let Some(twin) = twin_of(refused, key) else {
         return false;
     };
-    outline.put(row);
-    outline.say(" has the name of ", &[]);
-    outline.put(twin);
-    outline.say("{}", &[Fact::Place(row, "name")]);
-    tell_first(outline, twin, "name");
-    outline.say(
-        "\nhelp: give one of the two another name, here or in line {}, and write it in the `from` and `to` of the links that mean it",
-        &[Fact::Line(twin, "name")],
+    let is_link = refused.kind(row) == Kind::Link;
+    refused.say(
+        if is_link { RIVALS } else { NAMESAKES },
+        &[
+            Fact::Row(row),
+            Fact::Place(row, key),
+            Fact::Row(twin),
+            Fact::Place(twin, key),
+            Fact::Line(twin, key),
+        ],
     );
     true
 }
 
 /// Writes which concentrator may be meant by a name that none has.
-fn tell_meant(outline: &mut Outline<'_>, name: Span) {
-    let names = outline.names();
-    let text = str::from_utf8(outline.refused.layout.piece(name)).unwrap_or("");
-    match outline.refused.out.nearest(text, names.as_slice()) {
-        Some((like, _)) => {
-            outline.say("\nhelp: there is a concentrator `", &[]);
-            outline.refused.out.put(Value::Text(like));
-            outline.say("`: write its name here, if it is meant", &[]);
-        }
-        None => {
-            outline.say("\nhelp: write one of these, if it is meant: ", &[]);
-            outline.refused.out.put(Value::Names(names.as_slice()));
-        }
-    }
-}
-
-/// Whether the concentrator at an end of a link is there.
-fn is_there(outline: &Outline<'_>, row: usize, key: &str) -> bool {
-    let (name, _) = outline.end(row, key);
-    outline.named(outline.refused.layout.piece(name)).is_some()
+fn tell_meant(refused: &mut Refused<'_>, name: Span) {
+    let names = refused.names(Kind::Concentrator);
+    let text = str::from_utf8(refused.layout.piece(name)).unwrap_or("");
+    let Some((like, _)) = refused.out.nearest(text, names.as_slice()) else {
+        refused
+            .out
+            .help("write one of these, if it is meant: ", &[]);
+        return refused.out.put(Value::Names(names.as_slice()));
+    };
+    let meant = [Value::Text(like)];
+    refused.out.help(
+        "there is a concentrator `{}`: write its name here, if it is meant",
+        &meant,
+    );
 }
 
 /// Tells of a link from or to a concentrator that is not there.
-pub(crate) fn tell_no_concentrator(outline: &mut Outline<'_>) -> bool {
-    let row = outline.refused.row;
-    let key = if is_there(outline, row, "from") {
+pub(crate) fn tell_no_concentrator(refused: &mut Refused<'_>) -> bool {
+    let row = refused.row;
+    let key = if concentrator_at(refused, row, "from").is_some() {
         "to"
     } else {
         "from"
     };
-    let (name, _) = outline.end(row, key);
-    outline.say("`{}` of ", &[Fact::Word(key)]);
-    outline.put(row);
-    outline.say(
-        " names concentrator `{}`, and there is none of this name{}",
-        &[Fact::Piece(name), Fact::Place(row, key)],
+    let (name, _) = end_of(refused, row, key);
+    refused.say(
+        "`{}` of {} names concentrator `{}`, and there is none of this name{}",
+        &[
+            Fact::Word(key),
+            Fact::Row(row),
+            Fact::Piece(name),
+            Fact::Place(row, key),
+        ],
     );
-    tell_meant(outline, name);
-    outline.say(
+    tell_meant(refused, name);
+    refused.say(
         "\nhelp: or add the concentrator that is meant, with `name = \"{}\"`",
         &[Fact::Piece(name)],
     );
     true
 }
 
-/// Tells of a link to a bus to which another leads.
-pub(crate) fn tell_fed_twice(outline: &mut Outline<'_>) -> bool {
-    let row = outline.refused.row;
-    let Some(twin) = twin_of(outline, "to") else {
-        return false;
-    };
-    outline.put(row);
-    outline.say(" leads to the bus of ", &[]);
-    outline.put(twin);
-    outline.say("{}", &[Fact::Place(row, "to")]);
-    tell_first(outline, twin, "to");
-    outline.say(
-        "\nhelp: one link feeds a bus: let one of the two lead to a bus of its own, here or in line {}, or take it out",
-        &[Fact::Line(twin, "to")],
-    );
-    true
-}
-
 /// Tells of a link whose least latency is over its greatest.
-pub(crate) fn tell_reversed(outline: &mut Outline<'_>) -> bool {
-    let row = outline.refused.row;
-    outline.say("`least_us` of ", &[]);
-    outline.put(row);
-    outline.say(
-        " is {}, more than its `most_us` of {}{}\nhelp: exchange the two (line {}): a word is on the link for `least_us` microseconds at least and for `most_us` at most",
+pub(crate) fn tell_reversed(refused: &mut Refused<'_>) -> bool {
+    let row = refused.row;
+    refused.say(
+        "`least_us` of {} is {}, more than its `most_us` of {}{}\nhelp: exchange the two (line {}): a word is on the link for `least_us` microseconds at least and for `most_us` at most",
         &[
+            Fact::Row(row),
             Fact::At(row, "least_us"),
             Fact::At(row, "most_us"),
             Fact::Place(row, "least_us"),

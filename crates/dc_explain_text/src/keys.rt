@@ -1,5 +1,5 @@
 //! Which keys the tables of a configuration and the objects of a certificate have, and what is wanted at each.
-use dc_tell::{Kind, Names, is_of_certificate};
+use dc_tell::{Kind, Names, top_of};
 use std::alloc::Global;
 
 /// Of which sort a value is that is wanted.
@@ -21,6 +21,10 @@ pub enum Sort {
     Sdi,
     /// True or false.
     Truth,
+    /// The name of a file.
+    File,
+    /// An end of a link: two names with a dot between them.
+    End,
     /// A list of names.
     Names,
     /// A list of offsets.
@@ -58,7 +62,7 @@ type Row = (
 );
 
 /// The keys, in the order of each kind.
-static KEYS: [Row; 53] = [
+static KEYS: [Row; 63] = [
     (
         Kind::Top,
         "version",
@@ -536,6 +540,96 @@ static KEYS: [Row; 53] = [
         "",
         "how many ticks ago a word that is sent came in at most",
     ),
+    (
+        Kind::System,
+        "version",
+        Sort::Number,
+        1,
+        1,
+        "the version of the format",
+        "the version of the format: 1",
+    ),
+    (
+        Kind::System,
+        "concentrator",
+        Sort::Tables,
+        1,
+        64,
+        "[[concentrator]]",
+        "the concentrators of the network",
+    ),
+    (
+        Kind::System,
+        "link",
+        Sort::Tables,
+        0,
+        1_024,
+        "[[link]]",
+        "the links between them",
+    ),
+    (
+        Kind::Concentrator,
+        "name",
+        Sort::Name,
+        0,
+        0,
+        "",
+        "how links name it",
+    ),
+    (
+        Kind::Concentrator,
+        "tables",
+        Sort::File,
+        0,
+        0,
+        "",
+        "where its tables stand",
+    ),
+    (
+        Kind::Concentrator,
+        "certificate",
+        Sort::File,
+        0,
+        0,
+        "",
+        "where its certificate stands",
+    ),
+    (
+        Kind::Link,
+        "from",
+        Sort::End,
+        0,
+        0,
+        "output",
+        "the output whose words it carries",
+    ),
+    (
+        Kind::Link,
+        "to",
+        Sort::End,
+        0,
+        0,
+        "bus",
+        "the bus that it feeds",
+    ),
+    (
+        Kind::Link,
+        "least_us",
+        Sort::Number,
+        0,
+        1_000_000,
+        "microseconds",
+        "how long a word is on it at least",
+    ),
+    (
+        Kind::Link,
+        "most_us",
+        Sort::Number,
+        0,
+        1_000_000,
+        "microseconds",
+        "how long a word is on it at most",
+    ),
 ];
 
 /// The keys of all kinds.
@@ -591,7 +685,7 @@ pub(crate) fn other_with(kind: Kind, name: &[u8], is_list: bool) -> Kind {
         if is_list && *sort != Sort::Tables {
             continue;
         }
-        if is_of_certificate(*own) == is_of_certificate(kind) {
+        if top_of(*own) == top_of(kind) {
             return *own;
         }
     }

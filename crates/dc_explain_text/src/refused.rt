@@ -1,6 +1,6 @@
 //! A text that was refused, and what is told of it.
-use crate::keys::{Sort, keys_of};
-use crate::values::{is_spelled, number};
+use crate::keys::keys_of;
+use crate::values::number;
 use dc_tell::{
     Explanation, File, Form, Key, Kind, Layout, Names, Span, Value, called, naming, place_at,
     unquoted,
@@ -31,7 +31,7 @@ pub enum Fact {
     Several(u64, &'static str, &'static str),
     /// A word.
     Word(&'static str),
-    /// A table by its kind, its number and its name.
+    /// A table by its kind and what names it.
     Row(usize),
     /// What stands at a key of a table, without quotes.
     At(usize, &'static str),
@@ -45,6 +45,15 @@ pub enum Fact {
     Here(Span),
     /// Whether the line is told that begins with its hole.
     If(bool),
+}
+
+/// The keys of what names a table of a kind, the second empty where one does, and how it is told.
+fn naming_of(kind: Kind) -> (&'static str, &'static str, &'static str) {
+    match kind {
+        Kind::Parameter => ("label", "equipment", " (label {}, equipment {})"),
+        Kind::Link => ("from", "to", " ({} to {})"),
+        _ => (naming(kind), "", " `{}`"),
+    }
 }
 
 impl<'a> Refused<'a> {
@@ -113,35 +122,26 @@ impl<'a> Refused<'a> {
         names
     }
 
-    /// Writes a table by its kind, its number and its name; a parameter has its label and its code for one.
+    /// Writes a table by its kind and its name, or the two values that it has for one; by its number where it has none.
     fn put_row(&mut self, row: usize) {
         let Some(it) = self.layout.rows.get(row).copied() else {
             return;
         };
         let (kind, _) = called(it.kind);
-        let name = self.layout.value(row, naming(it.kind));
+        self.out.put(Value::Text(kind));
         if row == 0 {
-            self.out.say(kind, &[]);
             return;
         }
-        let name = if is_spelled(Sort::Name, name) {
-            str::from_utf8(name).unwrap_or("")
+        let (key, other, sentence) = naming_of(it.kind);
+        let name = self.layout.value(row, key);
+        let behind = self.layout.value(row, other);
+        if name.is_empty() || (!other.is_empty() && behind.is_empty()) {
+            let number = (it.index as u64).saturating_add(1);
+            let count = self.tables_of(it.kind) as u64;
+            self.out.say(" {} of {}", &[Value::Number(number), Value::Number(count)]);
         } else {
-            ""
-        };
-        let count = self.tables_of(it.kind);
-        self.out.put(Value::Thing(kind, it.index, count, name));
-        self.put_codes(row);
-    }
-
-    /// Writes the label and the equipment code of a parameter, where they are spelled as such.
-    fn put_codes(&mut self, row: usize) {
-        let label = self.layout.value(row, "label");
-        let equipment = self.layout.value(row, "equipment");
-        let is_spelled = is_spelled(Sort::Label, label) && is_spelled(Sort::Equipment, equipment);
-        if self.kind(row) == Kind::Parameter && is_spelled {
-            let codes = [Value::Brief(label), Value::Brief(equipment)];
-            self.out.say(" (label {}, equipment {})", &codes);
+            let names = [Value::Brief(name), Value::Brief(behind)];
+            self.out.say(sentence, &names);
         }
     }
 

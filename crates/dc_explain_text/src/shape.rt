@@ -2,7 +2,7 @@
 use crate::keys::{Sort, key_of, other_with};
 use crate::refused::{Fact, Refused, name_of};
 use crate::wanted::tell_wanted;
-use dc_tell::{Form, Key, Kind, Span, Value, called, is_of_certificate};
+use dc_tell::{Form, Key, Kind, Span, Value, called, top_of};
 
 /// The first key of the table with the fault that is unknown.
 fn unknown_key(refused: &Refused<'_>) -> Option<Key> {
@@ -77,8 +77,13 @@ fn tell_keys(refused: &mut Refused<'_>) {
 /// Writes which known key is most like an unknown one, and which keys there are.
 fn tell_known(refused: &mut Refused<'_>, key: Key) {
     let names = refused.keys();
-    let name = str::from_utf8(refused.layout.bare(key.name)).unwrap_or("");
-    refused.say("\nhelp: ", &[]);
+    let bare = refused.layout.bare(key.name);
+    let name = str::from_utf8(bare).unwrap_or("");
+    let is_system = refused.kind(refused.row) == Kind::System;
+    refused.say(
+        "\n{}help: this is a key of tables: name the text of a system, which names the tables of each concentrator\nhelp: ",
+        &[Fact::If(is_system && key_of(Kind::Top, bare, true).is_some())],
+    );
     if let Some((like, other)) = refused.out.nearest(name, names.as_slice()) {
         let is_one = other.is_empty();
         let (and, end) = if is_one {
@@ -100,6 +105,15 @@ fn tell_known(refused: &mut Refused<'_>, key: Key) {
     refused.say(" and no other", &[]);
 }
 
+/// How it is told of a key that no table of the texts that have a kind has.
+fn strangers_to(kind: Kind) -> &'static str {
+    match top_of(kind) {
+        Kind::Certificate => "certificates do not know",
+        Kind::System => "systems do not know",
+        _ => "tables do not know",
+    }
+}
+
 /// Tells of a key that is unknown.
 pub fn tell_unknown(refused: &mut Refused<'_>) -> bool {
     let Some(key) = unknown_key(refused) else {
@@ -111,10 +125,8 @@ pub fn tell_unknown(refused: &mut Refused<'_>) -> bool {
     let other = other_with(kind, bare, key.form != Form::Value);
     let what = if is_late || other != Kind::None {
         "does not belong there"
-    } else if is_of_certificate(kind) {
-        "certificates do not know"
     } else {
-        "tables do not know"
+        strangers_to(kind)
     };
     let name = name_of(refused, key);
     refused.say(
@@ -139,11 +151,12 @@ pub fn tell_unknown(refused: &mut Refused<'_>) -> bool {
     true
 }
 
-/// The first of these keys that the table with the fault lacks.
+/// The first of these keys that the table with the fault lacks. Tables may lack each list of their top, a system its links.
 fn lacked(refused: &Refused<'_>, names: &[&'static str]) -> Option<&'static str> {
     let is_top = refused.kind(refused.row) == Kind::Top;
     for name in names {
-        if is_top && *name != "version" && *name != "tick_us" {
+        let is_list = is_top && *name != "version" && *name != "tick_us";
+        if is_list || *name == "link" {
             continue;
         }
         if refused.layout.key(refused.row, name.as_bytes()).is_none() {
@@ -193,7 +206,7 @@ fn usual(refused: &Refused<'_>, key: &str) -> Option<(usize, u64)> {
 }
 
 /// Writes what most other tables of the kind have at a key.
-fn tell_usual(refused: &mut Refused<'_>, key: &'static str) {
+pub(crate) fn tell_usual(refused: &mut Refused<'_>, key: &'static str) {
     let Some((usual, most)) = usual(refused, key) else {
         return;
     };
@@ -311,27 +324,33 @@ pub fn tell_no_table(refused: &mut Refused<'_>) -> bool {
     true
 }
 
-/// Tells of a version that is none.
-pub fn tell_version(refused: &mut Refused<'_>) -> bool {
-    let is_json = refused.layout.is_json;
-    let todo = if is_json {
-        "{}\nhelp: write `\"version\":1`, the number without quotes, whatever the version of the tables is"
-    } else {
-        "{}\nhelp: begin the file with a line `version = 1`, or with `version = 2` for tables whose buses have `police` and whose streams have `jitter_us`"
-    };
-    match refused.layout.key(0, b"version") {
-        None => refused.say("{} has no `version`", &[Fact::Row(0)]),
-        Some(key) if is_json => refused.say(
+/// Which versions there are of a text with a top of this kind, and how one is written.
+fn versions_of(top: Kind) -> (&'static str, &'static str) {
+    match top {
+        Kind::Certificate => (
             "`version` is {}, and there are certificates of version 1 alone",
-            &[Fact::Piece(key.value)],
+            "{}\nhelp: write `\"version\":1`, the number without quotes, whatever the version of the tables is",
         ),
-        Some(key) => refused.say(
+        Kind::System => (
+            "`version` is {}, and there are systems of version 1 alone",
+            "{}\nhelp: begin the file with a line `version = 1`, the number without quotes, whatever the version of the tables is",
+        ),
+        _ => (
             "`version` is {}, and there are versions 1 and 2",
-            &[Fact::Piece(key.value)],
+            "{}\nhelp: begin the file with a line `version = 1`, or with `version = 2` for tables whose buses have `police` and whose streams have `jitter_us`",
         ),
     }
+}
+
+/// Tells of a version that is none.
+pub fn tell_version(refused: &mut Refused<'_>) -> bool {
+    let (sentence, todo) = versions_of(refused.kind(0));
+    match refused.layout.key(0, b"version") {
+        None => refused.say("{} has no `version`", &[Fact::Row(0)]),
+        Some(key) => refused.say(sentence, &[Fact::Piece(key.value)]),
+    }
     refused.say(todo, &[Fact::Place(0, "version")]);
-    if !is_json {
+    if !refused.layout.is_json {
         tell_misplaced(refused, "version");
     }
     true

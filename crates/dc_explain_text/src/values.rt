@@ -88,7 +88,9 @@ fn fits_sort(sort: Sort, value: &[u8]) -> bool {
         Sort::Sdi => is_number(value) || is_text(value),
         Sort::Truth => value == b"true".as_slice() || value == b"false".as_slice(),
         Sort::Names | Sort::Offsets | Sort::Tables | Sort::List => is_list(value),
-        Sort::Name | Sort::Label | Sort::Equipment | Sort::Word => is_text(value),
+        Sort::Name | Sort::Label | Sort::Equipment | Sort::Word | Sort::File | Sort::End => is_text(
+            value,
+        ),
     }
 }
 
@@ -132,8 +134,20 @@ fn is_among(text: &[u8], words: &str) -> bool {
     false
 }
 
+/// Whether a text is two names with a dot between them, the first that there is.
+fn is_end(text: &[u8]) -> bool {
+    for (dot, byte) in text.iter().enumerate() {
+        if *byte == b'.' {
+            let port = text.get(dot.saturating_add(1)..).unwrap_or(b"");
+            return is_spelled(Sort::Name, text.get(..dot).unwrap_or(b""))
+                && is_spelled(Sort::Name, port);
+        }
+    }
+    false
+}
+
 /// Whether a text is a name, a label or an equipment code.
-pub(crate) fn is_spelled(sort: Sort, text: &[u8]) -> bool {
+fn is_spelled(sort: Sort, text: &[u8]) -> bool {
     if wrong_at(sort, text).is_some() {
         return false;
     }
@@ -151,6 +165,7 @@ fn fits_spelling(wanted: Wanted, text: &[u8]) -> bool {
     match wanted.sort {
         Sort::Name | Sort::Label | Sort::Equipment => is_spelled(wanted.sort, text),
         Sort::Word => is_among(text, wanted.what),
+        Sort::End => is_end(text),
         Sort::Sdi => text == b"any".as_slice(),
         _ => true,
     }

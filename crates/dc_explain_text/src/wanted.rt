@@ -1,12 +1,13 @@
 //! Values that are not what is wanted at their key.
 use crate::keys::{Sort, Wanted, key_of};
 use crate::refused::{Fact, Refused};
+use crate::shape::tell_usual;
 use crate::values::{Misfit, keeps, member_of, wrong_at};
 use dc_tell::{Form, Key, Span, Value, unquoted};
 
 /// The sorts of values: what is wanted, by the least, the most and what it is of; what a value is not that is no such;
 /// and what a letter is not that may not stand there.
-static SORTS: [(Sort, &'static str, &'static str, &'static str); 12] = [
+static SORTS: [(Sort, &'static str, &'static str, &'static str); 14] = [
     (
         Sort::Number,
         "a whole number from {} to {} ({}), without quotes",
@@ -79,6 +80,18 @@ static SORTS: [(Sort, &'static str, &'static str, &'static str); 12] = [
         "which is not a list in brackets{}",
         "",
     ),
+    (
+        Sort::File,
+        "the name of a file in quotes, taken from the folder of this text, or as it is where it begins with /",
+        "which is not a text in quotes{}",
+        "",
+    ),
+    (
+        Sort::End,
+        "a text in quotes, as \"FWD.AIR\": the name of a concentrator, a dot, and the name of its ",
+        "which is not a text in quotes{}",
+        "",
+    ),
 ];
 
 /// What is told of a sort of values.
@@ -102,7 +115,7 @@ pub fn tell_wanted(refused: &mut Refused<'_>, wanted: Wanted) {
             Fact::Word(wanted.what),
         ],
     );
-    if wanted.sort == Sort::Word {
+    if wanted.sort == Sort::Word || wanted.sort == Sort::End {
         refused.out.put(Value::Text(wanted.what));
     }
 }
@@ -116,6 +129,7 @@ fn what_is_misspelt(sort: Sort, text: &[u8]) -> &'static str {
         Sort::Label if text == b"000".as_slice() => "and labels begin with 001{}",
         Sort::Label => "and the last label is 377{}",
         Sort::Equipment => "which is not three digits{}",
+        Sort::End => "which is not two names with a dot between them{}",
         _ => "which is no such word{}",
     }
 }
@@ -268,6 +282,9 @@ pub fn tell_misfit(refused: &mut Refused<'_>, rule: Misfit) -> bool {
     tell_wanted(refused, wanted);
     if wanted.sort == Sort::Names {
         refused.say("; a name is 1 to 16 of A-Z a-z 0-9 _ -", &[]);
+    }
+    if rule == Misfit::Range {
+        tell_usual(refused, name);
     }
     true
 }

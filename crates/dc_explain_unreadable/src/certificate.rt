@@ -1,11 +1,10 @@
 //! Certificates that were refused.
-use crate::document::tell_no_document;
+use crate::document::{refused_of, tell_no_document};
 use dc_cert::{CertRule, Fault, LIST_LIMIT, TextPlace};
-use dc_document::TEXT_LIMIT;
 use dc_explain_text::{
     Fact, Misfit, Refused, tell_absent, tell_misfit, tell_no_table, tell_unknown, tell_version,
 };
-use dc_tell::{Explanation, File, Kind, layout_of};
+use dc_tell::{File, Kind};
 use std::alloc::Global;
 
 /// The kind of the object at a place, and its number among those of its kind.
@@ -72,25 +71,18 @@ fn tell_plainly(refused: &mut Refused<'_>, code: &'static str) {
 
 /// Explains why a text gives no certificate, by its fault; nothing where memory was refused.
 pub fn explain_certificate(alloc: Global, file: File<'_>, fault: Fault) -> Option<String> {
-    let is_long = file.text.len() > TEXT_LIMIT;
-    let text = if is_long { b"" } else { file.text };
-    let Some(layout) = layout_of(alloc, text, true) else {
+    let is_document = fault.rule != CertRule::NotJson;
+    let Some(mut refused) = refused_of(alloc, file, Kind::Certificate, is_document) else {
         return None;
     };
     let (kind, index) = object_at(fault.place);
-    let row = layout.row(kind, index);
-    let mut refused = Refused {
-        alloc,
-        out: Explanation::new(alloc),
-        file,
-        layout,
-        row: row.unwrap_or(0),
-    };
+    let row = refused.layout.row(kind, index);
+    refused.row = row.unwrap_or(0);
     refused.out.begin(fault.rule.code());
     if row.is_none() || !tell(&mut refused, fault.rule) {
         tell_plainly(&mut refused, fault.rule.code());
     }
-    if fault.rule != CertRule::NotJson {
+    if is_document {
         refused.say(
             "\nhelp: or let `dc429 find TABLES > FILE` write a certificate",
             &[],

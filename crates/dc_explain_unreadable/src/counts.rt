@@ -67,7 +67,7 @@ fn list_past(refused: &Refused<'_>, keys: &[&'static str]) -> Option<(&'static s
             continue;
         };
         let is_there = refused.layout.key(refused.row, name.as_bytes()).is_some();
-        if is_there && (count == 0 || count > wanted.most) {
+        if is_there && (count < wanted.least || count > wanted.most) {
             return Some((*name, wanted, count));
         }
     }
@@ -94,7 +94,7 @@ fn tell_total(refused: &mut Refused<'_>) -> bool {
 }
 
 /// Tells of a list that is empty or too long, or of a total that is passed.
-pub(crate) fn tell_count(refused: &mut Refused<'_>) -> bool {
+pub fn tell_count(refused: &mut Refused<'_>) -> bool {
     let row = refused.row;
     let keys = refused.keys();
     let Some((name, wanted, count)) = list_past(refused, keys.as_slice()) else {

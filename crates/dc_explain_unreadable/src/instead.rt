@@ -34,7 +34,7 @@ static PRINTED: [(&'static str, &'static str); 6] = [
 
 /// What is told of a text that looks like tables.
 const TABLES: &str =
-    "this looks like tables, which are TOML, and a certificate is wanted here, which is JSON{}\nhelp: name the tables first, and then the certificate, as in: dc429 check tables.toml certificate.json";
+    "this looks like tables, which are TOML, and a certificate is wanted here, which is JSON{}\nnote: the file of the tables is another, and could be read\nhelp: name here the file that holds the certificate, as `dc429 find TABLES > FILE` writes it: what is in a file counts, and not what it is called";
 
 /// The second word of the first line of a text.
 fn second_word(text: &[u8]) -> Span {

@@ -1,5 +1,5 @@
-//! What a person is told of tables or of a certificate that can't be read: the thing itself, where it stands, and what to
-//! do. No program reads it, and no clause speaks of it but that it ends and is safe.
+//! What a person is told of tables, of a certificate or of a system that can't be read: the thing itself, where it stands,
+//! and what to do. No program reads it, and no clause speaks of it but that it ends and is safe.
 #![tactic(auto)]
 
 mod certificate;
@@ -18,4 +18,6 @@ mod twins;
 mod visits;
 
 pub use certificate::explain_certificate;
+pub use counts::tell_count;
+pub use document::{refused_of, tell_no_document};
 pub use tables::explain_tables;

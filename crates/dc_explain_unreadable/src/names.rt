@@ -45,8 +45,8 @@ fn unnamed_parameter(refused: &Refused<'_>) -> Option<usize> {
     None
 }
 
-/// Writes which other streams and labels have no parameter either.
-fn tell_others(refused: &mut Refused<'_>) {
+/// Writes by a sentence which streams and labels, but the one with the fault, have no parameter.
+pub(crate) fn tell_orphans(refused: &mut Refused<'_>, sentence: &'static str) {
     let mut count = 0usize;
     for row in 0..refused.layout.rows.len() {
         let kind = refused.kind(row);
@@ -59,7 +59,7 @@ fn tell_others(refused: &mut Refused<'_>) {
         count = count.saturating_add(1);
         if count <= NAMED {
             refused.say(
-                "\nnote: {} in line {} has none either, with label {} and equipment code {}",
+                sentence,
                 &[
                     Fact::Row(row),
                     Fact::Line(row, "label"),
@@ -71,7 +71,7 @@ fn tell_others(refused: &mut Refused<'_>) {
     }
     if count > NAMED {
         refused.say(
-            "\nnote: {} streams and labels have none besides",
+            "\nnote: {} streams and labels in all have none",
             &[Fact::Number(count as u64)],
         );
     }
@@ -106,7 +106,10 @@ pub(crate) fn tell_no_parameter(refused: &mut Refused<'_>) {
             Fact::At(row, "equipment"),
         ],
     );
-    tell_others(refused);
+    tell_orphans(
+        refused,
+        "\nnote: {} in line {} has none either, with label {} and equipment code {}",
+    );
 }
 
 /// Those of some names that may stand in the list at a key in the place of one that no table has: none that stands there

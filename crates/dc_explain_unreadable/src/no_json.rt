@@ -53,7 +53,7 @@ fn is_whole(alloc: Global, text: &[u8]) -> bool {
 }
 
 /// What may be wrong where the reader stopped: what stands before (nothing for any), what stands there, and what it is.
-static CAUSES: [(&'static [u8], &'static [u8], &'static str); 12] = [
+static CAUSES: [(&'static [u8], &'static [u8], &'static str); 14] = [
     (
         b" ",
         b"",
@@ -63,6 +63,16 @@ static CAUSES: [(&'static [u8], &'static [u8], &'static str); 12] = [
         b":",
         b"0+-.",
         "write a whole number in digits alone, with no 0 and no sign before them (4294967295 at most)",
+    ),
+    (
+        b":",
+        b"},]",
+        "a value is missing here, behind the colon: each key has one, as `\"version\":1`",
+    ),
+    (
+        b":",
+        b"a_",
+        "a value is a number in digits, a text in double quotes, a list or an object",
     ),
     (
         b":,[{",

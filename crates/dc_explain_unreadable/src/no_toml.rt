@@ -1,26 +1,13 @@
-//! Texts in the place of tables that no TOML reader reads, and what is wrong where it stopped.
+//! Texts in the place of tables or of a system that no TOML reader reads, and what is wrong where it stopped.
 use dc_explain_text::{Fact, Refused};
-use dc_tell::{File, Span, Value};
-
-/// A text without the byte order mark before it.
-pub(crate) fn without_mark(file: File<'_>) -> File<'_> {
-    let text = if file.text.starts_with(b"\xEF\xBB\xBF") {
-        file.text.get(3..).unwrap_or(b"")
-    } else {
-        file.text
-    };
-    File {
-        name: file.name,
-        text,
-    }
-}
+use dc_tell::{Kind, Span, Value};
 
 /// What TOML's reader says where something is wrong, and what is to be done there; what is empty is said where nothing
 /// else is.
 static CURES: [(&'static str, &'static str); 8] = [
     (
         "duplicate key",
-        "{}\nhelp: a key stands once in a table, and its table is headed once: take one of the two out, or head each member of a list by `[[..]]`, as `[[bus]]`; where a list is written `bus = [..]`, its members stand between these brackets",
+        "{}\nhelp: a key stands once in a table, and its table is headed once: take one of the two out, or head each member of a list by `[[..]]`, as `[[bus]]` or `[[link]]`; where a list is written `bus = [..]`, its members stand between these brackets",
     ),
     (
         "with no value",
@@ -59,13 +46,58 @@ fn cure(message: &str) -> &'static str {
     "{}"
 }
 
+/// What is told of JSON in the place of tables.
+const NO_TABLES: &str =
+    "this is JSON, as a certificate is, and the tables are wanted here, which are TOML{}\nhelp: name the tables first, and then the certificate, as in: dc429 check tables.toml certificate.json\nhelp: where they are named so, what is in the two files is exchanged: rename them, each as the other";
+
+/// What is told of JSON in the place of a system.
+const NO_SYSTEM: &str =
+    "this is JSON, as a certificate is, and a system is wanted here, which is TOML{}\nhelp: name the text that lists the concentrators";
+
+/// The word of letters and digits round a place; empty where none is.
+fn word_at(text: &[u8], at: usize) -> Span {
+    let mut from = 0usize;
+    for (place, byte) in text.iter().enumerate() {
+        if byte.is_ascii_alphanumeric() {
+            continue;
+        }
+        if place >= at {
+            return Span { from, to: place };
+        }
+        from = place.saturating_add(1);
+    }
+    Span {
+        from,
+        to: text.len(),
+    }
+}
+
+/// Whether a piece of a text is three digits that may be a label or an equipment code.
+fn is_code(piece: &[u8]) -> bool {
+    for byte in piece {
+        if !byte.is_ascii_hexdigit() {
+            return false;
+        }
+    }
+    piece.len() == 3
+}
+
+/// Writes that what stands at a place is a code that wants quotes, where it may be one.
+fn tell_code(refused: &mut Refused<'_>, text: &[u8], at: usize) {
+    let word = word_at(text, at);
+    let piece = text.get(word.from..word.to).unwrap_or(b"");
+    refused.say(
+        "\n{}help: where a label or an equipment code is meant: it is a text, \"{}\" in quotes",
+        &[Fact::If(is_code(piece)), Fact::Piece(word)],
+    );
+}
+
 /// Tells of a text that is no TOML document: that it is JSON, or what TOML's reader says of it.
 pub(crate) fn tell_no_toml(refused: &mut Refused<'_>, text: &str) {
     if text.trim_start().starts_with('{') {
-        return refused.say(
-            "this is JSON, as a certificate is, and the tables are wanted here, which are TOML{}\nhelp: name the tables first, and then the certificate, as in: dc429 check tables.toml certificate.json",
-            &[Fact::Here(Span { from: 0, to: 0 })],
-        );
+        let is_system = refused.kind(0) == Kind::System;
+        let sentence = if is_system { NO_SYSTEM } else { NO_TABLES };
+        return refused.say(sentence, &[Fact::Here(Span { from: 0, to: 0 })]);
     }
     let error = match toml::table_from_str(refused.alloc, text) {
         Ok(_) => return refused.say("this is no TOML document", &[]),
@@ -83,4 +115,7 @@ pub(crate) fn tell_no_toml(refused: &mut Refused<'_>, text: &str) {
         cure(error.message()),
         &[Fact::Here(Span { from: at, to: at })],
     );
+    if error.message().contains("invalid value") {
+        tell_code(refused, text.as_bytes(), at);
+    }
 }

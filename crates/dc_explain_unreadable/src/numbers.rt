@@ -1,6 +1,6 @@
 //! Intervals that do not go together with one another, or with the tick.
 use crate::related::parameter_of;
-use dc_explain_text::{Fact, Refused};
+use dc_explain_text::{Fact, Refused, number};
 
 /// The shortest tick, in microseconds.
 const SHORTEST: u64 = 100;
@@ -31,8 +31,9 @@ fn tell_quick(refused: &mut Refused<'_>, parameter: usize) {
     let row = refused.row;
     let least = refused.count(parameter, "min_us");
     let tick = refused.count(0, "tick_us");
+    let millis = least.saturating_mul(1_000);
     refused.say(
-        "{} may bring a word every {} microseconds, less than one tick: the `min_us` of {} is {}, and `tick_us` is {}{}\nnote: {} is here{}\n{}help: write `tick_us = {}` or less (line {}; {} at least)\nhelp: write a `min_us` of {} or more in this parameter, where its words do come no sooner (no tick is shorter than {} microseconds)",
+        "{} may bring a word every {} microseconds, less than one tick: the `min_us` of {} is {}, and `tick_us` is {}{}\nnote: {} is here{}\n{}help: `min_us` counts microseconds: write {}, where {} milliseconds are meant\n{}help: write `tick_us = {}` or less (line {}; {} at least)\nhelp: write a `min_us` of {} or more in this parameter, where its words do come no sooner (no tick is shorter than {} microseconds)",
         &[
             Fact::Row(row),
             Fact::Number(least),
@@ -42,6 +43,9 @@ fn tell_quick(refused: &mut Refused<'_>, parameter: usize) {
             Fact::Place(parameter, "min_us"),
             Fact::Row(row),
             Fact::Place(row, "label"),
+            Fact::If(least < SHORTEST && tick <= millis),
+            Fact::Number(millis),
+            Fact::Number(least),
             Fact::If(least >= SHORTEST),
             Fact::Number(least),
             Fact::Line(0, "tick_us"),
@@ -79,30 +83,59 @@ fn longest_tick(least: u64, greatest: u64) -> u64 {
     longest
 }
 
-/// Writes which changes leave an interval.
-fn tell_ways(refused: &mut Refused<'_>, least: u64, greatest: u64, tick: u64) {
+/// How many ticks after an entry of the label with the fault its next one comes.
+fn gap_behind(refused: &Refused<'_>, offset: u64, frame: u64) -> u64 {
+    let mut gap = frame;
+    for member in refused.layout.members(refused.row, "offsets") {
+        let other = number(refused.layout.piece(*member)).unwrap_or(0);
+        let next = if other > offset {
+            other
+        } else {
+            other.saturating_add(frame)
+        };
+        gap = gap.min(next.saturating_sub(offset));
+    }
+    gap
+}
+
+/// How many ticks after one another the entries of the label with the fault come, at least and at most, where its
+/// output sends one entry as soon as it may and the other so late.
+fn sent_apart(refused: &Refused<'_>, frame: u64, late: u64) -> (u64, u64) {
+    let (mut least, mut greatest) = (frame, 0u64);
+    for member in refused.layout.members(refused.row, "offsets") {
+        let offset = number(refused.layout.piece(*member)).unwrap_or(0);
+        let gap = gap_behind(refused, offset, frame);
+        least = least.min(gap);
+        greatest = greatest.max(gap);
+    }
+    (least.saturating_sub(late), greatest.saturating_add(late))
+}
+
+/// Writes which changes leave an interval that the label's own offsets keep.
+fn tell_ways(refused: &mut Refused<'_>, parameter: usize, tick: u64) {
+    let least = refused.count(parameter, "min_us");
+    let greatest = refused.count(parameter, "max_us");
+    let output = refused.parent(refused.row);
+    let late = refused.count(output, "within");
+    let (soonest, latest) = sent_apart(refused, refused.count(output, "frame"), late);
+    let minimum = soonest.saturating_sub(1).saturating_mul(tick);
+    let maximum = latest.saturating_add(1).saturating_mul(tick);
     let longest = longest_tick(least, greatest);
-    let maximum = fewest(least, tick).saturating_add(1).saturating_mul(tick);
-    let minimum = most(greatest, tick).saturating_sub(1).saturating_mul(tick);
-    let why = if least == greatest {
-        "the same"
-    } else {
-        "too near"
-    };
     refused.say(
-        "\n{}help: with ticks of {} write a `min_us` of {} or less: words may then come and be sent sooner after one another\n{}help: shorten the tick (line {}): `tick_us = {}` is the longest that serves this label; see then to all that the tables count in ticks\n{}note: no tick serves this label, since its `min_us` and `max_us` are {}\n{}help: with ticks of {} write a `max_us` of {} or more; this weakens what is promised: words may be further apart",
+        "\nnote: by its `offsets`, and the `within` of its output, its words may leave {} to {} ticks apart\n{}help: write a `min_us` of {} or less (line {}) for that: words may then come and be sent sooner after one another\n{}help: write a `max_us` of {} or more (line {}) for that; this weakens what is promised: words may be further apart\n{}help: or shorten the tick (line {}): `tick_us = {}` is the longest that serves this label; then change all that the tables count in ticks: `within`, `frame`, `offsets`, `stale`, `age`\n{}note: no tick serves this label with this `min_us` and `max_us`\nnote: these numbers satisfy this rule alone: `dc429 find TABLES` then tells whether they are enough",
         &[
-            Fact::If(minimum >= 1),
-            Fact::Number(tick),
+            Fact::Number(soonest),
+            Fact::Number(latest),
+            Fact::If(least > minimum && minimum >= 1),
             Fact::Number(minimum),
+            Fact::Line(parameter, "min_us"),
+            Fact::If(greatest < maximum && maximum <= LONGEST_US),
+            Fact::Number(maximum),
+            Fact::Line(parameter, "max_us"),
             Fact::If(longest != 0),
             Fact::Line(0, "tick_us"),
             Fact::Number(longest),
             Fact::If(longest == 0),
-            Fact::Word(why),
-            Fact::If(maximum <= LONGEST_US),
-            Fact::Number(tick),
-            Fact::Number(maximum),
         ],
     );
 }
@@ -135,7 +168,7 @@ fn tell_narrow(refused: &mut Refused<'_>, parameter: usize) {
             Fact::Place(row, "label"),
         ],
     );
-    tell_ways(refused, least, greatest, tick);
+    tell_ways(refused, parameter, tick);
 }
 
 /// Tells of a stream or a label by its parameter, where it has one.

@@ -20,9 +20,14 @@ pub(crate) fn tell_offset(refused: &mut Refused<'_>) -> bool {
     let Some((member, offset)) = past(refused, frame) else {
         return false;
     };
+    let Some(taken) = taken(refused, output) else {
+        refused.out.lose();
+        return false;
+    };
+    let at = free(taken.as_slice(), frame);
     let last = frame.saturating_sub(1);
     refused.say(
-        "`offsets` of {} has {}, and the ticks of the frame of {} are counted from 0 to {}, by its `frame` of {}{}\nhelp: write an offset of 0 to {}\nhelp: or a `frame` of {} or more, up to 100000 (line {}); this weakens what is promised: all labels of this output are then sent less often",
+        "`offsets` of {} has {}, and the ticks of the frame of {} are counted from 0 to {}, by its `frame` of {}{}\nhelp: write an offset of 0 to {} that no entry of this output has\n{}note: the first that is free is {}\nhelp: or a `frame` of {} or more, up to 100000 (line {}); this weakens what is promised: all labels of this output are then sent less often, and may break rules that they keep now",
         &[
             Fact::Row(refused.row),
             Fact::Number(offset),
@@ -31,6 +36,8 @@ pub(crate) fn tell_offset(refused: &mut Refused<'_>) -> bool {
             Fact::Number(frame),
             Fact::Here(member),
             Fact::Number(last),
+            Fact::If(at.is_some()),
+            Fact::Number(at.unwrap_or(0)),
             Fact::Number(offset.saturating_add(1)),
             Fact::Line(output, "frame"),
         ],

@@ -4,6 +4,9 @@ use dc_explain_text::{Fact, Refused};
 /// The most steps, and the longest time in ticks.
 const MOST: u64 = 1_000;
 
+/// The longest tick, in microseconds.
+const LONGEST: u64 = 10_000;
+
 /// A number divided by another, rounded up; that number where the other is 0.
 fn parts(number: u64, by: u64) -> u64 {
     if by == 0 { number } else { number.div_ceil(by) }
@@ -46,6 +49,16 @@ fn spacing(is_low: bool) -> u64 {
     if is_low { 3_050 } else { 365 }
 }
 
+/// The shortest tick in which an output makes so many steps within so many ticks; over the longest where none does.
+fn tick_for(steps: u64, within: u64, is_low: bool) -> u64 {
+    let ticks = times(within, steps);
+    if ticks == 0 {
+        u64::MAX
+    } else {
+        parts(spacing(is_low), ticks)
+    }
+}
+
 /// Writes which changes let an output keep its pace, where its words are so many ticks apart or more.
 fn tell_paces(refused: &mut Refused<'_>, gap: u64, is_low: bool) {
     let row = refused.row;
@@ -53,13 +66,18 @@ fn tell_paces(refused: &mut Refused<'_>, gap: u64, is_low: bool) {
     let within = refused.count(row, "within");
     let quick = steps.saturating_mul(parts(spacing(false), refused.count(0, "tick_us")));
     let (longer, fewer) = (steps.saturating_mul(gap), times(within, gap));
+    let tick = tick_for(steps, within, is_low);
     refused.say(
-        "\n{}help: write `speed = \"high\"` (line {}), where the bus is of that speed\n{}help: write `steps` of {} or less; this weakens what is promised: the output sends fewer words\n{}help: write a `within` of {} or more; this weakens what is promised: the output sends them in a longer time\nnote: these numbers satisfy this rule alone: `dc429 find TABLES` then tells whether they are enough",
+        "\n{}help: write `speed = \"high\"` (line {}), where the bus is of that speed\n{}help: write a `tick_us` of {} or more (line {}), where ticks are so long: all that the tables count in ticks is then longer\n{}help: write `steps` of {} or less (line {}); this weakens what is promised: the output sends fewer words\n{}help: write a `within` of {} or more; this weakens what is promised: the output sends them in a longer time\nnote: these numbers satisfy this rule alone: `dc429 find TABLES` then tells whether they are enough",
         &[
             Fact::If(is_low && quick <= within),
             Fact::Line(row, "speed"),
+            Fact::If(tick <= LONGEST),
+            Fact::Number(tick),
+            Fact::Line(0, "tick_us"),
             Fact::If(fewer >= 1),
             Fact::Number(fewer),
+            Fact::Line(row, "steps"),
             Fact::If(longer <= MOST),
             Fact::Number(longer),
         ],
@@ -81,7 +99,7 @@ pub(crate) fn tell_output(refused: &mut Refused<'_>) {
             Fact::Several(steps, "word", "words"),
             Fact::Several(refused.count(row, "within"), "tick", "ticks"),
             Fact::Several(taken, "tick", "ticks"),
-            Fact::Place(row, "steps"),
+            Fact::Place(row, "within"),
             Fact::Word(if is_low { "low" } else { "high" }),
             Fact::Number(spacing(is_low)),
             Fact::Number(tick),

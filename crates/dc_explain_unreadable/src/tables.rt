@@ -1,18 +1,17 @@
 //! Tables that were refused.
 use crate::counts::tell_count;
-use crate::document::tell_no_document;
-use crate::names::{tell_no_name, tell_no_parameter};
-use crate::no_toml::without_mark;
+use crate::document::{refused_of, tell_no_document};
+use crate::names::{tell_no_name, tell_no_parameter, tell_orphans};
 use crate::numbers::{tell_interval, tell_reversed};
 use crate::offsets::{tell_offset, tell_offset_twice};
 use crate::pace::{tell_output, tell_router};
 use crate::twins::{tell_source_twice, tell_twin};
 use crate::visits::{tell_formats, tell_visits};
-use dc_document::{Section, TEXT_LIMIT, TableFault, TableRule};
+use dc_document::{Section, TableFault, TableRule};
 use dc_explain_text::{
     Fact, Misfit, Refused, tell_absent, tell_misfit, tell_no_table, tell_unknown, tell_version,
 };
-use dc_tell::{Explanation, File, Kind, layout_of};
+use dc_tell::{File, Kind};
 use std::alloc::Global;
 
 /// The kind of a table.
@@ -59,6 +58,18 @@ fn tell_rule(refused: &mut Refused<'_>, rule: TableRule) -> bool {
     }
 }
 
+/// Tells of a text that is spelled wrongly, and of a parameter whom it may be meant for.
+fn tell_misspelt(refused: &mut Refused<'_>) -> bool {
+    let is_told = tell_misfit(refused, Misfit::Spelling);
+    if refused.kind(refused.row) == Kind::Parameter {
+        tell_orphans(
+            refused,
+            "\nnote: {} in line {} has no parameter, with label {} and equipment code {}: this one may be meant for it",
+        );
+    }
+    is_told
+}
+
 /// Tells what there is to say of a rule. Of what is written by escape sequences only its shape is told.
 fn tell(refused: &mut Refused<'_>, rule: TableRule) -> bool {
     match rule {
@@ -67,7 +78,7 @@ fn tell(refused: &mut Refused<'_>, rule: TableRule) -> bool {
         TableRule::KeyUnknown => tell_unknown(refused),
         TableRule::WrongKind => tell_no_table(refused) || tell_misfit(refused, Misfit::Kind),
         TableRule::NumberOutOfRange => tell_misfit(refused, Misfit::Range),
-        TableRule::WrongSpelling => tell_misfit(refused, Misfit::Spelling),
+        TableRule::WrongSpelling => tell_misspelt(refused),
         TableRule::CountOutOfRange => tell_count(refused),
         _ if refused.layout.is_escaped => false,
         _ => tell_rule(refused, rule),
@@ -91,20 +102,11 @@ fn tell_plainly(refused: &mut Refused<'_>, rule: TableRule) {
 /// Explains why a text gives no tables, by its fault; nothing where memory was refused.
 pub fn explain_tables(alloc: Global, file: File<'_>, fault: TableFault) -> Option<String> {
     let is_document = fault.rule != TableRule::NotToml;
-    let is_short = file.text.len() <= TEXT_LIMIT;
-    let file = if is_short { without_mark(file) } else { file };
-    let text = if is_document { file.text } else { b"" };
-    let Some(layout) = layout_of(alloc, text, false) else {
+    let Some(mut refused) = refused_of(alloc, file, Kind::Top, is_document) else {
         return None;
     };
-    let row = layout.row(kind_of(fault.section), fault.index).unwrap_or(0);
-    let mut refused = Refused {
-        alloc,
-        out: Explanation::new(alloc),
-        file,
-        layout,
-        row,
-    };
+    let row = refused.layout.row(kind_of(fault.section), fault.index);
+    refused.row = row.unwrap_or(0);
     refused.out.begin(fault.rule.code());
     if !is_document {
         tell_no_document(&mut refused);

@@ -45,13 +45,13 @@ fn twin_of(refused: &Refused<'_>, rule: TableRule) -> Option<usize> {
 static TWINS: [(TableRule, &'static str, &'static str, &'static str); 4] = [
     (
         TableRule::ParameterDoubled,
-        "{} has the label and the equipment code of {}",
+        "{} stands there twice",
         "label",
         "{}\nnote: {} is here{}\nhelp: write one `[[parameter]]` for each label with its equipment code: mend the `label` or the `equipment` of one, here or in line {}, or take one of the two out",
     ),
     (
         TableRule::NameDoubled,
-        "{} has the name of {}",
+        "{} stands there twice",
         "name",
         "{}\nnote: {} is here{}\nhelp: give one of the two another name, here or in line {}, and write it wherever that one is meant; a name is unique in the whole file among the tables of its kind",
     ),

@@ -51,12 +51,17 @@ pub(crate) fn counts_of(tables: &Tables, queue: Queue, ticks: u32, served: u32) 
     }
 }
 
-/// This window where it closes, or the least that does where none is named.
+/// This window where it closes, or the least that does where none is named. Where none closes that costs a walk through all
+/// of them; `quick` asks that the longest one closes too, and says no of most such queues at once.
 pub(crate) fn closed_by<A: ArrivalBound, S: ServiceBound>(
     arrivals: &A,
     service: &S,
     claimed: Option<u32>,
+    quick: bool,
 ) -> Option<Closing> {
+    if quick && !closes(arrivals, service, LONGEST_WINDOW) {
+        return None;
+    }
     let found = match claimed {
         None => least_window(arrivals, service),
         Some(window) => Some(window),
@@ -71,26 +76,4 @@ pub(crate) fn closed_by<A: ArrivalBound, S: ServiceBound>(
         window,
         peaks: peaks_of(arrivals, service, window),
     })
-}
-
-/// The same of a queue of the tables.
-pub(crate) fn closing_of(tables: &Tables, queue: Queue, claimed: Option<u32>) -> Option<Closing> {
-    match queue {
-        Queue::Input(bus) if bus < tables.bus_count() => {
-            closed_by(&tables.bus_bound(bus), &tables.bus_service(bus), claimed)
-        }
-        Queue::Output(output) if output < tables.output_count() => {
-            let (bound, service) = (tables.output_bound(output), tables.output_service(output));
-            closed_by(&bound, &service, claimed)
-        }
-        _ => None,
-    }
-}
-
-/// The least delay of a queue in the least window that closes; the greatest number where none does.
-pub(crate) fn least_delay_of(tables: &Tables, queue: Queue) -> u64 {
-    match closing_of(tables, queue, None) {
-        None => u64::MAX,
-        Some(closing) => closing.peaks.delay.height,
-    }
 }

@@ -9,12 +9,12 @@ pub(crate) enum Fact {
     Number(u64),
     /// From the first number to the second.
     Range(u64, u64),
+    /// So many words.
+    Count(u64),
     /// So many of what the first word names in the singular, the second in the plural.
     Several(u64, &'static str, &'static str),
     /// So many ticks, and how long they take.
     Ticks(u64),
-    /// How many microseconds a tick has.
-    Tick,
     /// How few have been served.
     Only(u64),
     /// Words.
@@ -23,7 +23,7 @@ pub(crate) enum Fact {
     Name(Section, usize),
     /// The name of this number in a list of the certificate.
     Written(CertificateList, usize),
-    /// Where it is mended: whether in the certificate, at which table, and in the certificate at which key.
+    /// Where it is mended: whether in the certificate, at which table, and at which key.
     Place(bool, Section, usize, &'static str),
     /// Whether the line is told that begins with its hole.
     If(bool),

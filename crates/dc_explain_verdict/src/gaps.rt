@@ -1,16 +1,17 @@
 //! Labels that are sent too soon or too late: C08 and C09.
-use crate::fact::Fact::{If, Name, Number, Range, Tick, Ticks};
+use crate::fact::Fact::{If, Name, Number, Range, Ticks, Word};
 use crate::labels::Sending;
+use crate::servers::server_of;
 use crate::teller::Teller;
-use crate::ways::{mended_at, tell_no_shorter_delay, tell_shorter_delay};
+use crate::ways::{mended_at, tell_shorter_delay};
 use dc_check::Condition;
 use dc_document::{LONGEST_INTERVAL_US, Section};
 use dc_find::Queue;
 
 /// What is told where words leave too soon, and where too late.
 static SENTENCES: [&str; 2] = [
-    "its entries come as soon as {} after one another, and output `{}` may send the first {} late: its words may leave {} apart, and at least {} are wanted{}\nnote: {} is `min_us` of its parameter in ticks of {} microseconds, rounded up, and one more: words may leave almost a tick less apart than their ticks are",
-    "its entries come as late as {} after one another, and output `{}` may send the second {} late: its words may leave {} apart, and at most {} are allowed{}\nnote: {} is `max_us` of its parameter in whole ticks of {} microseconds, less one: words may leave almost a tick more apart than their ticks are",
+    "its `offsets`, taken round the `frame`, lie as near as {}, and output `{}` may send the first {} late: its words may leave {} apart, and at least {} are wanted{}\nnote: {} is `min_us` of its parameter in ticks of {} microseconds, rounded up, and one more: words may leave almost a tick less apart than their ticks are",
+    "its `offsets`, taken round the `frame`, lie as far apart as {}, and output `{}` may send the second {} late: its words may leave {} apart, and at most {} are allowed{}\nnote: {} is `max_us` of its parameter in whole ticks of {} microseconds, less one: words may leave almost a tick more apart than their ticks are",
 ];
 
 /// Tells how far its entries would have to lie apart, for it to be sent neither too soon nor too late; that no distance
@@ -20,7 +21,7 @@ fn tell_gaps(told: &mut Teller<'_>, own: &Sending) {
     let most = own.maximum.saturating_sub(own.delay);
     let is_helped = told.out.is_helped();
     told.say(
-        "\n{}help: place its entries {} ticks apart: by more or fewer `offsets` in the `frame`, or by another `frame`, which moves all labels of the output\n{}note: no `offsets` are enough where output `{}` may be {} late: entries would have to lie at least {} apart, and at most {}",
+        "\n{}help: place its `offsets` {} ticks apart, the last and the first round the `frame` too, or choose another `frame`, which moves all labels of the output\n{}note: no `offsets` are enough where output `{}` may be {} late: they would have to lie at least {} apart, and at most {}",
         &[
             If(least <= most),
             Range(least, most),
@@ -35,17 +36,19 @@ fn tell_gaps(told: &mut Teller<'_>, own: &Sending) {
 
 /// Tells with which interval of its parameter the label would be sent as that asks, where its words may leave so far apart.
 fn tell_interval(told: &mut Teller<'_>, words: u64, is_soon: bool) {
-    let tick_us = u64::from(told.tables.tick_us());
-    let longest = u64::from(LONGEST_INTERVAL_US);
-    let least = words.saturating_add(1).saturating_mul(tick_us);
-    let most = words.saturating_sub(1).saturating_mul(tick_us);
+    let (key, bound, apart) = if is_soon {
+        ("min_us", "at most", words.saturating_sub(1))
+    } else {
+        ("max_us", "at least", words.saturating_add(1))
+    };
+    let interval = apart.saturating_mul(u64::from(told.tables.tick_us()));
     told.say(
-        "\n{}weaker: write a `min_us` of at most {} microseconds in its parameter: its words may then come so soon; where a stream or another label has this parameter too, add one with another `equipment`, and write that `equipment` at the label\n{}weaker: write a `max_us` of at least {} microseconds in its parameter: its words may then come so late; where a stream or another label has this parameter too, add one with another `equipment`, and write that `equipment` at the label",
+        "\n{}weaker: give it a parameter with a `{}` of {} {} microseconds: add one with another `equipment`, and write that at the label; change the present one only if no stream and no other label has it, else their rules may fail next",
         &[
-            If(is_soon && most > 0 && most <= longest),
-            Number(most),
-            If(!is_soon && least > 0 && least <= longest),
-            Number(least),
+            If(interval > 0 && interval <= u64::from(LONGEST_INTERVAL_US)),
+            Word(key),
+            Word(bound),
+            Number(interval),
         ],
     );
 }
@@ -53,9 +56,12 @@ fn tell_interval(told: &mut Teller<'_>, words: u64, is_soon: bool) {
 /// C08 and C09: two words of the label may follow one another too soon, or too late. Of the delay of the output with which
 /// they would not the longest is looked for, where there is one.
 pub(crate) fn tell_gap(told: &mut Teller<'_>, code: &str, own: &Sending, condition: Condition) {
-    let is_soon = condition == Condition::SentTooSoon;
     let queue = Queue::Output(own.output);
-    let (entries, words, wanted, most) = if is_soon {
+    let Some(server) = server_of(told.tables, told.certificate, queue) else {
+        return;
+    };
+    let is_soon = condition == Condition::SentTooSoon;
+    let (offsets, words, wanted, most) = if is_soon {
         let words = own.least_gap.saturating_sub(own.delay);
         let most = own.least_gap.checked_sub(own.minimum);
         (own.least_gap, words, own.minimum, most)
@@ -64,23 +70,22 @@ pub(crate) fn tell_gap(told: &mut Teller<'_>, code: &str, own: &Sending, conditi
         let most = own.maximum.checked_sub(own.greatest_gap);
         (own.greatest_gap, words, own.maximum, most)
     };
-    let place = mended_at(told, queue, most, own.number);
+    let place = mended_at(told, &server, most, own.number, "offsets");
     told.begin_label(code, condition, own.number);
     told.say(
         SENTENCES[usize::from(!is_soon)],
         &[
-            Ticks(entries),
+            Ticks(offsets),
             Name(Section::Output, own.output),
             Ticks(own.delay),
             Ticks(words),
             Number(wanted),
             place,
             Number(wanted),
-            Tick,
+            Number(u64::from(told.tables.tick_us())),
         ],
     );
-    tell_shorter_delay(told, queue, most);
+    tell_shorter_delay(told, &server, most);
     tell_gaps(told, own);
-    tell_no_shorter_delay(told, queue, most);
     tell_interval(told, words, is_soon);
 }

@@ -17,15 +17,16 @@ fn words_of(list: CertificateList) -> (&'static str, &'static str, &'static str,
     }
 }
 
-/// The first place at which the names differ, or the one behind them.
-fn first_place(told: &Teller<'_>, list: CertificateList, section: Section) -> usize {
+/// The first place at which the names of a list differ, and at how many places they do.
+fn differing(told: &Teller<'_>, list: CertificateList, section: Section) -> (usize, u64) {
+    let (mut first, mut count) = (MOST, 0u64);
     for place in 0..MOST {
-        let wanted = name_of(told.tables, section, place);
-        if wanted.is_empty() || wanted != written_at(told.certificate, list, place) {
-            return place;
+        if name_of(told.tables, section, place) != written_at(told.certificate, list, place) {
+            first = first.min(place);
+            count = count.saturating_add(1);
         }
     }
-    MOST
+    (first, count)
 }
 
 /// The number in the tables of a name, from 1, where they have it.
@@ -42,41 +43,10 @@ fn number_of(told: &Teller<'_>, section: Section, name: &str) -> Option<usize> {
     None
 }
 
-/// At how many places the names of a list differ.
-fn differing(told: &Teller<'_>, list: CertificateList) -> u64 {
-    let (_, _, _, section) = words_of(list);
-    let mut count = 0u64;
-    for place in 0..MOST {
-        let wanted = name_of(told.tables, section, place);
-        if wanted != written_at(told.certificate, list, place) {
-            count = count.saturating_add(1);
-        }
-    }
-    count
-}
-
-/// Tells how many names differ in each list, where it is more than one.
-fn tell_how_many(told: &mut Teller<'_>) {
-    let inputs = differing(told, CertificateList::Inputs);
-    let outputs = differing(told, CertificateList::Outputs);
-    let labels = differing(told, CertificateList::Labels);
-    let all = inputs.saturating_add(outputs).saturating_add(labels);
-    told.say(
-        "\n{}note: this is the first of {} names that differ: {} in `inputs`, {} in `outputs`, {} in `labels`",
-        &[
-            If(all > 1),
-            Number(all),
-            Number(inputs),
-            Number(outputs),
-            Number(labels),
-        ],
-    );
-}
-
 /// C01: the names of a list are not the tables', once each and in their order.
 pub(crate) fn tell_names(told: &mut Teller<'_>, list: CertificateList) {
     let (kind, key, many, section) = words_of(list);
-    let place = first_place(told, list, section);
+    let (place, count) = differing(told, list, section);
     let is_missing = written_at(told.certificate, list, place).is_empty();
     let is_more = name_of(told.tables, section, place).is_empty();
     let number = number_of(told, section, written_at(told.certificate, list, place));
@@ -101,21 +71,20 @@ pub(crate) fn tell_names(told: &mut Teller<'_>, list: CertificateList) {
     );
     told.say(how, &facts);
     told.say(
-        "{}\n{}note: {} `{}` is number {} of the tables\n{}note: the tables have no {} `{}`",
+        "{}\n{}note: {} `{}` is number {} of the tables\n{}help: write `{}` in place of `{}`, which the tables do not have\n{}note: this is the first of {} places of the {} where they differ\nhelp: list the {} once each, in the order of the tables, or let `dc429 find` write the certificate",
         &[
             Place(true, section, place, key),
             If(!is_missing && number.is_some()),
             one,
             written,
             Number(number.unwrap_or(0) as u64),
-            If(!is_missing && number.is_none()),
-            one,
+            If(!is_missing && !is_more && number.is_none()),
+            wanted,
             written,
+            If(count > 1),
+            Number(count),
+            Word(kind),
+            Word(many),
         ],
-    );
-    tell_how_many(told);
-    told.say(
-        "\nhelp: list the {} once each, in the order of the tables, or let `dc429 find` write the certificate",
-        &[Word(many)],
     );
 }

@@ -1,11 +1,12 @@
 //! Why no certificate is found.
 ghost use Rattle.dc_find.specs.Ways.{IsFirstInTheWay};
 
-use crate::bounds::{closing_of, counts_of};
+use crate::bounds::counts_of;
 use crate::fact::Fact::{Number, Several};
-use crate::labels::{aging_of, sending_of};
+use crate::labels::{aging_of, sending_of, silence};
 use crate::refused::tell_label;
-use crate::servers::{Server, begin_counts, place, server_of, tell_terms};
+use crate::servers::{Server, begin_counts, place, server_of, shares_of, tell_terms};
+use crate::steps::closing_of;
 use crate::teller::Teller;
 use crate::waits::tell_room_ways;
 use crate::ways::tell_never_ways;
@@ -21,17 +22,15 @@ use std::alloc::Global;
 /// How many are told in full.
 const TOLD: usize = 10;
 
-/// Whether a delay was found.
-fn is_found(delay: u64) -> bool {
-    delay <= u64::from(LONGEST_WINDOW)
-}
+/// The longest delay; one that was not found is greater.
+const LONGEST: u64 = LONGEST_WINDOW as u64;
 
 /// What stands in the way at a queue, by what was found of it.
 fn queue_obstacle(tables: &Tables, certificate: &Certificate, queue: Queue) -> Option<FindFault> {
     let Some(server) = server_of(tables, certificate, queue) else {
         return None;
     };
-    if !is_found(u64::from(server.delay)) {
+    if server.delay > LONGEST_WINDOW {
         return Some(WindowNeverCloses(queue));
     }
     match queue {
@@ -50,18 +49,17 @@ fn breaks(tables: &Tables, certificate: &Certificate, label: usize, rule: Condit
     };
     let delay = sending.delay;
     let wait = aging.slowest.delay;
-    let silence = aging.rarest.delay.saturating_add(aging.rarest.maximum);
     match rule {
         Condition::SentTooSoon => {
-            is_found(delay) && sending.least_gap < sending.minimum.saturating_add(delay)
+            delay <= LONGEST && sending.least_gap < sending.minimum.saturating_add(delay)
         }
         Condition::SentTooLate => {
-            is_found(delay) && sending.greatest_gap.saturating_add(delay) > sending.maximum
+            delay <= LONGEST && sending.greatest_gap.saturating_add(delay) > sending.maximum
         }
         Condition::AgeOverLimit => {
-            is_found(wait) && aging.stale.saturating_add(wait) > aging.limit
+            wait <= LONGEST && aging.stale.saturating_add(wait) > aging.limit
         }
-        Condition::SourceGoesStale => is_found(wait) && silence > aging.stale,
+        Condition::SourceGoesStale => wait <= LONGEST && silence(&aging.rarest) > aging.stale,
         _ => false,
     }
 }
@@ -106,37 +104,52 @@ fn obstacles_of(
     Some(all)
 }
 
+/// So many rounds of the router, or frames of the output, a queue is looked at that is never surely empty again.
+const ROUNDS: u32 = 10;
+
 /// F1: no window of a queue closes.
 fn tell_never(told: &mut Teller<'_>, server: &Server) {
-    let longest = LONGEST_WINDOW;
-    let before = longest.saturating_sub(1);
-    let counts = counts_of(told.tables, server.queue, longest, before);
-    begin_counts(told, "F1", server, (longest, longest), &counts);
-    told.say(": no window closes{}", &[place(false, server.queue, "")]);
-    tell_terms(told, server);
-    told.tell_closing();
+    let (all, own) = shares_of(told.tables, server.queue);
+    let round = if server.is_bus {
+        server.within.saturating_mul(all)
+    } else {
+        own
+    };
+    let early = round.saturating_mul(ROUNDS).min(LONGEST_WINDOW);
+    let left = begin_counts(told, "F1", server, (early, early), early.saturating_sub(1));
+    let late = LONGEST_WINDOW;
+    let counts = counts_of(told.tables, server.queue, late, late.saturating_sub(1));
+    told.say(
+        ": so {} may wait then, and {} by tick {}, and it is never sure again that none waits (no window closes){}",
+        &[
+            Number(left),
+            Number(counts.come.saturating_sub(counts.served)),
+            Number(u64::from(late)),
+            place(false, server.queue, ""),
+        ],
+    );
     tell_never_ways(told, server);
+    tell_terms(told, server, 0, 0);
 }
 
 /// F2: more may wait in the queue of a bus than it holds.
 fn tell_short(told: &mut Teller<'_>, server: &Server) {
-    let Some(closing) = closing_of(told.tables, server.queue, None) else {
+    let Some(closing) = closing_of(told.tables, server, None) else {
         return;
     };
     let peak = closing.peaks.backlog;
     let by = peak.ticks;
-    let counts = counts_of(told.tables, server.queue, by, by.saturating_sub(2));
-    begin_counts(told, "F2", server, (by, by), &counts);
+    begin_counts(told, "F2", server, (by, by), by.saturating_sub(2));
     told.say(
         ": {} may wait, and its queue holds {}{}",
         &[
             Number(peak.height),
             Number(u64::from(server.room)),
-            place(false, server.queue, ""),
+            place(false, server.queue, "queue"),
         ],
     );
-    tell_terms(told, server);
     tell_room_ways(told, server, peak.height);
+    tell_terms(told, server, 0, 0);
 }
 
 /// Tells one thing that stands in the way.
@@ -164,10 +177,10 @@ fn tell_rest(told: &mut Teller<'_>, rest: usize) {
     }
     told.out.say("\n", &[]);
     told.out.begin("");
-    let one = "more input, output or label stands";
-    let many = "more inputs, outputs and labels stand";
+    let one = "more input, output or label keeps";
+    let many = "more inputs, outputs and labels keep";
     let rest = Several(rest as u64, one, many);
-    told.say("{} in the way of a certificate", &[rest]);
+    told.say("{} these tables from having a certificate", &[rest]);
     told.out.name_file(told.file.name);
     let all = "\nhelp: `dc429 margins` shows all of them: each line with a negative margin";
     told.say(all, &[]);

@@ -1,13 +1,11 @@
 //! Why a certificate is refused.
-use crate::ages::{tell_age, tell_limit, tell_oldest, tell_stale};
+use crate::ages::{tell_oldest, tell_stale};
 use crate::gaps::tell_gap;
 use crate::labels::{aging_of, sending_of};
 use crate::misnamed::tell_names;
 use crate::servers::server_of;
 use crate::teller::Teller;
-use crate::waits::{
-    tell_backlog, tell_delay, tell_long_delay, tell_open_window, tell_room, tell_window,
-};
+use crate::waits::{tell_backlog, tell_delay, tell_open_window, tell_range, tell_room};
 use dc_cert::Certificate;
 use dc_check::{CertificateList, CheckFault, Condition, verdict};
 use dc_find::Queue;
@@ -30,8 +28,8 @@ fn tell_queue(told: &mut Teller<'_>, fault: &CheckFault, queue: Queue) {
         return;
     };
     match fault.condition {
-        Condition::WindowOutOfRange => tell_window(told, &server),
-        Condition::DelayOutOfRange => tell_long_delay(told, &server),
+        Condition::WindowOutOfRange => tell_range(told, &server, true),
+        Condition::DelayOutOfRange => tell_range(told, &server, false),
         Condition::WindowDoesNotClose => tell_open_window(told, &server),
         Condition::BacklogTooSmall => tell_backlog(told, &server, fault.window),
         Condition::QueueTooShort => tell_room(told, &server),
@@ -52,9 +50,9 @@ pub(crate) fn tell_label(told: &mut Teller<'_>, code: &str, label: usize, condit
         Condition::SentTooSoon | Condition::SentTooLate => tell_gap(
             told, code, &sending, condition,
         ),
-        Condition::AgeTooSmall => tell_age(told, &aging),
-        Condition::AgeOverLimit if code == "F3" => tell_oldest(told, &aging),
-        Condition::AgeOverLimit => tell_limit(told, &aging),
+        Condition::AgeTooSmall | Condition::AgeOverLimit => tell_oldest(
+            told, code, &aging, condition,
+        ),
         Condition::SourceGoesStale => tell_stale(told, code, &aging),
         _ => {}
     }

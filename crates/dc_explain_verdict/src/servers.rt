@@ -1,7 +1,7 @@
 //! The queues of the tables: who serves each, and at what pace.
-use crate::bounds::Counts;
+use crate::bounds::counts_of;
 use crate::fact::Fact;
-use crate::fact::Fact::{Name, Number, Only, Several, Word};
+use crate::fact::Fact::{Count, Name, Number, Only, Word};
 use crate::teller::Teller;
 use dc_cert::Certificate;
 use dc_document::{MOST_STEPS, Section};
@@ -13,39 +13,32 @@ use dc_tables::Tables;
 pub(crate) struct Words {
     /// What the certificate calls one.
     pub(crate) queue: &'static str,
-    /// What comes to it, in the singular and in the plural.
-    pub(crate) one: &'static str,
-    pub(crate) many: &'static str,
-    /// That it may have come.
+    /// That words may have come.
     pub(crate) may: &'static str,
-    /// What was done where it was served.
+    /// What was done with them where they were served.
     pub(crate) done: &'static str,
     /// What serves it.
     pub(crate) server: &'static str,
-    /// That it waits.
-    pub(crate) waits: &'static str,
+    /// That none waits.
+    pub(crate) empty: &'static str,
 }
 
 /// Of the queue of a bus.
 const BUS: Words = Words {
     queue: "input",
-    one: "word",
-    many: "words",
     may: "may have come on",
     done: "taken",
     server: "router",
-    waits: "word waits in the queue",
+    empty: "an empty queue",
 };
 
 /// Of an output.
 const OUTPUT: Words = Words {
     queue: "output",
-    one: "entry",
-    many: "entries",
-    may: "may have fallen due at",
+    may: "may have fallen due on",
     done: "sent",
     server: "output",
-    waits: "entry waits to be sent",
+    empty: "no word overdue",
 };
 
 /// A queue, with who serves it: a bus with its router, or an output, which serves itself.
@@ -73,17 +66,13 @@ pub(crate) struct Server {
     pub(crate) shortest: u32,
     /// How many words a receive queue holds; of an output 0.
     pub(crate) room: u32,
+    /// How many streams come on a bus, and the greatest jitter of one; of an output 1 and 0.
+    pub(crate) streams: u32,
+    pub(crate) jitter: u32,
     /// The window, the backlog and the delay that the certificate claims of it; of an output its backlog is 0.
     pub(crate) window: u32,
     pub(crate) backlog: u32,
     pub(crate) delay: u32,
-}
-
-impl Server {
-    /// So many of what comes to the queue.
-    pub(crate) fn several(&self, count: u64) -> Fact {
-        Several(count, self.words.one, self.words.many)
-    }
 }
 
 /// The place of a queue in the tables, or where it is mended in the certificate, at a key of this.
@@ -92,6 +81,18 @@ pub(crate) fn place(is_claimed: bool, queue: Queue, key: &'static str) -> Fact {
         Queue::Input(bus) => Fact::Place(is_claimed, Section::Bus, bus, key),
         Queue::Output(output) => Fact::Place(is_claimed, Section::Output, output, key),
     }
+}
+
+/// How many streams come on a bus, and the greatest jitter of one.
+fn streams_of(tables: &Tables, bus: usize) -> (u32, u32) {
+    let (mut streams, mut jitter) = (0u32, 0u32);
+    if bus < tables.bus_count() {
+        for stream in tables.bus_streams(bus).iter() {
+            streams = streams.saturating_add(1);
+            jitter = jitter.max(stream.jitter);
+        }
+    }
+    (streams, jitter)
 }
 
 /// The bus of this number with its router, where the tables and the certificate have one.
@@ -105,6 +106,7 @@ fn bus_server(tables: &Tables, certificate: &Certificate, bus: usize) -> Option<
     let Some(claim) = certificate.inputs.get(bus) else {
         return None;
     };
+    let (streams, jitter) = streams_of(tables, bus);
     Some(Server {
         queue: Queue::Input(bus),
         words: BUS,
@@ -118,6 +120,8 @@ fn bus_server(tables: &Tables, certificate: &Certificate, bus: usize) -> Option<
         limit: MOST_STEPS,
         shortest: router.steps.div_ceil(router.most.max(1)).max(1),
         room: own.queue,
+        streams,
+        jitter,
         window: claim.window,
         backlog: claim.backlog,
         delay: claim.delay,
@@ -146,6 +150,8 @@ fn output_server(tables: &Tables, certificate: &Certificate, output: usize) -> O
         limit: own.within.checked_div(own.gap).unwrap_or(0).min(MOST_STEPS),
         shortest: own.steps.saturating_mul(own.gap).max(1),
         room: 0,
+        streams: 1,
+        jitter: 0,
         window: claim.window,
         backlog: 0,
         delay: claim.delay,
@@ -188,22 +194,6 @@ pub(crate) fn shares_of(tables: &Tables, queue: Queue) -> (u32, u32) {
     (all, own)
 }
 
-/// Whether some stream of the bus of a queue has a jitter; an output has none.
-pub(crate) fn has_jitter(tables: &Tables, queue: Queue) -> bool {
-    let Queue::Input(bus) = queue else {
-        return false;
-    };
-    if bus >= tables.bus_count() {
-        return false;
-    }
-    for stream in tables.bus_streams(bus).iter() {
-        if stream.jitter > 0 {
-            return true;
-        }
-    }
-    false
-}
-
 /// The first other router, or other output, that has a shorter `within` than what serves a queue, and its `within`.
 pub(crate) fn sibling_of(tables: &Tables, server: &Server) -> Option<(usize, u32)> {
     let count = if server.is_bus {
@@ -224,47 +214,55 @@ pub(crate) fn sibling_of(tables: &Tables, server: &Server) -> Option<(usize, u32
     None
 }
 
-/// Begins the explanation of a queue by what may have come to it by some tick, and what has surely been served by
-/// another.
+/// Begins the explanation of a queue by what may have come to it by some tick, and what has surely been served by another
+/// in so many whole ticks: how many are left of it.
 pub(crate) fn begin_counts(
     told: &mut Teller<'_>,
     code: &str,
     server: &Server,
     ticks: (u32, u32),
-    counts: &Counts,
-) {
-    let words = server.words;
+    whole: u32,
+) -> u64 {
+    let counts = counts_of(told.tables, server.queue, ticks.0, whole);
+    let called = server.words;
     let (first, last) = (u64::from(ticks.0), u64::from(ticks.1));
     told.out.begin(code);
     told.say(
         "{} `{}`: {} {} it by tick {}",
         &[
-            Word(words.queue),
+            Word(called.queue),
             server.name,
-            server.several(counts.come),
-            Word(words.may),
+            Count(counts.come),
+            Word(called.may),
             Number(first),
         ],
     );
-    let (served, done) = (Only(counts.served), Word(words.done));
+    let (served, done) = (Only(counts.served), Word(called.done));
     if first == last {
-        return told.say(" and {} surely been {}", &[served, done]);
+        told.say(" and {} surely been {}", &[served, done]);
+    } else {
+        told.say(
+            ", and by tick {} {} surely been {}",
+            &[Number(last), served, done],
+        );
     }
-    told.say(
-        ", and by tick {} {} surely been {}",
-        &[Number(last), served, done],
-    )
+    counts.come.saturating_sub(counts.served)
 }
 
-/// Tells from which tick the others are counted, and what is sure, where that was not told before.
-pub(crate) fn tell_terms(told: &mut Teller<'_>, server: &Server) {
+/// Tells from which tick the others are counted, and what is sure, where that was not told before; and where the verdict
+/// names a tick, what that is, and which is the worst.
+pub(crate) fn tell_terms(told: &mut Teller<'_>, server: &Server, first: u32, worst: u32) {
     told.say(
-        "\n{}note: tick 1 is any tick before which no {}; sure is what `steps` and `within` of {} `{}` promise",
+        "\n{}note: tick 1 is any tick that begins with {}; surely {} is what `steps` and `within` of {} `{}` promise\n{}note: `window {}` in the verdict is the first tick by which it is so, and tick {} is the worst",
         &[
             Fact::If(!told.is_known),
-            Word(server.words.waits),
+            Word(server.words.empty),
+            Word(server.words.done),
             Word(server.words.server),
             server.server,
+            Fact::If(first != 0),
+            Number(u64::from(first)),
+            Number(u64::from(worst)),
         ],
     );
 }

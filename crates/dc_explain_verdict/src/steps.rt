@@ -1,8 +1,9 @@
-//! How many steps a queue would want.
-use crate::bounds::closed_by;
+//! How a queue would do with another number.
+use crate::bounds::{Closing, closed_by};
 use crate::servers::Server;
-use dc_bound::{ArrivalBound, MOST_PLACES, Paced, ServiceBound, Visits};
-use dc_busy::{LONGEST_WINDOW, closes};
+use dc_bound::{Alike, Jittered, MOST_ALIKE, MOST_PLACES, Paced, Visits, WIDEST_JITTER};
+use dc_busy::LONGEST_WINDOW;
+use dc_document::LONGEST_INTERVAL_US;
 use dc_find::Queue;
 use dc_tables::Tables;
 
@@ -24,39 +25,35 @@ pub(crate) const ANY_WINDOW: Wish = Wish {
     delay: LONGEST_WINDOW as u64,
 };
 
-/// Whether a queue with these bounds has what is wished. Where no window closes that costs a walk through all of them;
-/// `quick` asks that the longest one closes too, and says no of most such queues at once.
-fn is_granted<A: ArrivalBound, S: ServiceBound>(
-    arrivals: &A,
-    service: &S,
-    wish: &Wish,
-    quick: bool,
-) -> bool {
-    if quick && !closes(arrivals, service, LONGEST_WINDOW) {
-        return false;
-    }
-    match closed_by(arrivals, service, wish.window) {
-        None => false,
-        Some(closing) => {
-            closing.peaks.backlog.height <= wish.waiting && closing.peaks.delay.height <= wish.delay
-        }
-    }
+/// Which number of a queue is another than in its tables.
+#[derive(Clone, Copy)]
+pub(crate) enum Other {
+    /// The `steps` of what serves it.
+    Steps,
+    /// What the `within` of that is shorter by.
+    Less,
+    /// The least interval of each stream of its bus, in ticks; its wire is left aside then.
+    Minimum,
 }
 
-/// Whether the queue has what is wished where its `steps`, or what its `within` is shorter by, is so much.
-fn is_granted_at(
+/// How a queue closes where one of its numbers is this: this window, or the least that does where none is named.
+pub(crate) fn closing_with(
     tables: &Tables,
     server: &Server,
-    is_steps: bool,
+    other: Other,
     number: u32,
-    wish: &Wish,
+    window: Option<u32>,
     quick: bool,
-) -> bool {
-    let steps = if is_steps { number } else { server.steps };
-    let less = if is_steps { 0 } else { number };
+) -> Option<Closing> {
+    let (steps, less, minimum) = match other {
+        Other::Steps => (number, 0, 0),
+        Other::Less => (server.steps, number, 0),
+        Other::Minimum => (server.steps, 0, number),
+    };
     let within = server.within.saturating_sub(less);
-    if within == 0 {
-        return false;
+    let (streams, jitter) = (server.streams, server.jitter);
+    if within == 0 || streams < 1 || streams > MOST_ALIKE || jitter > WIDEST_JITTER {
+        return None;
     }
     let pace = Paced::new(steps, within);
     match server.queue {
@@ -64,15 +61,49 @@ fn is_granted_at(
             tables.valid();
             let visits = tables.router(tables.bus(bus).router).visits.as_slice();
             if visits.is_empty() || visits.len() > MOST_PLACES {
-                return false;
+                return None;
             }
             let service = Visits::new(pace, visits, bus);
-            is_granted(&tables.bus_bound(bus), &service, wish, quick)
+            if minimum < 1 {
+                return closed_by(&tables.bus_bound(bus), &service, window, quick);
+            }
+            let streams = Alike::new(streams, Jittered::new(minimum, jitter));
+            closed_by(&streams, &service, window, quick)
         }
         Queue::Output(output) if output < tables.output_count() => {
-            is_granted(&tables.output_bound(output), &pace, wish, quick)
+            closed_by(&tables.output_bound(output), &pace, window, quick)
         }
-        _ => false,
+        _ => None,
+    }
+}
+
+/// How a queue of the tables closes: this window, or the least that does where none is named.
+pub(crate) fn closing_of(tables: &Tables, server: &Server, window: Option<u32>) -> Option<Closing> {
+    closing_with(tables, server, Other::Steps, server.steps, window, false)
+}
+
+/// The least delay of a queue in the least window that closes; the greatest number where none does.
+pub(crate) fn least_delay_of(tables: &Tables, server: &Server) -> u64 {
+    match closing_of(tables, server, None) {
+        None => u64::MAX,
+        Some(closing) => closing.peaks.delay.height,
+    }
+}
+
+/// Whether the queue has what is wished where one of its numbers is this.
+fn is_granted(
+    tables: &Tables,
+    server: &Server,
+    other: Other,
+    number: u32,
+    wish: &Wish,
+    quick: bool,
+) -> bool {
+    match closing_with(tables, server, other, number, wish.window, quick) {
+        None => false,
+        Some(closing) => {
+            closing.peaks.backlog.height <= wish.waiting && closing.peaks.delay.height <= wish.delay
+        }
     }
 }
 
@@ -81,7 +112,7 @@ fn is_granted_at(
 fn least_between(
     tables: &Tables,
     server: &Server,
-    is_steps: bool,
+    other: Other,
     between: (u32, u32),
     wish: &Wish,
     quick: bool,
@@ -93,7 +124,7 @@ fn least_between(
             break;
         }
         let middle = low.saturating_add(high.saturating_sub(low) / 2);
-        if is_granted_at(tables, server, is_steps, middle, wish, quick) {
+        if is_granted(tables, server, other, middle, wish, quick) {
             high = middle;
         } else {
             low = middle.saturating_add(1);
@@ -102,37 +133,23 @@ fn least_between(
     high
 }
 
-/// The least number above the first of two and up to the second with which the queue has what is wished.
-fn least(
-    tables: &Tables,
-    server: &Server,
-    is_steps: bool,
-    between: (u32, u32),
-    wish: &Wish,
-) -> Option<u32> {
-    let (from, to) = between;
-    if to <= from || !is_granted_at(tables, server, is_steps, to, wish, false) {
+/// The least of such a number with which the queue has what is wished: more than it has, and no more than tables may have.
+pub(crate) fn least(tables: &Tables, server: &Server, other: Other, wish: &Wish) -> Option<u32> {
+    let (from, to) = match other {
+        Other::Steps => (server.steps, server.limit),
+        Other::Less => (0, server.within.saturating_sub(server.shortest)),
+        Other::Minimum => {
+            let longest = LONGEST_INTERVAL_US.checked_div(tables.tick_us());
+            (0, longest.unwrap_or(0))
+        }
+    };
+    if to <= from || !is_granted(tables, server, other, to, wish, false) {
         return None;
     }
-    let enough = least_between(tables, server, is_steps, between, wish, true);
+    let enough = least_between(tables, server, other, (from, to), wish, true);
     let fewer = enough.saturating_sub(1);
-    if fewer <= from || !is_granted_at(tables, server, is_steps, fewer, wish, false) {
+    if fewer <= from || !is_granted(tables, server, other, fewer, wish, false) {
         return Some(enough);
     }
-    Some(least_between(tables, server, is_steps, (from, fewer), wish, false))
-}
-
-/// The least steps with which the queue has what is wished: more than it is served with, up to what tables may have.
-pub(crate) fn least_steps(tables: &Tables, server: &Server, wish: &Wish) -> Option<u32> {
-    least(tables, server, true, (server.steps, server.limit), wish)
-}
-
-/// The longest `within` with which the queue has what is wished: shorter than it is served with, down to what tables may
-/// have.
-pub(crate) fn most_within(tables: &Tables, server: &Server, wish: &Wish) -> Option<u32> {
-    let most = server.within.saturating_sub(server.shortest);
-    match least(tables, server, false, (0, most), wish) {
-        None => None,
-        Some(less) => Some(server.within.saturating_sub(less)),
-    }
+    Some(least_between(tables, server, other, (from, fewer), wish, false))
 }

@@ -58,10 +58,11 @@ impl<'a> Teller<'a> {
         }
     }
 
-    /// Tells where it is mended, in the tables or at a key of the certificate, and at which table.
+    /// Tells where it is mended, at a key of the tables or of the certificate, and of that at which table.
     fn tell_place(&mut self, is_claimed: bool, section: Section, number: usize, key: &str) {
         let (kind, claim) = kinds_of(section);
-        let table = offset_of(self.alloc, self.file.text, kind, number, "");
+        let own_key = if is_claimed { "" } else { key };
+        let table = offset_of(self.alloc, self.file.text, kind, number, own_key);
         if !is_claimed {
             return self.tell_offset(self.file, table);
         }
@@ -78,11 +79,11 @@ impl<'a> Teller<'a> {
         let value = match fact {
             Fact::Number(number) => Value::Number(number),
             Fact::Range(low, high) => Value::Range(low, high),
+            Fact::Count(count) => Value::Several(count, "word", "words"),
             Fact::Several(count, one, many) => Value::Several(count, one, many),
             Fact::Ticks(count) => Value::Ticks(count, tick_us),
             Fact::Only(0) => Value::Text("none has"),
             Fact::Only(count) => Value::Several(count, "has", "have"),
-            Fact::Tick => Value::Number(tick_us),
             Fact::Word(word) => Value::Text(word),
             Fact::Name(section, number) => Value::Text(name_of(self.tables, section, number)),
             Fact::Written(list, number) => Value::Text(written_at(self.certificate, list, number)),
@@ -142,14 +143,6 @@ impl<'a> Teller<'a> {
             sentence,
             &[Fact::Name(Section::Label, number), Fact::Word(rule)],
         )
-    }
-
-    /// Tells what it is to close, where that was not told before.
-    pub(crate) fn tell_closing(&mut self) {
-        self.say(
-            "\n{}note: a window closes where all that may come in it is surely served by its end: the queue is then empty again, and here it never surely is",
-            &[Fact::If(!self.is_known)],
-        );
     }
 
     /// Tells for how much the ways are enough that were told, where some were.

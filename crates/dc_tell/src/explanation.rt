@@ -34,8 +34,6 @@ pub enum Value<'a> {
     Brief(&'a [u8]),
     /// Names with commas, the first eight.
     Names(&'a [&'a str]),
-    /// A thing by its kind, its number from 0, how many there are of its kind, and its name, as in: bus 2 of 3 `A`.
-    Thing(&'a str, usize, usize, &'a str),
 }
 
 /// How many names are listed.
@@ -206,20 +204,6 @@ impl Explanation {
         self.push(if names.len() > LISTED { ", .." } else { "" });
     }
 
-    /// Writes a thing by its kind, its number from 1 among so many, and its name.
-    fn push_thing(&mut self, kind: &str, index: usize, count: usize, name: &str) {
-        self.push(kind);
-        self.push(" ");
-        self.push_number((index as u64).saturating_add(1));
-        self.push(" of ");
-        self.push_number(count as u64);
-        if !name.is_empty() {
-            self.push(" `");
-            self.push_text(name);
-            self.push("`");
-        }
-    }
-
     /// Goes on in the line with a value.
     pub fn put(&mut self, value: Value<'_>) {
         self.is_open = true;
@@ -233,7 +217,6 @@ impl Explanation {
             Value::Bytes(bytes) => self.push_text(text_of(bytes)),
             Value::Brief(bytes) => self.push_brief(text_of(bytes)),
             Value::Names(names) => self.push_names(names),
-            Value::Thing(kind, index, count, name) => self.push_thing(kind, index, count, name),
         }
     }
 

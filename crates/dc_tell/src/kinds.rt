@@ -27,10 +27,16 @@ pub enum Kind {
     OutputClaim,
     /// A member of its `labels`.
     LabelClaim,
+    /// The top of a system.
+    System,
+    /// A `[[concentrator]]`.
+    Concentrator,
+    /// A `[[link]]`.
+    Link,
 }
 
 /// The kinds: what one is called, with its article, the kind that it stands in, and the key of its list there.
-static KINDS: [(Kind, &'static str, &'static str, Kind, &'static str); 11] = [
+static KINDS: [(Kind, &'static str, &'static str, Kind, &'static str); 14] = [
     (
         Kind::Top,
         "the top of the tables",
@@ -78,6 +84,15 @@ static KINDS: [(Kind, &'static str, &'static str, Kind, &'static str); 11] = [
         Kind::Certificate,
         "labels",
     ),
+    (Kind::System, "the system", "a system", Kind::None, ""),
+    (
+        Kind::Concentrator,
+        "concentrator",
+        "a concentrator",
+        Kind::System,
+        "concentrator",
+    ),
+    (Kind::Link, "link", "a link", Kind::System, "link"),
 ];
 
 /// The kinds of objects whose name stands at another key than `name`.
@@ -117,10 +132,18 @@ pub fn kind_at(parent: Kind, key: &[u8]) -> Kind {
     Kind::None
 }
 
-/// Whether a kind is one of certificates, and not of tables.
+/// The kind of the top of the texts that have a kind.
+pub fn top_of(kind: Kind) -> Kind {
+    match kind {
+        Kind::System | Kind::Concentrator | Kind::Link => Kind::System,
+        Kind::Certificate | Kind::InputClaim | Kind::OutputClaim | Kind::LabelClaim => {
+            Kind::Certificate
+        }
+        _ => Kind::Top,
+    }
+}
+
+/// Whether a kind is one of certificates, and not of tables or of a system.
 pub fn is_of_certificate(kind: Kind) -> bool {
-    matches!(
-        kind,
-        Kind::Certificate | Kind::InputClaim | Kind::OutputClaim | Kind::LabelClaim
-    )
+    top_of(kind) == Kind::Certificate
 }

@@ -13,9 +13,9 @@ mod tokens;
 mod walker;
 
 pub use explanation::{Explanation, File, Value};
-pub use kinds::{Kind, called, is_of_certificate, kind_at, naming};
+pub use kinds::{Kind, called, is_of_certificate, kind_at, naming, top_of};
 pub use layout::{Form, Key, Layout, Row, unquoted};
 pub use likeness::Names;
 pub use place::{Place, place_at};
 pub use tokens::{Span, Token, tokens_of};
-pub use walker::layout_of;
+pub use walker::{layout_below, layout_of};

@@ -1,5 +1,5 @@
 //! How tables and keys are found along the tokens of a text.
-use crate::kinds::{Kind, kind_at};
+use crate::kinds::{Kind, is_of_certificate, kind_at};
 use crate::layout::{Form, Key, Layout, Row};
 use crate::tokens::{Span, Token, tokens_of};
 use std::alloc::Global;
@@ -335,17 +335,13 @@ fn begin<'a>(alloc: Global, text: &'a [u8], is_json: bool) -> Walker<'a> {
     }
 }
 
-/// Where the tables and the keys of a text stand; nothing where memory was refused.
-pub fn layout_of<'a>(alloc: Global, text: &'a [u8], is_json: bool) -> Option<Layout<'a>> {
+/// Where the tables and the keys of a text stand whose top is of a kind; nothing where memory was refused.
+pub fn layout_below<'a>(alloc: Global, text: &'a [u8], top: Kind) -> Option<Layout<'a>> {
+    let is_json = is_of_certificate(top);
     let Some(tokens) = tokens_of(alloc, text, is_json) else {
         return None;
     };
     let mut walker = begin(alloc, text, is_json);
-    let top = if is_json {
-        Kind::Certificate
-    } else {
-        Kind::Top
-    };
     let _ = walker.add_row(top, None, Span { from: 0, to: 0 }, true);
     for (number, (token, span)) in tokens.iter().enumerate() {
         walker.note_escapes(*token, *span);
@@ -364,4 +360,14 @@ pub fn layout_of<'a>(alloc: Global, text: &'a [u8], is_json: bool) -> Option<Lay
         ..
     } = walker;
     if is_lost { None } else { Some(layout) }
+}
+
+/// Where the tables and the keys of a certificate or of tables stand; nothing where memory was refused.
+pub fn layout_of<'a>(alloc: Global, text: &'a [u8], is_json: bool) -> Option<Layout<'a>> {
+    let top = if is_json {
+        Kind::Certificate
+    } else {
+        Kind::Top
+    };
+    layout_below(alloc, text, top)
 }
