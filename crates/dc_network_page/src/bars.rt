@@ -2,8 +2,9 @@
 
 use crate::parts::{Part, Parts};
 use crate::shown::Shown;
-use dc_page_text::{Grouped, Hundredths, Thousandths, round_step, share};
-use std::alloc::{AllocError, Global};
+use dc_page_text::Hole::{Digits, Hundredths, Number, Text, Thousandths};
+use dc_page_text::{Html, round_step, share};
+use std::alloc::Global;
 
 /// How many ways are drawn.
 pub const MOST_BARS: usize = 16;
@@ -34,108 +35,102 @@ impl Pen {
 }
 
 /// Adds the stays of a way, the last one of which is the first in the list, and passes over its links.
-fn push_stays(text: &mut String, stays: &[Part], scale: u64) -> Result<(), AllocError> {
+fn push_stays(html: &mut Html, stays: &[Part], scale: u64) {
     let mut pen = Pen { at: 0, scale };
-    text.push_str("<path class='in' d='M0 7")?;
+    html.add("<path class='in' d='M0 7");
     for part in stays.iter().rev() {
         if let Some(feed) = part.before {
-            let passed = pen.step(feed.latency);
-            write!(text, "m{passed} 0")?;
+            html.put("m{} 0", &[Digits(pen.step(feed.latency))]);
         }
-        let drawn = pen.step(part.stay);
-        write!(text, "h{drawn}")?;
+        html.put("h{}", &[Digits(pen.step(part.stay))]);
     }
-    text.push_str("'/>")
+    html.add("'/>")
 }
 
 /// Adds the links of a way, and passes over its stays.
-fn push_latencies(text: &mut String, stays: &[Part], scale: u64) -> Result<(), AllocError> {
+fn push_latencies(html: &mut Html, stays: &[Part], scale: u64) {
     let mut pen = Pen { at: 0, scale };
-    text.push_str("<path class='on' d='M0 7")?;
+    html.add("<path class='on' d='M0 7");
     for part in stays.iter().rev() {
         if let Some(feed) = part.before {
-            let drawn = pen.step(feed.latency);
-            write!(text, "h{drawn}")?;
+            html.put("h{}", &[Digits(pen.step(feed.latency))]);
         }
-        let passed = pen.step(part.stay);
-        write!(text, "m{passed} 0")?;
+        html.put("m{} 0", &[Digits(pen.step(part.stay))]);
     }
-    text.push_str("'/>")
+    html.add("'/>")
 }
 
 /// Adds the parts of a way in words, given its stays, the last one first.
-fn push_words(text: &mut String, shown: &Shown<'_>, stays: &[Part]) -> Result<(), AllocError> {
-    text.push_str("</svg>\n<p class='s'>")?;
+fn push_words(html: &mut Html, shown: &Shown<'_>, stays: &[Part]) {
+    html.add("</svg>\n<p class='s'>");
     for part in stays.iter().rev() {
         if let Some(feed) = part.before {
-            let link = feed.link;
-            let latency = Grouped(feed.latency);
-            write!(text, " + link {link} {latency} + ")?;
+            let (link, latency) = (Digits(feed.link as u64), Number(feed.latency));
+            html.put(" + link {} {} + ", &[link, latency]);
         }
-        let name = shown.name(part.concentrator);
-        let stay = Grouped(part.stay);
-        write!(text, "{name} {stay}")?;
+        shown.push_name(html, part.concentrator);
+        html.put(" {}", &[Number(part.stay)]);
     }
-    text.push_str("</p></div>\n")
+    html.add("</p></div>\n")
 }
 
 /// Adds the bar of a way.
 fn push_bar(
     alloc: Global,
-    text: &mut String,
+    html: &mut Html,
     shown: &Shown<'_>,
     parts: &Parts,
     part: Part,
     scale: u64,
-) -> Result<(), AllocError> {
-    let name = shown.name(part.concentrator);
-    let label = part.name.as_str();
-    let way = Grouped(part.way);
-    write!(
-        text,
-        "<div class='bar'><p><b>{name}.{label}</b> {way} us</p>\n<svg viewBox='0 0 {WHOLE} 14' preserveAspectRatio='none'>"
-    )?;
-    let stays = parts.stays(alloc, part)?;
-    push_stays(text, stays.as_slice(), scale)?;
-    push_latencies(text, stays.as_slice(), scale)?;
-    push_words(text, shown, stays.as_slice())
+) {
+    html.add("<div class='bar'><p><b>");
+    shown.push_name(html, part.concentrator);
+    html.put(
+        ".{}</b> {} us</p>\n<svg viewBox='0 0 {} 14' preserveAspectRatio='none'>",
+        &[Text(part.name.as_str()), Number(part.way), Digits(WHOLE)],
+    );
+    match parts.stays(alloc, part) {
+        Ok(stays) => {
+            push_stays(html, stays.as_slice(), scale);
+            push_latencies(html, stays.as_slice(), scale);
+            push_words(html, shown, stays.as_slice());
+        }
+        Err(error) => html.lose(error),
+    }
 }
 
 /// Adds the scale of the bars.
-fn push_scale(text: &mut String, scale: u64) -> Result<(), AllocError> {
-    text.push_str("<div class='bar'><svg>")?;
+fn push_scale(html: &mut Html, scale: u64) {
+    html.add("<div class='bar'><svg>");
     let step = round_step(scale, 4).max(1);
     for place in 0..(scale / step).min(5).saturating_add(1) {
         let us = place.saturating_mul(step);
         let x = Hundredths(share(us, scale, WHOLE));
-        let anchor = if place == 0 { "start" } else { "middle" };
-        let time = Thousandths(us);
-        write!(
-            text,
-            "<text x='{x}%' y='12' text-anchor='{anchor}'>{time} ms</text>"
-        )?;
+        html.put("<text x='{}%' y='12' text-anchor='", &[x]);
+        html.add(if place == 0 { "start" } else { "middle" });
+        html.put("'>{} ms</text>", &[Thousandths(us)]);
     }
-    text.push_str("</svg></div>\n")
+    html.add("</svg></div>\n")
 }
 
 /// Adds the bars of these ways, the longest of which is the first.
 pub fn push_bars(
     alloc: Global,
-    text: &mut String,
+    html: &mut Html,
     shown: &Shown<'_>,
     parts: &Parts,
     longest: &[Part],
-) -> Result<(), AllocError> {
+) {
     let scale = match longest.first() {
         Some(part) => part.way,
         None => 0,
     };
-    text.push_str(
+    html.add(
         "<h2>The longest ways</h2>\n<p class='s'><span class='k t'></span>in a concentrator<br/><span class='k l'></span>on a link</p>\n",
-    )?;
-    push_scale(text, scale)?;
+    );
+    push_scale(html, scale);
     for part in longest {
-        push_bar(alloc, text, shown, parts, *part, scale)?;
+        push_bar(alloc, html, shown, parts, *part, scale);
     }
-    text.push_str(WHAT_A_WAY_IS)
+    html.add(WHAT_A_WAY_IS)
 }

@@ -2,67 +2,64 @@
 
 use crate::layout::{BOX_WIDTH, Layout, Line, SINKS, Slot};
 use crate::shown::Shown;
-use dc_page_text::{Grouped, Thousandths, Unit};
+use dc_page_text::Hole::{Digits, Number, Text, Thousandths, Times};
+use dc_page_text::{Html, Unit};
 use dc_system_text::LinkText;
 use dc_tables::Tables;
-use std::alloc::AllocError;
 
 /// Adds the curve of a link: it leaves and comes level, and sinks on its way where it passes a column.
-fn push_curve(text: &mut String, layout: &Layout, line: &Line) -> Result<(), AllocError> {
-    let Line {
-        from_x,
-        from_y,
-        to_x,
-        to_y,
-        passes,
-    } = *line;
-    let sinks = if passes { SINKS } else { 0 };
-    let end_x = to_x.saturating_sub(layout.run);
-    let bend = layout.bend.max(end_x.saturating_sub(from_x) / 4);
-    let first_x = from_x.saturating_add(bend);
-    let first_y = from_y.saturating_add(sinks);
-    let last_x = end_x.saturating_sub(bend);
-    let last_y = to_y.saturating_add(sinks);
-    write!(
-        text,
-        "<path class='l' d='M{from_x} {from_y}C{first_x} {first_y} {last_x} {last_y} {end_x} {to_y}H{to_x}m-7 -4l7 4l-7 4'>"
-    )
+fn push_curve(html: &mut Html, layout: &Layout, line: &Line) {
+    let sinks = if line.passes { SINKS } else { 0 };
+    let end_x = line.to_x.saturating_sub(layout.run);
+    let bend = layout.bend.max(end_x.saturating_sub(line.from_x) / 4);
+    html.put(
+        "<path class='l' d='M{} {}C{} {} {} {} {} {}H{}m-7 -4l7 4l-7 4'>",
+        &[
+            Digits(line.from_x),
+            Digits(line.from_y),
+            Digits(line.from_x.saturating_add(bend)),
+            Digits(line.from_y.saturating_add(sinks)),
+            Digits(end_x.saturating_sub(bend)),
+            Digits(line.to_y.saturating_add(sinks)),
+            Digits(end_x),
+            Digits(line.to_y),
+            Digits(line.to_x),
+        ],
+    );
 }
 
 /// Adds what a link is called where one points at it.
-fn push_title(text: &mut String, link: &LinkText, number: usize) -> Result<(), AllocError> {
-    let one = link.from.concentrator.as_str();
-    let output = link.from.port.as_str();
-    let other = link.to.concentrator.as_str();
-    let bus = link.to.port.as_str();
-    write!(
-        text,
-        "<title>link {number}: {one}.{output} -&gt; {other}.{bus}, "
-    )?;
-    push_latency(text, link)?;
-    text.push_str("</title></path>\n")
-}
-
-/// Adds the latencies of a link.
-fn push_latency(text: &mut String, link: &LinkText) -> Result<(), AllocError> {
-    let least = Grouped(u64::from(link.least_us));
-    let most = Grouped(u64::from(link.most_us));
-    write!(text, "{least} to {most} us")
+fn push_title(html: &mut Html, link: &LinkText, number: usize) {
+    html.put(
+        "<title>link {}: {}.{} -&gt; {}.{}, {} to {} us</title></path>\n",
+        &[
+            Digits(number as u64),
+            Text(link.from.concentrator.as_str()),
+            Text(link.from.port.as_str()),
+            Text(link.to.concentrator.as_str()),
+            Text(link.to.port.as_str()),
+            Number(u64::from(link.least_us)),
+            Number(u64::from(link.most_us)),
+        ],
+    );
 }
 
 /// Adds the texts of a link, above and below its end.
-fn push_texts(text: &mut String, link: &LinkText, line: &Line) -> Result<(), AllocError> {
-    let output = link.from.port.as_str();
-    let bus = link.to.port.as_str();
+fn push_texts(html: &mut Html, link: &LinkText, line: &Line) {
     let x = line.to_x.saturating_sub(10);
-    let above = line.to_y.saturating_sub(4);
-    let below = line.to_y.saturating_add(11);
-    write!(
-        text,
-        "<text x='{x}' y='{above}' text-anchor='end'>{output} -&gt; {bus}</text><text x='{x}' y='{below}' text-anchor='end'>"
-    )?;
-    push_latency(text, link)?;
-    text.push_str("</text>\n")
+    html.put(
+        "<text x='{}' y='{}' text-anchor='end'>{} -&gt; {}</text><text x='{}' y='{}' text-anchor='end'>{} to {} us</text>\n",
+        &[
+            Digits(x),
+            Digits(line.to_y.saturating_sub(4)),
+            Text(link.from.port.as_str()),
+            Text(link.to.port.as_str()),
+            Digits(x),
+            Digits(line.to_y.saturating_add(11)),
+            Number(u64::from(link.least_us)),
+            Number(u64::from(link.most_us)),
+        ],
+    );
 }
 
 /// The link of this number, and where it is drawn.
@@ -73,104 +70,83 @@ fn drawn(shown: &Shown<'_>, layout: &Layout, number: usize) -> Option<(LinkText,
     Some((link, line))
 }
 
-/// Adds the curve of the link of this number.
-fn push_link(
-    text: &mut String,
-    shown: &Shown<'_>,
-    layout: &Layout,
-    number: usize,
-) -> Result<(), AllocError> {
-    let Some((link, line)) = drawn(shown, layout, number) else {
-        return Ok(());
-    };
-    push_curve(text, layout, &line)?;
-    push_title(text, &link, number)
-}
-
 /// Adds all links, and above them their texts, where they have some.
-fn push_links(text: &mut String, shown: &Shown<'_>, layout: &Layout) -> Result<(), AllocError> {
+fn push_links(html: &mut Html, shown: &Shown<'_>, layout: &Layout) {
     for number in 0..shown.connections.len() {
-        push_link(text, shown, layout, number)?;
+        if let Some((link, line)) = drawn(shown, layout, number) {
+            push_curve(html, layout, &line);
+            push_title(html, &link, number);
+        }
     }
     if !layout.has_texts {
-        return Ok(());
+        return;
     }
     for number in 0..shown.connections.len() {
         if let Some((link, line)) = drawn(shown, layout, number) {
-            push_texts(text, &link, &line)?;
+            push_texts(html, &link, &line);
         }
     }
-    Ok(())
-}
-
-/// Adds a line of a box.
-fn push_row(text: &mut String, slot: &Slot, below: u64) -> Result<(), AllocError> {
-    let x = slot.x.saturating_add(10);
-    let y = slot.y.saturating_add(below);
-    write!(text, "<text x='{x}' y='{y}'>")
 }
 
 /// Adds what stands in a box below its name: the tick, and how many parts the concentrator has.
-fn push_counts(text: &mut String, slot: &Slot, tables: &Tables) -> Result<(), AllocError> {
-    let tick = Thousandths(u64::from(tables.tick_us()));
-    push_row(text, slot, 36)?;
-    write!(text, "tick {tick} ms</text>")?;
-    let buses = Unit::Buses.times(tables.bus_count());
-    let outputs = Unit::Outputs.times(tables.output_count());
-    push_row(text, slot, 51)?;
-    write!(text, "{buses}, {outputs}</text>")?;
-    let labels = Unit::Labels.times(tables.label_count());
-    push_row(text, slot, 66)?;
-    write!(text, "{labels}</text>\n")
+fn push_counts(html: &mut Html, slot: &Slot, tables: &Tables) {
+    let x = slot.x.saturating_add(10);
+    html.put(
+        "<text x='{}' y='{}'>tick {} ms</text><text x='{}' y='{}'>{}, {}</text><text x='{}' y='{}'>{}</text>\n",
+        &[
+            Digits(x),
+            Digits(slot.y.saturating_add(36)),
+            Thousandths(u64::from(tables.tick_us())),
+            Digits(x),
+            Digits(slot.y.saturating_add(51)),
+            Times(Unit::Buses, tables.bus_count()),
+            Times(Unit::Outputs, tables.output_count()),
+            Digits(x),
+            Digits(slot.y.saturating_add(66)),
+            Times(Unit::Labels, tables.label_count()),
+        ],
+    );
 }
 
 /// Adds the box of a concentrator.
-fn push_box(
-    text: &mut String,
-    shown: &Shown<'_>,
-    layout: &Layout,
-    concentrator: usize,
-) -> Result<(), AllocError> {
+fn push_box(html: &mut Html, shown: &Shown<'_>, layout: &Layout, concentrator: usize) {
     let Some(slot) = layout.slot(concentrator) else {
-        return Ok(());
+        return;
     };
     let Some(tables) = shown.tables(concentrator) else {
-        return Ok(());
+        return;
     };
-    let Slot { x, y, height, .. } = slot;
-    let name = shown.name(concentrator);
-    write!(
-        text,
-        "<rect class='box' x='{x}' y='{y}' width='{BOX_WIDTH}' height='{height}' rx='4'/>"
-    )?;
-    let left = x.saturating_add(10);
-    let top = y.saturating_add(20);
-    write!(
-        text,
-        "<text class='name' x='{left}' y='{top}'>{name}</text>"
-    )?;
-    push_counts(text, &slot, tables)
+    html.put(
+        "<rect class='box' x='{}' y='{}' width='{}' height='{}' rx='4'/><text class='name' x='{}' y='{}'>",
+        &[
+            Digits(slot.x),
+            Digits(slot.y),
+            Digits(BOX_WIDTH),
+            Digits(slot.height),
+            Digits(slot.x.saturating_add(10)),
+            Digits(slot.y.saturating_add(20)),
+        ],
+    );
+    shown.push_name(html, concentrator);
+    html.add("</text>");
+    push_counts(html, &slot, tables)
 }
 
 /// Adds the drawing, given the places of its boxes and links.
-pub fn push_drawing(
-    text: &mut String,
-    shown: &Shown<'_>,
-    layout: &Layout,
-) -> Result<(), AllocError> {
-    let width = layout.width;
-    let height = layout.height;
-    let class = if layout.has_texts { "net few" } else { "net" };
-    write!(
-        text,
-        "<h2>The network</h2>\n<div class='{class}'><svg viewBox='0 0 {width} {height}' width='{width}' height='{height}'>\n"
-    )?;
-    push_links(text, shown, layout)?;
+pub fn push_drawing(html: &mut Html, shown: &Shown<'_>, layout: &Layout) {
+    let (width, height) = (Digits(layout.width), Digits(layout.height));
+    html.add("<h2>The network</h2>\n<div class='");
+    html.add(if layout.has_texts { "net few" } else { "net" });
+    html.put(
+        "'><svg viewBox='0 0 {} {}' width='{}' height='{}'>\n",
+        &[width, height, width, height],
+    );
+    push_links(html, shown, layout);
     for concentrator in 0..shown.concentrators.len() {
-        push_box(text, shown, layout, concentrator)?;
+        push_box(html, shown, layout, concentrator);
     }
-    text.push_str("</svg></div>\n<p class='s'>Words go from left to right. ")?;
-    text.push_str(if layout.has_texts {
+    html.add("</svg></div>\n<p class='s'>Words go from left to right. ");
+    html.add(if layout.has_texts {
         "At the end of each link stand its output, its bus and its latencies.</p>\n"
     } else {
         "Point at a link to see what it is; the table of links has them all.</p>\n"

@@ -1,10 +1,10 @@
 //! What the page is of.
 
-use dc_document::Name;
+use dc_page_text::Hole::Text;
+use dc_page_text::Html;
 use dc_system_text::{ConcentratorText, LinkText};
 use dc_tables::Tables;
 use dc_ways::{Connection, Member, Ways};
-use std::fmt;
 
 /// A network that is accepted, as the page shows it: each list in the order of the system's text.
 #[derive(Clone, Copy)]
@@ -22,11 +22,14 @@ pub struct Shown<'a> {
 }
 
 impl<'a> Shown<'a> {
-    /// The name of a concentrator.
-    pub fn name(&self, concentrator: usize) -> Named {
+    /// Adds the name of a concentrator; of one that is not there `?`.
+    pub fn push_name(&self, html: &mut Html, concentrator: usize) {
         match self.concentrators.get(concentrator) {
-            Some(row) => Named(Some(row.name())),
-            None => Named(None),
+            Some(row) => {
+                let name = row.name();
+                html.put("{}", &[Text(name.as_str())])
+            }
+            None => html.add("?"),
         }
     }
 
@@ -35,22 +38,6 @@ impl<'a> Shown<'a> {
         match self.members.get(concentrator) {
             Some(member) => Some(member.tables()),
             None => None,
-        }
-    }
-}
-
-/// A name; one that is not there stands as `?`.
-#[derive(Clone, Copy)]
-pub struct Named(pub Option<Name>);
-
-impl fmt::Display for Named {
-    fn fmt<W: fmt::Write>(&self, f: &mut fmt::Formatter<W>) -> fmt::Result {
-        match self.0 {
-            Some(name) => {
-                let text = name.as_str();
-                write!(f, "{text}")
-            }
-            None => write!(f, "?"),
         }
     }
 }

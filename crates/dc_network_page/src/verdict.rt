@@ -2,37 +2,35 @@
 
 use crate::parts::{Part, Parts};
 use crate::shown::Shown;
-use dc_page_text::{Grouped, Thousandths, Unit};
-use std::alloc::AllocError;
+use dc_page_text::Hole::{Number, Text, Thousandths, Times};
+use dc_page_text::{Html, Unit};
 
 /// Adds the longest way.
-fn push_longest(text: &mut String, shown: &Shown<'_>, part: &Part) -> Result<(), AllocError> {
-    let name = shown.name(part.concentrator);
-    let label = part.name.as_str();
-    let way = Grouped(part.way);
-    let millis = Thousandths(part.way);
-    write!(
-        text,
-        "<p>The longest way is that of {name}.{label}: <b>{way} us</b> <small>({millis} ms)</small>.</p>"
-    )
+fn push_longest(html: &mut Html, shown: &Shown<'_>, part: &Part) {
+    html.add("<p>The longest way is that of ");
+    shown.push_name(html, part.concentrator);
+    html.put(
+        ".{}: <b>{} us</b> <small>({} ms)</small>.</p>",
+        &[
+            Text(part.name.as_str()),
+            Number(part.way),
+            Thousandths(part.way),
+        ],
+    );
 }
 
 /// Adds that the network is accepted, and its longest way, given the longest ones.
-pub fn push_verdict(
-    text: &mut String,
-    shown: &Shown<'_>,
-    parts: &Parts,
-    longest: &[Part],
-) -> Result<(), AllocError> {
-    let concentrators = Unit::Concentrators.times(shown.concentrators.len());
-    let links = Unit::Links.times(shown.links.len());
-    let labels = Unit::Labels.times(parts.all().len());
-    write!(
-        text,
-        "<div class='verdict'><p><b>Accepted:</b> {concentrators}, {links}, {labels}. Each certificate is accepted, and each link fits.</p>"
-    )?;
+pub fn push_verdict(html: &mut Html, shown: &Shown<'_>, parts: &Parts, longest: &[Part]) {
+    html.put(
+        "<div class='verdict'><p><b>Accepted:</b> {}, {}, {}. Each certificate is accepted, and each link fits.</p>",
+        &[
+            Times(Unit::Concentrators, shown.concentrators.len()),
+            Times(Unit::Links, shown.links.len()),
+            Times(Unit::Labels, parts.all().len()),
+        ],
+    );
     if let Some(part) = longest.first() {
-        push_longest(text, shown, part)?;
+        push_longest(html, shown, part);
     }
-    text.push_str("</div>\n")
+    html.add("</div>\n")
 }
