@@ -1,5 +1,5 @@
 //! What kept the program from its work.
-use crate::ran::Ran;
+use crate::ran::{CERTIFICATE, Ran};
 use dc_keep::Kept;
 use dc_tell::Explanation;
 use dc_tell::Value::Text;
@@ -50,8 +50,8 @@ fn explain_so(alloc: Global, what: &'static str, mend: &'static str) -> Option<S
     out.finish()
 }
 
-/// Tells that a call on what has this name failed.
-fn explain_cause(alloc: Global, name: &str, error: Error) -> Option<String> {
+/// Tells that a call on what has this name failed, and what was wanted of it.
+fn explain_cause(alloc: Global, name: &str, wanted: &str, error: Error) -> Option<String> {
     let mut cause = String::new(alloc);
     if write!(&mut cause, "{error}").is_err() {
         return None;
@@ -61,22 +61,27 @@ fn explain_cause(alloc: Global, name: &str, error: Error) -> Option<String> {
     out.put(Text(name));
     out.say(": ", &[]);
     out.put(Text(cause.as_str()));
+    if !wanted.is_empty() {
+        out.note("this was to be {}", &[Text(wanted)]);
+    }
     out.help("{}", &[Text(mend_of(error.kind()))]);
+    if wanted == CERTIFICATE && error.kind() == ErrorKind::NotFound {
+        out.help("or let `dc429 find TABLES > FILE` write one", &[]);
+    }
     out.finish()
 }
 
 /// Explains that a call on a file or a device failed.
 fn explain_device(alloc: Global, ran: &Ran<'_>) -> Option<String> {
-    let (first, second) = ran.names();
-    let places: [(&str, &Kept); 4] = [
-        (first, ran.first),
-        (second, ran.second),
-        ("<stdin>", ran.input),
-        ("<stdout>", ran.output),
+    let places: [(&str, &str, &Kept); 4] = [
+        (ran.names.0, ran.wanted.0, ran.first),
+        (ran.names.1, ran.wanted.1, ran.second),
+        ("<stdin>", "", ran.input),
+        ("<stdout>", "", ran.output),
     ];
-    for (name, kept) in places.iter() {
+    for (name, wanted, kept) in places.iter() {
         if let Some(error) = kept.cause {
-            return explain_cause(alloc, name, error);
+            return explain_cause(alloc, name, wanted, error);
         }
     }
     None

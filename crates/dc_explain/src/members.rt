@@ -2,8 +2,7 @@
 use crate::devices::explain_failure;
 use crate::judged::{explain_refused, explain_unread};
 use crate::output::Answer;
-use crate::ran::{Ran, told};
-use dc_command::Order;
+use crate::ran::{JUDGED, Ran, told};
 use dc_system_text::{ConcentratorText, read_system};
 use dc_tell::Explanation;
 use dc_tell::Value::Text;
@@ -43,18 +42,11 @@ fn explain_files(
     certificate: &str,
 ) -> Option<String> {
     let checked = Ran {
-        order: Order::Check {
-            tables,
-            certificate,
-            workers: None,
-        },
-        exit: ran.exit,
+        names: (tables, certificate),
+        wanted: JUDGED,
         first: ran.named_first,
         second: ran.named_second,
-        named_first: ran.named_first,
-        named_second: ran.named_second,
-        input: ran.input,
-        output: ran.output,
+        ..*ran
     };
     explain_check(alloc, &checked, answer)
 }

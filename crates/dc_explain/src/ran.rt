@@ -20,6 +20,12 @@ use std::io::ErrorKind;
 /// What standard input is called as a file on the command line.
 const STANDARD_INPUT: &str = "-";
 
+/// What a certificate is called.
+pub(crate) const CERTIFICATE: &str = "the certificate";
+
+/// What two files are to be that are judged.
+pub(crate) const JUDGED: (&'static str, &'static str) = ("the tables", CERTIFICATE);
+
 /// A run that has ended, with what was kept of it.
 #[derive(Clone, Copy)]
 pub(crate) struct Ran<'a> {
@@ -27,6 +33,10 @@ pub(crate) struct Ran<'a> {
     pub(crate) order: Order<'a>,
     /// What it ended with.
     pub(crate) exit: Exit,
+    /// The names of its files, in the order in which it opens them; an empty one where it has none.
+    pub(crate) names: (&'a str, &'a str),
+    /// What these are to be.
+    pub(crate) wanted: (&'static str, &'static str),
     /// Its first file.
     pub(crate) first: &'a Kept,
     /// Its second file.
@@ -50,53 +60,62 @@ pub(crate) fn told(name: &str) -> &str {
     }
 }
 
-impl<'a> Ran<'a> {
-    /// The names of its files, in the order in which it opens them; an empty one where it has none.
-    pub(crate) fn names(&self) -> (&'a str, &'a str) {
-        match self.order {
-            Order::Decode(_) | Order::Explain { .. } => ("", ""),
-            Order::Network { system, .. } | Order::ReportNetwork { system } => (told(system), ""),
-            Order::Find { tables, .. }
-            | Order::Survey { tables }
-            | Order::Trace { tables, .. }
-            | Order::Replay { tables, .. } => (told(tables), ""),
-            Order::Report {
-                tables,
-                certificate,
-                ..
-            }
-            | Order::Margins {
-                tables,
-                certificate,
-                ..
-            } => (told(tables), told(certificate.unwrap_or(""))),
-            Order::Check {
-                tables,
-                certificate,
-                ..
-            }
-            | Order::Audit {
-                tables,
-                certificate,
-                ..
-            }
-            | Order::Observe {
-                tables,
-                certificate,
-            }
-            | Order::Bench {
-                tables,
-                certificate,
-                ..
-            } => (told(tables), told(certificate)),
-            Order::Design {
-                inputs,
-                outputs,
-                ..
-            } => (told(inputs), told(outputs)),
+/// The names of the files of an order, in the order in which it opens them; an empty one where it has none.
+fn names_of(order: Order<'_>) -> (&str, &str) {
+    match order {
+        Order::Decode(_) | Order::Explain { .. } => ("", ""),
+        Order::Network { system, .. } | Order::ReportNetwork { system } => (told(system), ""),
+        Order::Find { tables, .. }
+        | Order::Survey { tables }
+        | Order::Trace { tables, .. }
+        | Order::Replay { tables, .. } => (told(tables), ""),
+        Order::Report {
+            tables,
+            certificate,
+            ..
         }
+        | Order::Margins {
+            tables,
+            certificate,
+            ..
+        } => (told(tables), told(certificate.unwrap_or(""))),
+        Order::Check {
+            tables,
+            certificate,
+            ..
+        }
+        | Order::Audit {
+            tables,
+            certificate,
+            ..
+        }
+        | Order::Observe {
+            tables,
+            certificate,
+        }
+        | Order::Bench {
+            tables,
+            certificate,
+            ..
+        } => (told(tables), told(certificate)),
+        Order::Design {
+            inputs,
+            outputs,
+            ..
+        } => (told(inputs), told(outputs)),
     }
+}
 
+/// What the files of an order are to be.
+fn wanted_of(order: Order<'_>) -> (&'static str, &'static str) {
+    match order {
+        Order::Network { .. } | Order::ReportNetwork { .. } => ("the system", ""),
+        Order::Design { .. } => ("the sheet of inputs", "the sheet of outputs"),
+        _ => JUDGED,
+    }
+}
+
+impl<'a> Ran<'a> {
     /// The text of the system of the network that it was to judge or to report on, as the command line names it.
     pub(crate) fn system(&self) -> Option<&'a str> {
         match self.order {
@@ -107,14 +126,13 @@ impl<'a> Ran<'a> {
 
     /// Its files, as far as they were kept.
     pub(crate) fn files(&self) -> (File<'a>, File<'a>) {
-        let (first, second) = self.names();
         (
             File {
-                name: first,
+                name: self.names.0,
                 text: self.first.text.as_slice(),
             },
             File {
-                name: second,
+                name: self.names.1,
                 text: self.second.text.as_slice(),
             },
         )
@@ -207,6 +225,8 @@ fn explain_behind(
     let ran = Ran {
         order,
         exit,
+        names: names_of(order),
+        wanted: wanted_of(order),
         first: files.0,
         second: files.1,
         named_first: named.0,

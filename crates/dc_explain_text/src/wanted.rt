@@ -16,7 +16,7 @@ static SORTS: [(Sort, &'static str, &'static str, &'static str); 14] = [
     ),
     (
         Sort::Names,
-        "a list of {} to {} names of {} in quotes, as [\"A\", \"B\"]",
+        "a list of {} to {} names of {} in quotes, like [\"A\", \"B\"]",
         "which is not a list of names in quotes{}",
         "",
     ),
@@ -46,13 +46,13 @@ static SORTS: [(Sort, &'static str, &'static str, &'static str); 14] = [
     ),
     (
         Sort::Label,
-        "a text in quotes: three octal digits from 001 to 377, as \"203\"",
+        "a text in quotes: three octal digits from 001 to 377, like \"203\"",
         "which is not a text in quotes{}",
         "no octal digit (0 to 7)",
     ),
     (
         Sort::Equipment,
-        "a text in quotes: three hexadecimal digits, as \"001\" or \"02A\"",
+        "a text in quotes: three hexadecimal digits, like \"001\" or \"02A\"",
         "which is not a text in quotes{}",
         "no hexadecimal digit (0 to 9, A to F)",
     ),
@@ -70,7 +70,7 @@ static SORTS: [(Sort, &'static str, &'static str, &'static str); 14] = [
     ),
     (
         Sort::Offsets,
-        "a list of 1 to 256 whole numbers, each from 0 to 99999 (ticks), as [0, 15]",
+        "a list of 1 to 256 whole numbers, each from 0 to 99999 (ticks), like [0, 15]",
         "which is not a list of whole numbers{}",
         "",
     ),
@@ -88,7 +88,7 @@ static SORTS: [(Sort, &'static str, &'static str, &'static str); 14] = [
     ),
     (
         Sort::End,
-        "a text in quotes, as \"FWD.AIR\": the name of a concentrator, a dot, and the name of its ",
+        "a text in quotes, like \"FWD.AIR\": the name of a concentrator, a dot, and the name of its ",
         "which is not a text in quotes{}",
         "",
     ),

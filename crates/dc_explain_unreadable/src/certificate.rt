@@ -1,6 +1,6 @@
 //! Certificates that were refused.
 use crate::document::{refused_of, tell_no_document};
-use dc_cert::{CertRule, Fault, LIST_LIMIT, TextPlace};
+use dc_cert::{CertFault, CertRule, Fault, LIST_LIMIT, TextPlace, read_cert};
 use dc_explain_text::{
     Fact, Misfit, Refused, tell_absent, tell_misfit, tell_no_table, tell_unknown, tell_version,
 };
@@ -84,10 +84,18 @@ pub fn explain_certificate(alloc: Global, file: File<'_>, fault: Fault) -> Optio
     }
     if is_document {
         refused.say(
-            "\nhelp: or let `dc429 find TABLES > FILE` write a certificate",
+            "\nhelp: or let `dc429 find TABLES > FILE` write a certificate: its numbers are the least that are accepted",
             &[],
         );
     }
     let Refused { out, .. } = refused;
     out.finish()
+}
+
+/// Explains why a text gives no certificate; nothing where it gives one, or memory was refused.
+pub fn explain_no_certificate(alloc: Global, file: File<'_>) -> Option<String> {
+    match read_cert(alloc, file.text) {
+        Err(CertFault::Unreadable(fault)) => explain_certificate(alloc, file, fault),
+        _ => None,
+    }
 }

@@ -17,7 +17,7 @@ mod tables;
 mod twins;
 mod visits;
 
-pub use certificate::explain_certificate;
+pub use certificate::{explain_certificate, explain_no_certificate};
 pub use counts::tell_count;
 pub use document::{refused_of, tell_no_document};
 pub use tables::explain_tables;

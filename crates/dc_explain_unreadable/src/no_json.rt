@@ -1,7 +1,7 @@
 //! Texts that no JSON reader reads, and what is wrong at the place where it stopped.
 use dc_explain_text::{Fact, Refused};
 use dc_tell::{Span, Token, Value, tokens_of};
-use serde_json::Value as Json;
+use serde_json::{Error, Value as Json};
 use std::alloc::Global;
 
 /// The byte at a line and a column of bytes, both from 1.
@@ -144,26 +144,34 @@ fn cause_at(alloc: Global, text: &[u8], at: usize, message: &str) -> &'static st
     )
 }
 
-/// Tells what JSON's reader says of a text.
-pub(crate) fn tell_no_json(refused: &mut Refused<'_>) {
-    let text = refused.file.text;
-    let error = match Json::from_slice(refused.alloc, text) {
-        Ok(_) => return refused.say("this is no certificate", &[]),
-        Err(error) => error,
-    };
-    if error.is_eof() {
-        return tell_end(refused);
-    }
-    let at = offset_of(text, error.line(), error.column());
-    let Ok(message) = format!(in refused.alloc; "{error}") else {
-        return refused.out.lose();
-    };
-    let what = cause_at(refused.alloc, text, at, message.as_str());
+/// Tells where JSON's reader stopped, and what it said.
+fn tell_stop(refused: &mut Refused<'_>, at: usize, message: &str) {
+    let what = cause_at(refused.alloc, refused.file.text, at, message);
     refused
         .out
-        .say("this is no JSON: {}", &[Value::Text(message.as_str())]);
+        .say("this is no JSON: {}", &[Value::Text(message)]);
     refused.say(
         "{}\nhelp: {}\nhelp: or let `dc429 find TABLES > FILE` write a certificate",
         &[Fact::Here(Span { from: at, to: at }), Fact::Word(what)],
     );
+}
+
+/// Tells what is wrong by what JSON's reader says.
+fn tell_error(refused: &mut Refused<'_>, error: &Error) {
+    if error.is_eof() {
+        return tell_end(refused);
+    }
+    let at = offset_of(refused.file.text, error.line(), error.column());
+    match format!(in refused.alloc; "{error}") {
+        Ok(message) => tell_stop(refused, at, message.as_str()),
+        Err(_) => refused.out.lose(),
+    }
+}
+
+/// Tells what JSON's reader says of a text.
+pub(crate) fn tell_no_json(refused: &mut Refused<'_>) {
+    match Json::from_slice(refused.alloc, refused.file.text) {
+        Ok(_) => refused.say("this is no certificate", &[]),
+        Err(error) => tell_error(refused, &error),
+    }
 }

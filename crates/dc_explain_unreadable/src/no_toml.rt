@@ -1,6 +1,7 @@
 //! Texts in the place of tables or of a system that no TOML reader reads, and what is wrong where it stopped.
 use dc_explain_text::{Fact, Refused};
 use dc_tell::{Kind, Span, Value};
+use toml::de::Error;
 
 /// What TOML's reader says where something is wrong, and what is to be done there; what is empty is said where nothing
 /// else is.
@@ -25,14 +26,17 @@ static CURES: [(&'static str, &'static str); 8] = [
         "string",
         "{}\nhelp: close the quotes in the same line; inside double quotes write a backslash twice",
     ),
-    ("unclosed", "{}\nhelp: close the bracket"),
+    (
+        "unclosed",
+        "{}\nhelp: a bracket that was opened before is not closed: see the line above this one too",
+    ),
     (
         "recurse",
         "{}\nhelp: lists stand at most 80 deep; tables need no more than two",
     ),
     (
         "",
-        "{}\nhelp: see that brackets, quotes and commas are in pairs and in place",
+        "{}\nhelp: see here, and at the end of the line above, whether a bracket or a quote is not closed, or a comma is missing",
     ),
 ];
 
@@ -92,6 +96,22 @@ fn tell_code(refused: &mut Refused<'_>, text: &[u8], at: usize) {
     );
 }
 
+/// Tells what is wrong by what TOML's reader says.
+fn tell_error(refused: &mut Refused<'_>, text: &[u8], error: &Error) {
+    let at = match error.span() {
+        None => 0,
+        Some(span) => span.start,
+    };
+    let message = error.message();
+    refused
+        .out
+        .say("this is no TOML document: {}", &[Value::Text(message)]);
+    refused.say(cure(message), &[Fact::Here(Span { from: at, to: at })]);
+    if message.contains("invalid value") {
+        tell_code(refused, text, at);
+    }
+}
+
 /// Tells of a text that is no TOML document: that it is JSON, or what TOML's reader says of it.
 pub(crate) fn tell_no_toml(refused: &mut Refused<'_>, text: &str) {
     if text.trim_start().starts_with('{') {
@@ -99,23 +119,8 @@ pub(crate) fn tell_no_toml(refused: &mut Refused<'_>, text: &str) {
         let sentence = if is_system { NO_SYSTEM } else { NO_TABLES };
         return refused.say(sentence, &[Fact::Here(Span { from: 0, to: 0 })]);
     }
-    let error = match toml::table_from_str(refused.alloc, text) {
-        Ok(_) => return refused.say("this is no TOML document", &[]),
-        Err(error) => error,
-    };
-    let at = match error.span() {
-        None => 0,
-        Some(span) => span.start,
-    };
-    refused.out.say(
-        "this is no TOML document: {}",
-        &[Value::Text(error.message())],
-    );
-    refused.say(
-        cure(error.message()),
-        &[Fact::Here(Span { from: at, to: at })],
-    );
-    if error.message().contains("invalid value") {
-        tell_code(refused, text.as_bytes(), at);
+    match toml::table_from_str(refused.alloc, text) {
+        Ok(_) => refused.say("this is no TOML document", &[]),
+        Err(error) => tell_error(refused, text.as_bytes(), &error),
     }
 }

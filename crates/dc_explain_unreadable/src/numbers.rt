@@ -15,7 +15,7 @@ const LONGEST_US: u64 = 60_000_000;
 pub(crate) fn tell_reversed(refused: &mut Refused<'_>) {
     let row = refused.row;
     refused.say(
-        "`min_us` of {} is {}, more than its `max_us` of {}{}\nhelp: exchange the two (line {}): `min_us` is the least time between two words of the label, `max_us` the greatest, both in microseconds",
+        "`min_us` of {} is {}, more than its `max_us` of {}{}\nhelp: mend the one that is mistyped, or exchange the two (line {}): `min_us` is the least time between two words of the label, `max_us` the greatest, both in microseconds",
         &[
             Fact::Row(row),
             Fact::Number(refused.count(row, "min_us")),
@@ -122,19 +122,19 @@ fn tell_ways(refused: &mut Refused<'_>, parameter: usize, tick: u64) {
     let maximum = latest.saturating_add(1).saturating_mul(tick);
     let longest = longest_tick(least, greatest);
     refused.say(
-        "\nnote: by its `offsets`, and the `within` of its output, its words may leave {} to {} ticks apart\n{}help: write a `min_us` of {} or less (line {}) for that: words may then come and be sent sooner after one another\n{}help: write a `max_us` of {} or more (line {}) for that; this weakens what is promised: words may be further apart\n{}help: or shorten the tick (line {}): `tick_us = {}` is the longest that serves this label; then change all that the tables count in ticks: `within`, `frame`, `offsets`, `stale`, `age`\n{}note: no tick serves this label with this `min_us` and `max_us`\nnote: these numbers satisfy this rule alone: `dc429 find TABLES` then tells whether they are enough",
+        "\nnote: by its `offsets`, and the `within` of its output, its words may leave {} to {} ticks apart\n{}help: write a `tick_us` of {} or less (line {}), if that is mistyped: all that the tables count in ticks, `within`, `frame`, `offsets`, `stale` and `age`, is then of these\n{}help: write a `min_us` of {} or less (line {}) for that: words may then come and be sent sooner after one another\n{}help: write a `max_us` of {} or more (line {}) for that; this weakens what is promised: words may be further apart\n{}note: no tick serves this label with this `min_us` and `max_us`\nnote: these numbers satisfy this rule alone: `dc429 find TABLES` then tells whether they are enough",
         &[
             Fact::Number(soonest),
             Fact::Number(latest),
+            Fact::If(longest != 0),
+            Fact::Number(longest),
+            Fact::Line(0, "tick_us"),
             Fact::If(least > minimum && minimum >= 1),
             Fact::Number(minimum),
             Fact::Line(parameter, "min_us"),
             Fact::If(greatest < maximum && maximum <= LONGEST_US),
             Fact::Number(maximum),
             Fact::Line(parameter, "max_us"),
-            Fact::If(longest != 0),
-            Fact::Line(0, "tick_us"),
-            Fact::Number(longest),
             Fact::If(longest == 0),
         ],
     );

@@ -97,20 +97,15 @@ fn doubled(taken: &[(u64, usize, Span)], label: usize) -> Option<(u64, Span, usi
     None
 }
 
-/// Tells of two entries of an output that have one offset.
-pub(crate) fn tell_offset_twice(refused: &mut Refused<'_>) -> bool {
-    let output = refused.parent(refused.row);
-    let Some(taken) = taken(refused, output) else {
-        refused.out.lose();
-        return false;
-    };
-    let Some((offset, member, holder)) = doubled(taken.as_slice(), refused.row) else {
+/// Tells of two of these entries of an output that have one offset.
+fn tell_doubled(refused: &mut Refused<'_>, output: usize, taken: &[(u64, usize, Span)]) -> bool {
+    let Some((offset, member, holder)) = doubled(taken, refused.row) else {
         return false;
     };
     let frame = refused.count(output, "frame");
-    let at = free(taken.as_slice(), frame);
+    let at = free(taken, frame);
     refused.say(
-        "`offsets` of {} has {}, where in {} there is an entry already, of {} in line {}{}\n{}help: move one of the two, to a free offset near it, since C08 and C09 judge the gaps; the first that is free in this output is {}\n{}help: each of the {} ticks of this frame has an entry: take one out, or write a longer `frame` (line {}); both weaken what is promised: labels are then sent less often",
+        "`offsets` of {} has {}, where in {} there is an entry already, of {} in line {}{}\n{}help: move one of the two, to a free offset near it, since C08 and C09 judge the gaps; the first that is free in this output is {}\n{}help: or take one of the two out, if the label is due there once\n{}help: each of the {} ticks of this frame has an entry: take one out, or write a longer `frame` (line {}); both weaken what is promised: labels are then sent less often",
         &[
             Fact::Row(refused.row),
             Fact::Number(offset),
@@ -120,10 +115,23 @@ pub(crate) fn tell_offset_twice(refused: &mut Refused<'_>) -> bool {
             Fact::Here(member),
             Fact::If(at.is_some()),
             Fact::Number(at.unwrap_or(0)),
+            Fact::If(at.is_some() && holder == refused.row),
             Fact::If(at.is_none()),
             Fact::Number(frame),
             Fact::Line(output, "frame"),
         ],
     );
     true
+}
+
+/// Tells of two entries of an output that have one offset.
+pub(crate) fn tell_offset_twice(refused: &mut Refused<'_>) -> bool {
+    let output = refused.parent(refused.row);
+    match taken(refused, output) {
+        Some(taken) => tell_doubled(refused, output, taken.as_slice()),
+        None => {
+            refused.out.lose();
+            false
+        }
+    }
 }

@@ -1,5 +1,5 @@
 //! Labels whose words may be too old: C10, C11 and C12.
-use crate::fact::Fact::{If, Name, Number, Place, Range, Ticks};
+use crate::fact::Fact::{If, Name, Number, Place, Span, Ticks};
 use crate::labels::{Aging, silence};
 use crate::servers::{Server, server_of};
 use crate::teller::Teller;
@@ -39,10 +39,7 @@ pub(crate) fn tell_oldest(told: &mut Teller<'_>, code: &str, own: &Aging, condit
     }
     told.say("{}", &[place]);
     if least <= own.limit {
-        return told.say(
-            "\nhelp: write an `age` of {} ticks",
-            &[Range(least, own.limit)],
-        );
+        return told.say("\nhelp: write an `age` of {}", &[Span(least, own.limit)]);
     }
     tell_limit_ways(told, own, &server);
 }
@@ -54,10 +51,10 @@ fn tell_limit_ways(told: &mut Teller<'_>, own: &Aging, server: &Server) {
     let longest = own.limit.saturating_sub(own.slowest.delay);
     tell_shorter_delay(told, server, own.limit.checked_sub(own.stale));
     told.say(
-        "\n{}help: write a `stale` of {} ticks\n{}weaker: raise the `age` of the tables from {} to {}",
+        "\n{}help: write a `stale` of {}\n{}weaker: raise the `age` of the tables from {} to {}",
         &[
             If(shortest <= longest),
-            Range(shortest, longest),
+            Span(shortest, longest),
             If(least <= u64::from(GREATEST_AGE)),
             Number(own.limit),
             Number(least),
@@ -107,10 +104,10 @@ fn tell_stale_ways(told: &mut Teller<'_>, own: &Aging) {
     let longest = longest.min(u64::from(LONGEST_STALE));
     let is_short = wanted <= u64::from(LONGEST_STALE);
     told.say(
-        "\n{}help: write a `stale` of {} ticks, with which words keep the `age` of the tables, {}\n{}asked: write a `max_us` of at most {} microseconds in the parameter of `{}`\n{}weaker: write a `stale` of {}, and raise the `age` of the tables from {} to {}: words may then be so old",
+        "\n{}help: write a `stale` of {}, with which words keep the `age` of the tables, {}\n{}asked: write a `max_us` of at most {} microseconds in the parameter of `{}`; each label with the same `label` and `equipment` is then to be sent as often (C09)\n{}weaker: write a `stale` of {}, and raise the `age` of the tables from {} to {}: words may then be so old",
         &[
             If(is_short && age <= own.limit),
-            Range(wanted, longest),
+            Span(wanted, longest),
             Number(own.limit),
             If(left >= own.rarest.minimum.saturating_add(SPREAD)),
             Number(most),

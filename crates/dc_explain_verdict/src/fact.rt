@@ -15,6 +15,8 @@ pub(crate) enum Fact {
     Several(u64, &'static str, &'static str),
     /// So many ticks, and how long they take.
     Ticks(u64),
+    /// So many ticks, from the first number to the second.
+    Span(u64, u64),
     /// How few have been served.
     Only(u64),
     /// Words.

@@ -1,5 +1,5 @@
 //! Labels that are sent too soon or too late: C08 and C09.
-use crate::fact::Fact::{If, Name, Number, Range, Ticks, Word};
+use crate::fact::Fact::{If, Name, Number, Range, Span, Ticks, Word};
 use crate::labels::Sending;
 use crate::servers::server_of;
 use crate::teller::Teller;
@@ -20,11 +20,25 @@ fn tell_gaps(told: &mut Teller<'_>, own: &Sending) {
     let least = own.minimum.saturating_add(own.delay);
     let most = own.maximum.saturating_sub(own.delay);
     let is_helped = told.out.is_helped();
+    let (shortest, longest) = (
+        least.saturating_mul(own.entries),
+        most.saturating_mul(own.entries),
+    );
+    let (fewest, many) = (own.frame.div_ceil(most.max(1)), own.frame / least.max(1));
+    let is_room = shortest <= own.frame && own.frame <= longest;
     told.say(
-        "\n{}help: place its `offsets` {} ticks apart, the last and the first round the `frame` too, or choose another `frame`, which moves all labels of the output\n{}note: no `offsets` are enough where output `{}` may be {} late: they would have to lie at least {} apart, and at most {}",
+        "\n{}help: place its `offsets` {} apart, the last and the first round the `frame` too\n{}help: its `offsets` are to lie {} apart, the last and the first round the `frame` too: with {} of them choose a `frame` of {}, which moves all labels of the output\n{}help: write {} `offsets` so far apart into the frame of {}, where it has {}\n{}note: no `offsets` are enough where output `{}` may be {} late: they would have to lie at least {} apart, and at most {}",
         &[
-            If(least <= most),
-            Range(least, most),
+            If(least <= most && is_room),
+            Span(least, most),
+            If(least <= most && !is_room),
+            Span(least, most),
+            Number(own.entries),
+            Span(shortest, longest),
+            If(least <= most && !is_room && 1 <= fewest && fewest <= many),
+            Range(fewest, many),
+            Ticks(own.frame),
+            Number(own.entries),
             If(least > most && !is_helped),
             Name(Section::Output, own.output),
             Ticks(own.delay),

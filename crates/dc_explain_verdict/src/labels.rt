@@ -1,6 +1,6 @@
 //! What is known of a label.
 use dc_cert::Certificate;
-use dc_tables::Tables;
+use dc_tables::{Entry, Tables};
 use dc_transmit::Schedule;
 
 /// A source of a label. All but the numbers are ticks.
@@ -35,6 +35,10 @@ pub(crate) struct Sending {
     pub(crate) minimum: u64,
     /// The greatest interval between two of its words.
     pub(crate) maximum: u64,
+    /// How many entries it has in the frame of its output.
+    pub(crate) entries: u64,
+    /// That frame.
+    pub(crate) frame: u64,
 }
 
 /// How old the words of a label may be. All but the number are ticks.
@@ -101,6 +105,15 @@ pub(crate) fn silence(source: &Source) -> u64 {
     source.delay.saturating_add(source.maximum)
 }
 
+/// How many entries a label has.
+fn entries_of(entries: &[Entry], label: usize) -> u64 {
+    let mut count = 0u64;
+    for entry in entries {
+        count = count.saturating_add(u64::from(entry.label == label));
+    }
+    count
+}
+
 /// How the label of this number is sent, where it is there.
 pub(crate) fn sending_of(
     tables: &Tables,
@@ -116,6 +129,7 @@ pub(crate) fn sending_of(
         return None;
     };
     let schedule = Schedule::of(tables, row.output);
+    let output = tables.output(row.output);
     Some(Sending {
         number: label,
         output: row.output,
@@ -124,6 +138,8 @@ pub(crate) fn sending_of(
         greatest_gap: schedule.max_gap(label),
         minimum: u64::from(row.minimum),
         maximum: u64::from(row.maximum),
+        entries: entries_of(output.entries.as_slice(), label),
+        frame: u64::from(output.frame),
     })
 }
 

@@ -18,4 +18,4 @@ mod waits;
 mod ways;
 
 pub use obstacles::explain_find;
-pub use refused::{Files, explain_verdict};
+pub use refused::{Files, explain_text, explain_verdict};

@@ -3,7 +3,7 @@ use dc_cert::Certificate;
 use dc_check::CertificateList;
 use dc_document::Section;
 use dc_tables::Tables;
-use dc_tell::{Kind, is_of_certificate, layout_of};
+use dc_tell::{Kind, Layout, is_of_certificate, layout_of};
 use std::alloc::Global;
 
 /// The name of a table, empty where there is none of this number.
@@ -47,17 +47,8 @@ pub(crate) fn kinds_of(section: Section) -> (Kind, Kind) {
 }
 
 /// Behind how many bytes of a text the value stands at a key of the table or object of this kind and number, or that
-/// itself where it has no such key; nothing where it is not found.
-pub(crate) fn offset_of(
-    alloc: Global,
-    text: &[u8],
-    kind: Kind,
-    number: usize,
-    key: &str,
-) -> Option<usize> {
-    let Some(layout) = layout_of(alloc, text, is_of_certificate(kind)) else {
-        return None;
-    };
+/// itself where it has no such key.
+fn offset_in(layout: &Layout<'_>, kind: Kind, number: usize, key: &str) -> Option<usize> {
     let Some(row) = layout.row(kind, number) else {
         return None;
     };
@@ -67,5 +58,19 @@ pub(crate) fn offset_of(
     match layout.rows.get(row) {
         None => None,
         Some(found) => Some(found.at.from),
+    }
+}
+
+/// The same of a text; nothing where it is not found.
+pub(crate) fn offset_of(
+    alloc: Global,
+    text: &[u8],
+    kind: Kind,
+    number: usize,
+    key: &str,
+) -> Option<usize> {
+    match layout_of(alloc, text, is_of_certificate(kind)) {
+        Some(layout) => offset_in(&layout, kind, number, key),
+        None => None,
     }
 }

@@ -2,7 +2,7 @@
 ghost use Rattle.dc_find.specs.Ways.{IsFirstInTheWay};
 
 use crate::bounds::counts_of;
-use crate::fact::Fact::{Number, Several};
+use crate::fact::Fact::{Number, Several, Word};
 use crate::labels::{aging_of, sending_of, silence};
 use crate::refused::tell_label;
 use crate::servers::{Server, begin_counts, place, server_of, shares_of, tell_terms};
@@ -120,11 +120,12 @@ fn tell_never(told: &mut Teller<'_>, server: &Server) {
     let late = LONGEST_WINDOW;
     let counts = counts_of(told.tables, server.queue, late, late.saturating_sub(1));
     told.say(
-        ": so {} may wait then, and {} by tick {}, and it is never sure again that none waits (no window closes){}",
+        ": so {} may wait then, and {} by tick {}, and there is no tick by which all have surely been {} (no window closes){}",
         &[
             Number(left),
             Number(counts.come.saturating_sub(counts.served)),
             Number(u64::from(late)),
+            Word(server.words.done),
             place(false, server.queue, ""),
         ],
     );
@@ -201,26 +202,39 @@ fn tell_all(mut told: Teller<'_>, all: &[FindFault]) -> Option<String> {
     out.finish()
 }
 
+/// Tells all that stands in the way, by what was found of a certificate.
+fn explain_found(
+    alloc: Global,
+    tables: &Tables,
+    certificate: &Certificate,
+    file: File<'_>,
+) -> Option<String> {
+    match obstacles_of(alloc, tables, certificate) {
+        Some(all) => tell_all(
+            Teller {
+                alloc,
+                out: Explanation::new(alloc),
+                tables,
+                certificate,
+                file,
+                claims: file,
+                is_given: false,
+                is_known: false,
+            },
+            all.as_slice(),
+        ),
+        None => None,
+    }
+}
+
 /// Tells all that stands in the way of a certificate behind the first.
 fn explain_from(alloc: Global, tables: &Tables, fault: FindFault, file: File<'_>) -> Option<String>
     requires { IsFirstInTheWay tables.now fault }
 {
-    let Ok(reached) = reach(alloc, tables, fault) else {
-        return None;
-    };
-    let Some(all) = obstacles_of(alloc, tables, &reached.certificate) else {
-        return None;
-    };
-    let told = Teller {
-        alloc,
-        out: Explanation::new(alloc),
-        tables,
-        certificate: &reached.certificate,
-        file,
-        claims: file,
-        is_known: false,
-    };
-    tell_all(told, all.as_slice())
+    match reach(alloc, tables, fault) {
+        Ok(reached) => explain_found(alloc, tables, &reached.certificate, file),
+        Err(_) => None,
+    }
 }
 
 /// Why no certificate is accepted for tables: all inputs, outputs and labels that stand in the way, ten in full and how

@@ -6,7 +6,7 @@ use crate::misnamed::tell_names;
 use crate::servers::server_of;
 use crate::teller::Teller;
 use crate::waits::{tell_backlog, tell_delay, tell_open_window, tell_range, tell_room};
-use dc_cert::Certificate;
+use dc_cert::{Certificate, read_cert};
 use dc_check::{CertificateList, CheckFault, Condition, verdict};
 use dc_find::Queue;
 use dc_tables::Tables;
@@ -90,9 +90,18 @@ pub fn explain_verdict(
         certificate,
         file: files.tables,
         claims: files.certificate,
+        is_given: true,
         is_known: false,
     };
     tell_fault(&mut told, &fault);
     let Teller { out, .. } = told;
     out.finish()
+}
+
+/// Why the text of a certificate is refused for tables, as [`explain_verdict`] tells it. `None` where it is none, too.
+pub fn explain_text(alloc: Global, tables: &Tables, files: Files<'_>) -> Option<String> {
+    match read_cert(alloc, files.certificate.text) {
+        Ok(certificate) => explain_verdict(alloc, tables, &certificate, files),
+        Err(_) => None,
+    }
 }

@@ -253,7 +253,7 @@ pub(crate) fn begin_counts(
 /// names a tick, what that is, and which is the worst.
 pub(crate) fn tell_terms(told: &mut Teller<'_>, server: &Server, first: u32, worst: u32) {
     told.say(
-        "\n{}note: tick 1 is any tick that begins with {}; surely {} is what `steps` and `within` of {} `{}` promise\n{}note: `window {}` in the verdict is the first tick by which it is so, and tick {} is the worst",
+        "\n{}note: tick 1 is any tick that begins with {}; surely {} is what `steps` and `within` of {} `{}` promise\n{}note: `window {}` in the verdict is the first tick by which the rule fails; the numbers above are those of tick {}, where it fails by most",
         &[
             Fact::If(!told.is_known),
             Word(server.words.empty),

@@ -23,6 +23,8 @@ pub(crate) struct Teller<'a> {
     pub(crate) file: File<'a>,
     /// The text of the certificate, or of the tables where there is none.
     pub(crate) claims: File<'a>,
+    /// Whether the certificate was handed in, and not found.
+    pub(crate) is_given: bool,
     /// Whether it was told before what words mean.
     pub(crate) is_known: bool,
 }
@@ -82,6 +84,8 @@ impl<'a> Teller<'a> {
             Fact::Count(count) => Value::Several(count, "word", "words"),
             Fact::Several(count, one, many) => Value::Several(count, one, many),
             Fact::Ticks(count) => Value::Ticks(count, tick_us),
+            Fact::Span(low, high) if low == high => Value::Several(low, "tick", "ticks"),
+            Fact::Span(low, high) => Value::Range(low, high),
             Fact::Only(0) => Value::Text("none has"),
             Fact::Only(count) => Value::Several(count, "has", "have"),
             Fact::Word(word) => Value::Text(word),
@@ -96,6 +100,9 @@ impl<'a> Teller<'a> {
             self.out.put(Value::Text("only "));
         }
         self.out.put(value);
+        if matches!(fact, Fact::Span(low, high) if low != high) {
+            self.out.put(Value::Text(" ticks"));
+        }
     }
 
     /// Goes on with a sentence, of which each `{}` is a hole for the next of these facts, and each line behind the first
@@ -149,8 +156,11 @@ impl<'a> Teller<'a> {
     pub(crate) fn tell_alone(&mut self) {
         let is_new = self.out.is_helped() && !self.is_known;
         self.say(
-            "\n{}note: what helps here is enough for this rule alone: `dc429 find` tells whether all hold then, and writes a certificate",
-            &[Fact::If(is_new)],
+            "\n{}note: what helps here is enough for this rule alone: `dc429 find` tells whether all hold then, and writes a certificate\n{}note: what helps here is enough for this rule alone; who changes the tables lets `dc429 find TABLES > CERTIFICATE` write all numbers of the certificate anew: those of this one are of the old tables",
+            &[
+                Fact::If(is_new && !self.is_given),
+                Fact::If(is_new && self.is_given),
+            ],
         );
     }
 }

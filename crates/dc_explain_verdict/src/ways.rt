@@ -1,6 +1,6 @@
 //! What helps. What keeps the design is told first, then what is asked of sources, then what weakens a promise.
 use crate::fact::Fact;
-use crate::fact::Fact::{Count, If, Number, Range, Ticks, Word};
+use crate::fact::Fact::{Count, If, Number, Range, Span, Ticks, Word};
 use crate::servers::{Server, place, shares_of, sibling_of};
 use crate::steps::{ANY_WINDOW, Other, Wish, closing_with, least, least_delay_of};
 use crate::teller::Teller;
@@ -98,8 +98,8 @@ pub(crate) fn tell_shorter_delay(told: &mut Teller<'_>, server: &Server, most: O
     let least = least_delay_of(told.tables, server);
     if least <= most {
         return told.say(
-            "\nhelp: write a `delay` of {} ticks for {} `{}`",
-            &[Range(least, most), Word(server.words.queue), server.name],
+            "\nhelp: write a `delay` of {} for {} `{}`",
+            &[Span(least, most), Word(server.words.queue), server.name],
         );
     }
     if most != 0 {
