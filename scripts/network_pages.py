@@ -31,7 +31,10 @@ def shape_faults(written):
         tree = Tree.fromstring(written)
     except Tree.ParseError as error:
         return [*found, f"is not well-formed: {error}"], None
-    return found + [f"has an element {node.tag}" for node in tree.iter() if node.tag in ("script", "link", "a", "img", "iframe", "object")], tree
+    ids = [node.get("id") for node in tree.iter() if node.get("id") is not None]
+    found += [f"has the id {it} {ids.count(it)} times" for it in sorted(set(ids)) if ids.count(it) != 1]
+    found += [f"leads to {node.get('href')}" for node in tree.iter("a") if (node.get("href") or "").removeprefix("#") not in set(ids)]
+    return found + [f"has an element {node.tag}" for node in tree.iter() if node.tag in ("script", "link", "img", "iframe", "object")], tree
 
 
 def said(program, *words, status=0):

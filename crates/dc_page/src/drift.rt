@@ -1,10 +1,9 @@
 //! The section on clocks that drift.
 
 use dc_document::Name;
-use dc_page_text::{Escaped, Grouped, Millionths};
+use dc_page_text::Hole::{Number, Text};
+use dc_page_text::{Html, Millionths};
 use dc_tables::Tables;
-use std::alloc::AllocError;
-use std::fmt;
 
 /// What is kept where clocks drift, and what the tables say in its place, both in microseconds.
 #[derive(Clone, Copy, Debug, PartialEq, Eq)]
@@ -63,112 +62,94 @@ pub struct Drift<'a> {
     pub labels: &'a [LabelDrift],
 }
 
-/// A number that is kept, and in small the one that is written.
-#[derive(Clone, Copy)]
-struct Beside(Drifted);
+/// Adds a number that is kept, and in small the one that is written.
+fn push_beside(html: &mut Html, number: Drifted) {
+    html.put(
+        "<td>{} <small>of {}</small></td>",
+        &[Number(number.kept), Number(number.written)],
+    );
+}
 
-impl fmt::Display for Beside {
-    fn fmt<W: fmt::Write>(&self, f: &mut fmt::Formatter<W>) -> fmt::Result {
-        let kept = Grouped(self.0.kept);
-        let written = Grouped(self.0.written);
-        write!(f, "{kept} <small>of {written}</small>")
-    }
+/// Adds a name.
+fn push_name(html: &mut Html, name: Name) {
+    html.put("<tr><td>{}</td>", &[Text(name.as_str())]);
 }
 
 /// Adds what the tables of the section say, and how long a tick lasts.
-fn push_words(text: &mut String, ppm: u32, tick_us: u32) -> Result<(), AllocError> {
-    let parts = Grouped(u64::from(ppm));
+fn push_words(html: &mut Html, ppm: u32, tick_us: u32) {
     let tick = u64::from(tick_us);
     let drift = tick.saturating_mul(u64::from(ppm));
     let exact = tick.saturating_mul(1_000_000);
-    let shortest = Millionths(exact.saturating_sub(drift));
-    let longest = Millionths(exact.saturating_add(drift));
-    write!(
-        text,
-        "<h2>Clocks that drift by up to {parts} ppm</h2>\n<p>Each tick lasts from {shortest} to {longest} microseconds. Wires and sources that keep the numbers below keep what the promises ask of them. <span class='s'>All in microseconds; behind &quot;of&quot; stands what the tables say, for clocks that do not drift.</span></p>\n"
+    html.put(
+        "<h2>Clocks that drift by up to {} ppm</h2>\n<p>Each tick lasts from ",
+        &[Number(u64::from(ppm))],
+    );
+    html.show(Millionths(exact.saturating_sub(drift)));
+    html.add(" to ");
+    html.show(Millionths(exact.saturating_add(drift)));
+    html.add(
+        " microseconds. Wires and sources that keep the numbers below keep what the promises ask of them. <span class='s'>All in microseconds; behind &quot;of&quot; stands what the tables say, for clocks that do not drift.</span></p>\n",
     )
 }
 
 /// Adds the table of wires.
-fn push_wires(text: &mut String, wires: &[WireDrift]) -> Result<(), AllocError> {
+fn push_wires(html: &mut Html, wires: &[WireDrift]) {
     if wires.is_empty() {
-        return Ok(());
+        return;
     }
-    text.push_str("<table><tr><th>Wire</th><th>From word to word at least</th></tr>\n")?;
+    html.add("<table><tr><th>Wire</th><th>From word to word at least</th></tr>\n");
     for wire in wires {
-        let name = Escaped(wire.name.as_str());
-        let spacing = Beside(wire.spacing);
-        write!(text, "<tr><td>{name}</td><td>{spacing}</td></tr>\n")?;
+        push_name(html, wire.name);
+        push_beside(html, wire.spacing);
+        html.add("</tr>\n");
     }
-    text.push_str("</table>\n")
+    html.add("</table>\n")
 }
 
 /// Adds the table of sources.
-fn push_sources(text: &mut String, sources: &[SourceDrift]) -> Result<(), AllocError> {
+fn push_sources(html: &mut Html, sources: &[SourceDrift]) {
     if sources.is_empty() {
-        return Ok(());
+        return;
     }
-    text.push_str(
+    html.add(
         "<table><tr><th>Source</th><th>From word to word at least</th><th>At most, to be live</th><th>Jitter</th></tr>\n",
-    )?;
+    );
     for source in sources {
-        let name = Escaped(source.name.as_str());
-        let least = Beside(source.least);
-        let most = Beside(source.most);
-        let jitter = Beside(source.jitter);
-        write!(
-            text,
-            "<tr><td>{name}</td><td>{least}</td><td>{most}</td><td>{jitter}</td></tr>\n"
-        )?;
+        push_name(html, source.name);
+        push_beside(html, source.least);
+        push_beside(html, source.most);
+        push_beside(html, source.jitter);
+        html.add("</tr>\n");
     }
-    text.push_str("</table>\n")
+    html.add("</table>\n")
 }
 
-/// Adds how young the words of a label are, or that it is not promised.
-fn push_age(text: &mut String, age: Option<u64>) -> Result<(), AllocError> {
-    match age {
-        None => text.push_str("-"),
-        Some(age) => {
-            let age = Grouped(age);
-            write!(text, "{age}")
+/// Adds the table of labels: how young the words of each are, or that it is not promised.
+fn push_labels(html: &mut Html, labels: &[LabelDrift]) {
+    if labels.is_empty() {
+        return;
+    }
+    html.add(
+        "<p>Then each label keeps these:</p>\n<table><tr><th>Label</th><th>From word to word more than</th><th>Less than</th><th>Age under</th></tr>\n",
+    );
+    for label in labels {
+        push_name(html, label.name);
+        push_beside(html, label.least);
+        push_beside(html, label.most);
+        match label.age {
+            None => html.add("<td>-</td></tr>\n"),
+            Some(age) => html.put("<td>{}</td></tr>\n", &[Number(age)]),
         }
     }
-}
-
-/// Adds the table of labels.
-fn push_labels(text: &mut String, labels: &[LabelDrift]) -> Result<(), AllocError> {
-    if labels.is_empty() {
-        return Ok(());
-    }
-    text.push_str(
-        "<p>Then each label keeps these:</p>\n<table><tr><th>Label</th><th>From word to word more than</th><th>Less than</th><th>Age under</th></tr>\n",
-    )?;
-    for label in labels {
-        let name = Escaped(label.name.as_str());
-        let least = Beside(label.least);
-        let most = Beside(label.most);
-        write!(
-            text,
-            "<tr><td>{name}</td><td>{least}</td><td>{most}</td><td>"
-        )?;
-        push_age(text, label.age)?;
-        text.push_str("</td></tr>\n")?;
-    }
-    text.push_str("</table>\n")
+    html.add("</table>\n")
 }
 
 /// Adds the section; of labels something is promised where the certificate is accepted.
-pub fn push_drift(
-    text: &mut String,
-    tables: &Tables,
-    drift: &Drift<'_>,
-    is_accepted: bool,
-) -> Result<(), AllocError> {
-    push_words(text, drift.ppm, tables.tick_us())?;
-    push_wires(text, drift.wires)?;
-    push_sources(text, drift.sources)?;
-    if !is_accepted {
-        return Ok(());
+pub fn push_drift(html: &mut Html, tables: &Tables, drift: &Drift<'_>, is_accepted: bool) {
+    push_words(html, drift.ppm, tables.tick_us());
+    push_wires(html, drift.wires);
+    push_sources(html, drift.sources);
+    if is_accepted {
+        push_labels(html, drift.labels)
     }
-    push_labels(text, drift.labels)
 }

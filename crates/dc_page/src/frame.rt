@@ -3,9 +3,9 @@
 ghost use Rattle.std.specs.Prelude.{◌≤◌};
 
 use crate::facts::LabelFacts;
-use dc_page_text::{Tenths, share};
+use dc_page_text::Hole::Digits;
+use dc_page_text::{Html, Tenths, share};
 use dc_tables::Entry;
-use std::alloc::AllocError;
 
 /// How wide a drawing of a label is, in the points of its picture.
 const STRIP_WIDTH: u64 = 400;
@@ -19,24 +19,21 @@ fn is_of_label(entry: Entry, label: Option<usize>) -> bool {
 }
 
 /// Adds a frame with its due entries, all or those of one label. Entries that fall on one place are drawn once.
-pub fn push_strip(
-    text: &mut String,
-    entries: &[Entry],
-    frame: u32,
-    label: Option<usize>,
-) -> Result<(), AllocError> {
-    text.push_str("<svg viewBox='-1 0 402 14'><path class='e' d='")?;
+pub fn push_strip(html: &mut Html, entries: &[Entry], frame: u32, label: Option<usize>) {
+    html.add(
+        "<svg role='img' viewBox='-1 0 402 14'><title>when it is due in the frame</title><path class='e' d='",
+    );
     let mut last = None;
     for entry in entries {
         if is_of_label(*entry, label) {
             let x = share(u64::from(entry.offset), u64::from(frame), STRIP_WIDTH);
             if last != Some(x) {
-                write!(text, "M{x} 1v12")?;
+                html.put("M{} 1v12", &[Digits(x)]);
                 last = Some(x);
             }
         }
     }
-    text.push_str("'/></svg>")
+    html.add("'/></svg>")
 }
 
 /// How many ticks a drawing shows where the longest of its numbers is this one.
@@ -53,38 +50,47 @@ pub fn place(ticks: u64, span: u64) -> Tenths
     Tenths(share(ticks, span, 10 * STRIP_WIDTH))
 }
 
-/// Adds the interval that is wanted of a label, and in it the gaps, each shorter or longer by the output's delay.
-pub fn push_interval(text: &mut String, facts: &LabelFacts) -> Result<(), AllocError> {
+/// Adds a number of ticks as a place, behind a piece of a path.
+fn push_place(html: &mut Html, piece: &str, ticks: u64, span: u64) {
+    html.add(piece);
+    html.show(place(ticks, span))
+}
+
+/// Adds the interval that is wanted of a label, and below it the gaps, each shorter or longer by the output's delay.
+pub fn push_interval(html: &mut Html, facts: &LabelFacts) {
     let delay = u64::from(facts.output_delay);
-    let soonest = facts.least_gap.saturating_sub(delay);
     let latest = facts.greatest_gap.saturating_add(delay);
-    let span = roomy(latest.max(u64::from(facts.maximum)));
-    let minimum = place(u64::from(facts.minimum), span);
-    let maximum = place(u64::from(facts.maximum), span);
-    let soonest = place(soonest, span);
-    let latest = place(latest, span);
-    let least = place(facts.least_gap, span);
-    let greatest = place(facts.greatest_gap, span);
-    write!(
-        text,
-        "<svg viewBox='0 0 400 14'><path class='b' d='M{minimum} 7H{maximum}'/><path class='d' d='M{soonest} 7H{latest}'/><path d='M{least} 1v12M{greatest} 1v12'/></svg>"
-    )
+    let (minimum, maximum) = (u64::from(facts.minimum), u64::from(facts.maximum));
+    let span = roomy(latest.max(maximum));
+    html.add(
+        "<svg role='img' viewBox='0 0 400 20'><title>the interval that is wanted, and what the gaps and the delay make of it</title><path class='b' d='M",
+    );
+    push_place(html, "", minimum, span);
+    push_place(html, " 5H", maximum, span);
+    html.add("'/><path class='d' d='M");
+    push_place(html, "", facts.least_gap.saturating_sub(delay), span);
+    push_place(html, " 15H", latest, span);
+    html.add("'/><path d='M");
+    push_place(html, "", facts.least_gap, span);
+    push_place(html, " 11v8M", facts.greatest_gap, span);
+    html.add(" 11v8'/></svg>")
 }
 
 /// Adds the age of a label: the delay and the time for which a source is fresh, beside the age that is claimed and its
 /// limit.
-pub fn push_age(text: &mut String, facts: &LabelFacts) -> Result<(), AllocError> {
+pub fn push_age(html: &mut Html, facts: &LabelFacts) {
     let stale = u64::from(facts.stale);
     let oldest = stale.saturating_add(u64::from(facts.slowest));
-    let age = u64::from(facts.age);
-    let limit = u64::from(facts.age_limit);
+    let (age, limit) = (u64::from(facts.age), u64::from(facts.age_limit));
     let span = roomy(oldest.max(age).max(limit));
-    let stale = place(stale, span);
-    let oldest = place(oldest, span);
-    let age = place(age, span);
-    let limit = place(limit, span);
-    write!(
-        text,
-        "<svg viewBox='0 0 400 14'><path class='q' d='M0 7H{stale}'/><path class='o' d='M{stale} 7H{oldest}'/><path d='M{age} 0v14'/><path class='r' d='M{limit} 0v14'/></svg>"
-    )
+    html.add(
+        "<svg role='img' viewBox='0 0 400 14'><title>stale and the longest delay, beside the age and its limit</title><path class='q' d='M0 7H",
+    );
+    push_place(html, "", stale, span);
+    push_place(html, "'/><path class='o' d='M", stale, span);
+    push_place(html, " 7H", oldest, span);
+    push_place(html, "'/><path class='f' d='M", stale, span);
+    push_place(html, " 1v12'/><path d='M", age, span);
+    push_place(html, " 0v14'/><path class='r' d='M", limit, span);
+    html.add(" 0v14'/></svg>")
 }

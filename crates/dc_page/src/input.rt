@@ -1,17 +1,20 @@
-//! The section of an input.
+//! The parts on inputs.
 
 ghost use Rattle.std.specs.Prelude.{◌≡◌, ◌<◌, length};
 ghost use Rattle.dc_check.specs.Verdict.{is_window};
 
+use crate::alike::Alike;
 use crate::facts::{InputFacts, input_facts};
+use crate::names::push_place;
 use crate::plot::{Marks, needed, push_plot};
 use crate::rules::push_lines;
 use dc_busy::LONGEST_WINDOW;
-use dc_check::Fitted;
+use dc_check::{CertificateList, Fitted};
 use dc_margin::{InputMargins, input_lines};
-use dc_page_text::{Amount, Escaped, Unit};
+use dc_page_text::Hole::Text;
+use dc_page_text::{Amount, Html, Unit};
 use dc_tables::Tables;
-use std::alloc::AllocError;
+use std::alloc::{AllocError, Global};
 
 /// Whether a window is one that can be plotted.
 pub fn is_plotted(window: u32) -> bool
@@ -28,40 +31,34 @@ fn words(count: u32) -> Amount
 }
 
 /// Adds what stands for a plot where the window is out of range.
-pub fn push_no_plot(text: &mut String) -> Result<(), AllocError> {
-    text.push_str("<p class='s'>No plot: the window is out of range.</p>\n")
+pub fn push_no_plot(html: &mut Html) {
+    html.add("<p class='s'>No plot: the window is out of range.</p>\n")
 }
 
 /// Adds what the input is and what the certificate claims of it, in words.
-fn push_words(text: &mut String, facts: &InputFacts) -> Result<(), AllocError> {
-    let name = Escaped(facts.name.as_str());
-    let router = Escaped(facts.router.as_str());
-    let queue = words(facts.queue);
-    let police = if facts.police {
-        "The bus is policed: words that come too soon are refused."
+fn push_words(html: &mut Html, facts: &InputFacts) {
+    html.add("<p>A receive queue for ");
+    html.show(words(facts.queue));
+    html.add(if facts.police {
+        ". The bus is policed: words that come too soon are refused."
     } else {
-        "The bus is not policed."
-    };
-    let window = facts.tick.span(facts.window);
-    let backlog = words(facts.backlog);
-    let delay = facts.tick.span(facts.delay);
-    write!(
-        text,
-        "<div class='card'><h3>Input {name}</h3><p>A receive queue for {queue}, emptied by router {router}. {police} The certificate claims: the queue is empty again within <b>{window}</b> (window), at most <b>{backlog}</b> wait in it (backlog), and a word is taken at most <b>{delay}</b> after the tick in which it came (delay).</p>\n"
-    )
+        ". The bus is not policed."
+    });
+    html.add(" The certificate claims: the queue is empty again within <b>");
+    html.show(facts.tick.span(facts.window));
+    html.add("</b> (window), at most <b>");
+    html.show(words(facts.backlog));
+    html.add("</b> wait in it (backlog), and a word is taken at most <b>");
+    html.show(facts.tick.span(facts.delay));
+    html.add("</b> after the tick in which it came (delay).</p>\n")
 }
 
 /// Adds the plot of the input.
-fn push_curves(
-    text: &mut String,
-    tables: &Tables,
-    facts: &InputFacts,
-    bus: usize,
-) -> Result<(), AllocError>
+fn push_curves(html: &mut Html, tables: &Tables, facts: &InputFacts, bus: usize)
     requires { bus < length tables.now.buses }
 {
     if !is_plotted(facts.window) {
-        return push_no_plot(text);
+        return push_no_plot(html);
     }
     let marks = Marks {
         window: facts.window,
@@ -71,27 +68,101 @@ fn push_curves(
         tick: facts.tick,
     };
     push_plot(
-        text,
+        html,
         &tables.bus_bound(bus),
         &tables.bus_service(bus),
         &marks,
     )
 }
 
-/// Adds the section of the input of this number, with its margins.
-pub fn push_input(
-    text: &mut String,
+/// What the part on the input of this number shows below its name.
+///
+/// # Errors
+/// `AllocError` where an allocation failed.
+fn body_of(
+    alloc: Global,
     fitted: &Fitted<'_>,
     bus: usize,
     margins: &InputMargins,
-) -> Result<(), AllocError>
+) -> Result<String, AllocError>
     requires there { bus < length fitted.now.tables.now.buses }
 {
     let facts = input_facts(fitted, bus, margins);
-    push_words(text, &facts)?;
-    text.push_str("<div class='two'><div>")?;
-    push_curves(text, fitted.tables, &facts, bus)?;
-    text.push_str("</div><div>")?;
-    push_lines(text, &input_lines(bus, &facts.margins), facts.tick)?;
-    text.push_str("</div></div></div>\n")
+    let mut html = Html::new(alloc);
+    push_words(&mut html, &facts);
+    html.add("<div class='two'><div>");
+    push_curves(&mut html, fitted.tables, &facts, bus);
+    html.add("</div><div>");
+    push_lines(&mut html, &input_lines(bus, &facts.margins), facts.tick);
+    html.add("</div></div></div>\n");
+    html.end()
+}
+
+/// What the parts on all inputs show.
+///
+/// # Errors
+/// `AllocError` where an allocation failed.
+fn bodies_of(
+    alloc: Global,
+    fitted: &Fitted<'_>,
+    margins: &[InputMargins],
+) -> Result<Alike, AllocError>
+    requires { length margins.now ≡ length fitted.now.tables.now.buses }
+{
+    let mut alike = Alike::new(alloc);
+    for bus in 0..fitted.tables.bus_count() {
+        alike.take(body_of(alloc, fitted, bus, &margins[bus])?)?;
+    }
+    Ok(alike)
+}
+
+/// Adds the name of an input, and what empties its queue.
+fn push_name(html: &mut Html, tables: &Tables, bus: usize)
+    requires { bus < length tables.now.buses }
+{
+    push_place(html, tables, CertificateList::Inputs, bus);
+    tables.valid();
+    let router = *tables.router_name(tables.bus(bus).router);
+    html.put(" <small>by {}</small>", &[Text(router.as_str())]);
+}
+
+/// Adds the names of the inputs that show the same.
+fn push_names(html: &mut Html, tables: &Tables, alike: &Alike, place: usize) {
+    html.add(if alike.count(place) == 1 {
+        "<div class='card'><h3>Input "
+    } else {
+        "<div class='card'><h3>Inputs that are alike: "
+    });
+    let mut is_first = true;
+    for bus in 0..tables.bus_count() {
+        if alike.shows(bus, place) {
+            html.add(if is_first { "" } else { ", " });
+            push_name(html, tables, bus);
+            is_first = false;
+        }
+    }
+    html.add("</h3>")
+}
+
+/// Adds the parts on all inputs, those that are alike as one, given their margins.
+///
+/// # Errors
+/// `AllocError` where an allocation failed.
+pub fn push_inputs(
+    alloc: Global,
+    html: &mut Html,
+    fitted: &Fitted<'_>,
+    margins: &[InputMargins],
+) -> Result<(), AllocError>
+    requires { length margins.now ≡ length fitted.now.tables.now.buses }
+{
+    let alike = bodies_of(alloc, fitted, margins)?;
+    html.add(
+        "<h2>Inputs</h2>\n<p class='s'>Behind each name stands the router that empties its queue.</p>\n",
+    );
+    for (place, body) in alike.bodies().iter().enumerate() {
+        push_names(html, fitted.tables, &alike, place);
+        html.add(body.as_str());
+    }
+    Ok(())
 }

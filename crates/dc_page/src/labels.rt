@@ -1,212 +1,365 @@
-//! The section of a label.
+//! The parts on labels.
 
 ghost use Rattle.std.specs.Prelude.{◌<◌, length};
 
+use crate::alike::Alike;
 use crate::facts::{LabelFacts, SourceFacts, label_facts, source_at, source_facts};
 use crate::frame::{push_age, push_interval, push_strip};
-use crate::rules::{MarginText, remedy};
+use crate::names::push_place;
+use crate::rules::{push_slack, remedy};
 use crate::time::TickLength;
-use dc_check::Fitted;
+use dc_check::{CertificateList, Fitted};
 use dc_margin::{MarginLine, label_lines};
-use dc_page_text::{Escaped, Grouped, Unit};
+use dc_page_text::Hole::{Digits, Number, Text, Thousandths, Times};
+use dc_page_text::{Html, Unit};
 use dc_tables::Tables;
 use dc_word::Label;
-use std::alloc::AllocError;
-use std::fmt;
+use std::alloc::{AllocError, Global};
+
+/// With more labels than this each is one row of a table, without drawings.
+const MOST_DRAWN: usize = 64;
+
+/// What the drawings of a label mean.
+const LEGEND: &str =
+    "<p class='s'>Of each label: when it is due in the frame. <span class='k g'></span>the interval that is wanted from one time to the next, and <span class='k a'></span>what the gaps and the delay make of it. <span class='k q'></span>how long a source stays fresh (stale), <span class='k a'></span>the longest delay before that, <span class='k m'></span>the age that is claimed, and <span class='k r'></span>its limit. In grey the same in milliseconds.</p>\n";
 
 /// Adds the margin of a condition, and what to do where it is negative.
-fn push_margin(text: &mut String, line: MarginLine, tick: TickLength) -> Result<(), AllocError> {
-    let code = line.condition.code();
-    let margin = MarginText { line, tick };
-    if !line.is_negative() {
-        return write!(text, "<br/>{code}: {margin}");
+fn push_margin(html: &mut Html, line: MarginLine, tick: TickLength) {
+    html.add(if line.is_negative() {
+        "<br/><b class='no'>&#10007; "
+    } else {
+        "<br/>"
+    });
+    html.add(line.condition.code());
+    html.add(": ");
+    push_slack(html, line, tick);
+    if line.is_negative() {
+        html.add("</b><br/><span class='todo'>What to do: ");
+        html.add(remedy(line.condition));
+        html.add("</span>")
     }
-    let remedy = remedy(line.condition);
-    write!(
-        text,
-        "<br/><b class='no'>&#10007; {code}: {margin}</b><br/><span class='todo'>What to do: {remedy}</span>"
-    )
+}
+
+/// How often a label is due in the frame of its output.
+fn times_of(tables: &Tables, label: usize) -> usize
+    requires { label < length tables.now.labels }
+{
+    tables.valid();
+    let mut times = 0usize;
+    for entry in tables.output(tables.label(label).output).entries.as_slice() {
+        times = times.saturating_add(usize::from(entry.label == label));
+    }
+    times
 }
 
 /// Adds where the label stands in its frame.
-fn push_due(text: &mut String, tables: &Tables, label: usize) -> Result<(), AllocError>
+fn push_due(html: &mut Html, tables: &Tables, label: usize)
     requires { label < length tables.now.labels }
 {
     tables.valid();
     let output = tables.output(tables.label(label).output);
-    text.push_str("<div>")?;
-    let entries = output.entries.as_slice();
-    push_strip(text, entries, output.frame, Some(label))?;
-    let times = entries.iter().filter(|e| e.label == label).count();
-    let due = Unit::Entries.times(times);
-    let frame = TickLength::of(tables).span(output.frame);
-    write!(text, "{due} in {frame}</div>\n")
-}
-
-/// Adds the interval that is wanted of the label.
-fn push_wanted(text: &mut String, facts: &LabelFacts) -> Result<(), AllocError> {
-    let minimum = Grouped(u64::from(facts.minimum));
-    let maximum = Grouped(u64::from(facts.maximum));
-    let from = facts.tick.millis(u64::from(facts.minimum));
-    let to = facts.tick.millis(u64::from(facts.maximum));
-    write!(
-        text,
-        "wanted {minimum} to {maximum} ticks <small>({from} to {to} ms)</small>"
-    )
-}
-
-/// Adds the gaps of the label, and the output's delay.
-fn push_found(text: &mut String, facts: &LabelFacts) -> Result<(), AllocError> {
-    let least = Grouped(facts.least_gap);
-    let greatest = Grouped(facts.greatest_gap);
-    let delay = Grouped(u64::from(facts.output_delay));
-    write!(text, "; gaps {least} to {greatest}, &#177; {delay}")?;
-    let least = facts.tick.millis(facts.least_gap);
-    let greatest = facts.tick.millis(facts.greatest_gap);
-    let delay = facts.tick.millis(u64::from(facts.output_delay));
-    write!(
-        text,
-        " <small>({least} to {greatest}, &#177; {delay} ms)</small>"
-    )
+    html.add("<div>");
+    push_strip(html, output.entries.as_slice(), output.frame, Some(label));
+    html.put("{} in ", &[Times(Unit::Entries, times_of(tables, label))]);
+    html.show(TickLength::of(tables).span(output.frame));
+    html.add("</div>\n")
 }
 
 /// Adds the label's interval, with the margins of C08 and C09.
-fn push_gaps(
-    text: &mut String,
-    facts: &LabelFacts,
-    soon: MarginLine,
-    late: MarginLine,
-) -> Result<(), AllocError> {
-    text.push_str("<div>")?;
-    push_interval(text, facts)?;
-    push_wanted(text, facts)?;
-    push_found(text, facts)?;
-    push_margin(text, soon, facts.tick)?;
-    push_margin(text, late, facts.tick)?;
-    text.push_str("</div>\n")
-}
-
-/// Adds for how long a source is fresh, and the longest delay before that.
-fn push_oldest(text: &mut String, facts: &LabelFacts) -> Result<(), AllocError> {
-    let stale = Grouped(u64::from(facts.stale));
-    let delay = Grouped(u64::from(facts.slowest));
-    write!(text, "stale {stale} + delay {delay}")?;
-    let stale = facts.tick.millis(u64::from(facts.stale));
-    let delay = facts.tick.millis(u64::from(facts.slowest));
-    write!(text, " <small>({stale} + {delay} ms)</small>")
+fn push_gaps(html: &mut Html, facts: &LabelFacts, soon: MarginLine, late: MarginLine) {
+    let (minimum, maximum) = (u64::from(facts.minimum), u64::from(facts.maximum));
+    let (least, greatest) = (facts.least_gap, facts.greatest_gap);
+    let delay = u64::from(facts.output_delay);
+    html.add("<div>");
+    push_interval(html, facts);
+    html.put(
+        "wanted {} to {} ticks <small>({} to {} ms)</small>; gaps {} to {}, &#177; {} <small>({} to {}, &#177; {} ms)</small>",
+        &[
+            Number(minimum),
+            Number(maximum),
+            Thousandths(facts.tick.millis(minimum).0),
+            Thousandths(facts.tick.millis(maximum).0),
+            Number(least),
+            Number(greatest),
+            Number(delay),
+            Thousandths(facts.tick.millis(least).0),
+            Thousandths(facts.tick.millis(greatest).0),
+            Thousandths(facts.tick.millis(delay).0),
+        ],
+    );
+    push_margin(html, soon, facts.tick);
+    push_margin(html, late, facts.tick);
+    html.add("</div>\n")
 }
 
 /// Adds the label's age, with the margins of C10 and C11.
-fn push_ages(
-    text: &mut String,
-    facts: &LabelFacts,
-    age_line: MarginLine,
-    limit_line: MarginLine,
-) -> Result<(), AllocError> {
-    text.push_str("<div>")?;
-    push_age(text, facts)?;
-    push_oldest(text, facts)?;
-    let age = facts.tick.age(facts.age);
-    let limit = facts.tick.span(facts.age_limit);
-    write!(text, "; age {age}, limit {limit}")?;
-    push_margin(text, age_line, facts.tick)?;
-    push_margin(text, limit_line, facts.tick)?;
-    text.push_str("</div>\n")
+fn push_ages(html: &mut Html, facts: &LabelFacts, own: MarginLine, limit: MarginLine) {
+    let (stale, delay) = (u64::from(facts.stale), u64::from(facts.slowest));
+    html.add("<div>");
+    push_age(html, facts);
+    html.put(
+        "stale {} + delay {} <small>({} + {} ms)</small>; age ",
+        &[
+            Number(stale),
+            Number(delay),
+            Thousandths(facts.tick.millis(stale).0),
+            Thousandths(facts.tick.millis(delay).0),
+        ],
+    );
+    html.show(facts.tick.age(facts.age));
+    html.add(", limit ");
+    html.show(facts.tick.span(facts.age_limit));
+    push_margin(html, own, facts.tick);
+    push_margin(html, limit, facts.tick);
+    html.add("</div>\n")
 }
 
 /// Adds the longest time between two words of a source as they are taken, and by how much it stays fresh longer; less
 /// where that is negative.
-fn push_longest(text: &mut String, facts: &SourceFacts, stale: u32) -> Result<(), AllocError> {
-    let longest = u64::from(facts.delay).saturating_add(u64::from(facts.maximum));
+fn push_longest(html: &mut Html, facts: &SourceFacts, stale: u32) {
+    let (delay, maximum) = (u64::from(facts.delay), u64::from(facts.maximum));
+    let longest = delay.saturating_add(maximum);
     let stale = u64::from(stale);
+    let slack = stale.abs_diff(longest);
     let sign = if stale < longest { "-" } else { "" };
-    let delay = Grouped(u64::from(facts.delay));
-    let maximum = Grouped(u64::from(facts.maximum));
-    let slack = Grouped(stale.abs_diff(longest));
-    write!(text, "{delay} + {maximum}, slack {sign}{slack}")?;
-    let delay = facts.tick.millis(delay.0);
-    let maximum = facts.tick.millis(maximum.0);
-    let slack = facts.tick.millis(slack.0);
-    write!(
-        text,
-        " <small>({delay} + {maximum}, slack {sign}{slack} ms)</small>"
-    )
+    html.put("{} + {}, slack ", &[Number(delay), Number(maximum)]);
+    html.add(sign);
+    html.put(
+        "{} <small>({} + {} ms)</small>",
+        &[
+            Number(slack),
+            Thousandths(facts.tick.millis(delay).0),
+            Thousandths(facts.tick.millis(maximum).0),
+        ],
+    );
 }
 
-/// A label by its three octal digits.
-#[derive(Clone, Copy)]
-struct Octal(Label);
-
-impl fmt::Display for Octal {
-    fn fmt<W: fmt::Write>(&self, f: &mut fmt::Formatter<W>) -> fmt::Result {
-        let number = self.0.number();
-        let first = number / 64;
-        let second = number / 8 % 8;
-        let third = number % 8;
-        write!(f, "{first}{second}{third}")
-    }
+/// Adds a label by its three octal digits.
+fn push_octal(html: &mut Html, label: Label) {
+    let number = u64::from(label.number());
+    html.put(
+        "{}{}{}",
+        &[
+            Digits(number / 64),
+            Digits(number / 8 % 8),
+            Digits(number % 8),
+        ],
+    );
 }
 
 /// Adds that a source has words of another label than those that leave, where it has.
-fn push_other(text: &mut String, own: Label, source: Label) -> Result<(), AllocError> {
-    if own.number() == source.number() {
-        return Ok(());
+fn push_other(html: &mut Html, own: Label, source: Label) {
+    if own.number() != source.number() {
+        html.add(" <b>label ");
+        push_octal(html, source);
+        html.add(", sent as ");
+        push_octal(html, own);
+        html.add("</b>")
     }
-    let brought = Octal(source);
-    let leaves = Octal(own);
-    write!(text, " <b>label {brought}, sent as {leaves}</b>")
+}
+
+/// Adds of the first source of a label that has words of another label than those that leave, which it is.
+fn push_first_other(html: &mut Html, fitted: &Fitted<'_>, label: usize)
+    requires there { label < length fitted.now.tables.now.labels }
+{
+    let own = fitted.tables.label(label);
+    for place in 0..own.sources.len() {
+        let facts = source_facts(fitted, source_at(fitted.tables, label, place));
+        if facts.label.number() != own.label.number() {
+            return push_other(html, own.label, facts.label);
+        }
+    }
 }
 
 /// Adds a source of a label, of the time for which it is fresh.
-fn push_source(
-    text: &mut String,
-    fitted: &Fitted<'_>,
-    label: usize,
-    stream: usize,
-) -> Result<(), AllocError>
+fn push_source(html: &mut Html, fitted: &Fitted<'_>, label: usize, stream: usize)
     requires label { label < length fitted.now.tables.now.labels }
     requires there { stream < length fitted.now.tables.now.streams }
 {
     let own = fitted.tables.label(label);
     let facts = source_facts(fitted, stream);
-    let name = Escaped(facts.name.as_str());
-    let bus = Escaped(facts.bus.as_str());
-    write!(text, "<br/>{name} ({bus}): ")?;
-    push_longest(text, &facts, own.stale)?;
-    push_other(text, own.label, facts.label)
+    html.add("<br/>");
+    push_longest(html, &facts, own.stale);
+    push_other(html, own.label, facts.label)
 }
 
 /// Adds the label's sources, with the margin of C12.
 fn push_sources(
-    text: &mut String,
+    html: &mut Html,
     fitted: &Fitted<'_>,
     facts: &LabelFacts,
     label: usize,
     fresh: MarginLine,
-) -> Result<(), AllocError>
+)
     requires there { label < length fitted.now.tables.now.labels }
 {
-    let stale = facts.tick.span(facts.stale);
-    write!(text, "<div>delay + longest interval, of {stale}")?;
+    html.add("<div>delay + longest interval of each source, of ");
+    html.show(facts.tick.span(facts.stale));
     for place in 0..fitted.tables.label(label).sources.len() {
-        let stream = source_at(fitted.tables, label, place);
-        push_source(text, fitted, label, stream)?;
+        push_source(html, fitted, label, source_at(fitted.tables, label, place));
     }
-    push_margin(text, fresh, facts.tick)?;
-    text.push_str("</div>\n")
+    push_margin(html, fresh, facts.tick);
+    html.add("</div>\n")
 }
 
-/// Adds the section of the label of this number.
-pub fn push_label(text: &mut String, fitted: &Fitted<'_>, label: usize) -> Result<(), AllocError>
+/// What the part on the label of this number shows below its name.
+///
+/// # Errors
+/// `AllocError` where an allocation failed.
+fn body_of(alloc: Global, fitted: &Fitted<'_>, label: usize) -> Result<String, AllocError>
     requires there { label < length fitted.now.tables.now.labels }
 {
     let facts = label_facts(fitted, label);
     let [soon, late, age, age_limit, fresh] = label_lines(label, &facts.margins);
-    let name = Escaped(facts.name.as_str());
-    write!(text, "<div class='l'><h4>Label {name}</h4><div class='g'>")?;
-    push_due(text, fitted.tables, label)?;
-    push_gaps(text, &facts, soon, late)?;
-    push_ages(text, &facts, age, age_limit)?;
-    push_sources(text, fitted, &facts, label, fresh)?;
-    text.push_str("</div></div>\n")
+    let mut html = Html::new(alloc);
+    html.add("<div class='g'>");
+    push_due(&mut html, fitted.tables, label);
+    push_gaps(&mut html, &facts, soon, late);
+    push_ages(&mut html, &facts, age, age_limit);
+    push_sources(&mut html, fitted, &facts, label, fresh);
+    html.add("</div></div>\n");
+    html.end()
+}
+
+/// What the parts on all labels show.
+///
+/// # Errors
+/// `AllocError` where an allocation failed.
+fn bodies_of(alloc: Global, fitted: &Fitted<'_>) -> Result<Alike, AllocError> {
+    let mut alike = Alike::new(alloc);
+    for label in 0..fitted.tables.label_count() {
+        alike.take(body_of(alloc, fitted, label)?)?;
+    }
+    Ok(alike)
+}
+
+/// Adds the name of a label, its output and its sources with their buses.
+fn push_name(html: &mut Html, fitted: &Fitted<'_>, label: usize)
+    requires there { label < length fitted.now.tables.now.labels }
+{
+    let tables = fitted.tables;
+    push_place(html, tables, CertificateList::Labels, label);
+    tables.valid();
+    let output = *tables.output_name(tables.label(label).output);
+    html.put(" <small>on {} from", &[Text(output.as_str())]);
+    for place in 0..tables.label(label).sources.len() {
+        let facts = source_facts(fitted, source_at(tables, label, place));
+        html.put(
+            " {} ({})",
+            &[Text(facts.name.as_str()), Text(facts.bus.as_str())],
+        );
+    }
+    html.add("</small>")
+}
+
+/// Adds the names of the labels that show the same.
+fn push_names(html: &mut Html, fitted: &Fitted<'_>, alike: &Alike, place: usize) {
+    html.add(if alike.count(place) == 1 {
+        "<div class='l'><h4>Label "
+    } else {
+        "<div class='l'><h4>Labels that are alike: "
+    });
+    let mut is_first = true;
+    for label in 0..fitted.tables.label_count() {
+        if alike.shows(label, place) {
+            html.add(if is_first { "" } else { ", " });
+            push_name(html, fitted, label);
+            is_first = false;
+        }
+    }
+    html.add("</h4>")
+}
+
+/// Adds the parts on all labels, those that are alike as one.
+///
+/// # Errors
+/// `AllocError` where an allocation failed.
+fn push_drawn(alloc: Global, html: &mut Html, fitted: &Fitted<'_>) -> Result<(), AllocError> {
+    let alike = bodies_of(alloc, fitted)?;
+    html.add(LEGEND);
+    for (place, body) in alike.bodies().iter().enumerate() {
+        push_names(html, fitted, &alike, place);
+        html.add(body.as_str());
+    }
+    Ok(())
+}
+
+/// Adds a cell with a margin: its number alone, marked where it is negative.
+fn push_cell(html: &mut Html, line: MarginLine) {
+    html.add(if line.is_negative() {
+        "<td class='no'>&#10007; "
+    } else {
+        "<td>"
+    });
+    match line.margin {
+        Some(margin) => match margin.slack {
+            Some(slack) => {
+                html.add(if slack < 0 { "-" } else { "" });
+                html.put("{}", &[Number(slack.unsigned_abs())]);
+            }
+            None => html.add("none"),
+        },
+        None => html.add("-"),
+    }
+    html.add("</td>")
+}
+
+/// Adds the numbers of a label, in ticks.
+fn push_numbers(html: &mut Html, facts: &LabelFacts) {
+    html.put(
+        "<td>{} to {}</td><td>{} to {} &#177; {}</td><td>{} + {}</td><td>{} of {}</td>",
+        &[
+            Number(u64::from(facts.minimum)),
+            Number(u64::from(facts.maximum)),
+            Number(facts.least_gap),
+            Number(facts.greatest_gap),
+            Number(u64::from(facts.output_delay)),
+            Number(u64::from(facts.stale)),
+            Number(u64::from(facts.slowest)),
+            Number(u64::from(facts.age)),
+            Number(u64::from(facts.age_limit)),
+        ],
+    );
+}
+
+/// Adds the row of a label.
+fn push_row(html: &mut Html, fitted: &Fitted<'_>, label: usize)
+    requires there { label < length fitted.now.tables.now.labels }
+{
+    let facts = label_facts(fitted, label);
+    html.add("<tr><td>");
+    push_place(html, fitted.tables, CertificateList::Labels, label);
+    push_first_other(html, fitted, label);
+    fitted.tables.valid();
+    let output = *fitted.tables.output_name(fitted.tables.label(label).output);
+    html.put("</td><td>{}</td>", &[Text(output.as_str())]);
+    push_numbers(html, &facts);
+    for line in &label_lines(label, &facts.margins) {
+        push_cell(html, *line);
+    }
+    html.add("</tr>\n")
+}
+
+/// Adds a row for each label.
+fn push_rows(html: &mut Html, fitted: &Fitted<'_>) {
+    html.add(
+        "<p class='s'>All in ticks; behind the numbers the margins of the rules, what is to spare, with a cross where it is short.</p>\n<table class='rows'><thead><tr><th>Label</th><th>Output</th><th>Wanted</th><th>Gaps &#177; delay</th><th>Stale + delay</th><th>Age of limit</th><th>C08</th><th>C09</th><th>C10</th><th>C11</th><th>C12</th></tr></thead><tbody>\n",
+    );
+    for label in 0..fitted.tables.label_count() {
+        push_row(html, fitted, label);
+    }
+    html.add("</tbody></table>\n")
+}
+
+/// Adds the parts on all labels: of many each as a row.
+///
+/// # Errors
+/// `AllocError` where an allocation failed.
+pub fn push_labels(alloc: Global, html: &mut Html, fitted: &Fitted<'_>) -> Result<(), AllocError> {
+    html.add("<h2>Labels</h2>\n");
+    if fitted.tables.label_count() <= MOST_DRAWN {
+        return push_drawn(alloc, html, fitted);
+    }
+    push_rows(html, fitted);
+    Ok(())
 }

@@ -1,6 +1,7 @@
 //! The report on a certificate: one page of HTML that holds all of itself, with its plots as inline SVG.
 #![tactic(auto)]
 
+mod alike;
 mod claims;
 mod drift;
 mod facts;
@@ -9,11 +10,13 @@ mod html;
 mod input;
 mod known;
 mod labels;
+mod names;
 mod output;
 mod plot;
 mod rules;
 mod style;
 mod summary;
+mod tight;
 mod time;
 mod verdict;
 

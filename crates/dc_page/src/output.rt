@@ -1,43 +1,39 @@
-//! The section of an output with its labels.
+//! The parts on outputs.
 
-ghost use Rattle.std.specs.Prelude.{◌<◌, length};
+ghost use Rattle.std.specs.Prelude.{◌≡◌, ◌<◌, length};
 
+use crate::alike::Alike;
 use crate::facts::{OutputFacts, output_facts};
 use crate::frame::push_strip;
 use crate::input::{is_plotted, push_no_plot};
-use crate::labels::push_label;
+use crate::names::push_place;
 use crate::plot::{Marks, needed, push_plot};
 use crate::rules::push_lines;
 use crate::time::TickLength;
-use dc_check::Fitted;
+use dc_check::{CertificateList, Fitted};
 use dc_margin::{OutputMargins, output_lines};
-use dc_page_text::{Escaped, Grouped, Unit};
+use dc_page_text::Hole::{Number, Thousandths};
+use dc_page_text::{Html, Unit};
 use dc_tables::Tables;
-use std::alloc::AllocError;
+use std::alloc::{AllocError, Global};
 
 /// Adds what the output is and what the certificate claims of it, in words.
-fn push_words(text: &mut String, facts: &OutputFacts) -> Result<(), AllocError> {
-    let name = Escaped(facts.name.as_str());
-    let frame = facts.tick.span(facts.frame);
-    let window = facts.tick.span(facts.window);
-    let delay = facts.tick.span(facts.delay);
-    write!(
-        text,
-        "<div class='card'><h3>Output {name}</h3><p>A frame of {frame}, again and again. The certificate claims: all that is due is sent within <b>{window}</b> (window), and an entry leaves at most <b>{delay}</b> after the tick in which it was due (delay).</p>\n"
-    )
+fn push_words(html: &mut Html, facts: &OutputFacts) {
+    html.add("<p>A frame of ");
+    html.show(facts.tick.span(facts.frame));
+    html.add(", again and again. The certificate claims: all that is due is sent within <b>");
+    html.show(facts.tick.span(facts.window));
+    html.add("</b> (window), and an entry leaves at most <b>");
+    html.show(facts.tick.span(facts.delay));
+    html.add("</b> after the tick in which it was due (delay).</p>\n")
 }
 
 /// Adds the plot of the output.
-fn push_curves(
-    text: &mut String,
-    tables: &Tables,
-    facts: &OutputFacts,
-    output: usize,
-) -> Result<(), AllocError>
+fn push_curves(html: &mut Html, tables: &Tables, facts: &OutputFacts, output: usize)
     requires { output < length tables.now.outputs }
 {
     if !is_plotted(facts.window) {
-        return push_no_plot(text);
+        return push_no_plot(html);
     }
     let marks = Marks {
         window: facts.window,
@@ -47,57 +43,108 @@ fn push_curves(
         tick: facts.tick,
     };
     push_plot(
-        text,
+        html,
         &tables.output_bound(output),
         &tables.output_service(output),
         &marks,
     )
 }
 
-/// Adds the frame with all its entries, and what the lines of a label's drawings mean.
-fn push_frame(text: &mut String, tables: &Tables, output: usize) -> Result<(), AllocError>
+/// Adds the frame with all its entries.
+fn push_frame(html: &mut Html, tables: &Tables, output: usize)
     requires { output < length tables.now.outputs }
 {
     let row = tables.output(output);
-    let frame = Grouped(u64::from(row.frame));
-    let millis = TickLength::of(tables).millis(u64::from(row.frame));
-    write!(
-        text,
-        "<h4>The frame, from tick 0 to {frame} <small>({millis} ms)</small> and again, with all that is due</h4><div class='h'>"
-    )?;
-    push_strip(text, row.entries.as_slice(), row.frame, None)?;
-    text.push_str(
-        "</div><p class='s'>Of each label: when it is due in the frame. <span class='k g'></span>the interval that is wanted from one time to the next, and <span class='k a'></span>what the gaps and the delay make of it. <span class='k s'></span>how long a source stays fresh (stale), <span class='k a'></span>the longest delay before that, <span class='k m'></span>the age that is claimed, and <span class='k r'></span>its limit. In grey the same in milliseconds.</p>\n",
-    )
+    let ticks = u64::from(row.frame);
+    html.put(
+        "<h4>The frame, from tick 0 to {} <small>({} ms)</small> and again, with all that is due</h4><div class='h'>",
+        &[
+            Number(ticks),
+            Thousandths(TickLength::of(tables).millis(ticks).0),
+        ],
+    );
+    push_strip(html, row.entries.as_slice(), row.frame, None);
+    html.add("</div>\n")
 }
 
-/// Adds the labels of an output.
-fn push_labels(text: &mut String, fitted: &Fitted<'_>, output: usize) -> Result<(), AllocError> {
-    for label in 0..fitted.tables.label_count() {
-        if fitted.tables.label(label).output == output {
-            push_label(text, fitted, label)?;
-        }
-    }
-    Ok(())
-}
-
-/// Adds the section of the output of this number, with its margins.
-pub fn push_output(
-    text: &mut String,
+/// What the part on the output of this number shows below its name.
+///
+/// # Errors
+/// `AllocError` where an allocation failed.
+fn body_of(
+    alloc: Global,
     fitted: &Fitted<'_>,
     output: usize,
     margins: &OutputMargins,
-) -> Result<(), AllocError>
+) -> Result<String, AllocError>
     requires there { output < length fitted.now.tables.now.outputs }
 {
     let facts = output_facts(fitted, output, margins);
-    push_words(text, &facts)?;
-    text.push_str("<div class='two'><div>")?;
-    push_curves(text, fitted.tables, &facts, output)?;
-    text.push_str("</div><div>")?;
-    push_lines(text, &output_lines(output, &facts.margins), facts.tick)?;
-    text.push_str("</div></div>\n")?;
-    push_frame(text, fitted.tables, output)?;
-    push_labels(text, fitted, output)?;
-    text.push_str("</div>\n")
+    let mut html = Html::new(alloc);
+    push_words(&mut html, &facts);
+    html.add("<div class='two'><div>");
+    push_curves(&mut html, fitted.tables, &facts, output);
+    html.add("</div><div>");
+    push_lines(&mut html, &output_lines(output, &facts.margins), facts.tick);
+    html.add("</div></div>\n");
+    push_frame(&mut html, fitted.tables, output);
+    html.add("</div>\n");
+    html.end()
+}
+
+/// What the parts on all outputs show.
+///
+/// # Errors
+/// `AllocError` where an allocation failed.
+fn bodies_of(
+    alloc: Global,
+    fitted: &Fitted<'_>,
+    margins: &[OutputMargins],
+) -> Result<Alike, AllocError>
+    requires { length margins.now ≡ length fitted.now.tables.now.outputs }
+{
+    let mut alike = Alike::new(alloc);
+    for output in 0..fitted.tables.output_count() {
+        alike.take(body_of(alloc, fitted, output, &margins[output])?)?;
+    }
+    Ok(alike)
+}
+
+/// Adds the names of the outputs that show the same.
+fn push_names(html: &mut Html, tables: &Tables, alike: &Alike, place: usize) {
+    html.add(if alike.count(place) == 1 {
+        "<div class='card'><h3>Output "
+    } else {
+        "<div class='card'><h3>Outputs that are alike: "
+    });
+    let mut is_first = true;
+    for output in 0..tables.output_count() {
+        if alike.shows(output, place) {
+            html.add(if is_first { "" } else { ", " });
+            push_place(html, tables, CertificateList::Outputs, output);
+            is_first = false;
+        }
+    }
+    html.add("</h3>")
+}
+
+/// Adds the parts on all outputs, those that are alike as one, given their margins.
+///
+/// # Errors
+/// `AllocError` where an allocation failed.
+pub fn push_outputs(
+    alloc: Global,
+    html: &mut Html,
+    fitted: &Fitted<'_>,
+    margins: &[OutputMargins],
+) -> Result<(), AllocError>
+    requires { length margins.now ≡ length fitted.now.tables.now.outputs }
+{
+    let alike = bodies_of(alloc, fitted, margins)?;
+    html.add("<h2>Outputs</h2>\n");
+    for (place, body) in alike.bodies().iter().enumerate() {
+        push_names(html, fitted.tables, &alike, place);
+        html.add(body.as_str());
+    }
+    Ok(())
 }

@@ -2,11 +2,11 @@
 
 ghost use Rattle.std.specs.Prelude.{◌≤◌};
 
-use crate::time::{Span, TickLength};
+use crate::time::TickLength;
 use dc_bound::{ArrivalBound, ServiceBound};
 use dc_margin::{Decider, Margin};
-use dc_page_text::{Amount, Grouped, Tenths, Unit, round_step, share};
-use std::alloc::AllocError;
+use dc_page_text::Hole::{Number, Thousandths, Times};
+use dc_page_text::{Html, Tenths, Unit, round_step, share};
 
 /// The most ticks that a plot shows.
 const LONGEST_SPAN: u64 = 300_000;
@@ -123,206 +123,221 @@ fn span_of(marks: &Marks) -> u64 {
 }
 
 /// Adds the counts beside the plot, with a line for each.
-fn push_counts(text: &mut String, plane: Plane) -> Result<(), AllocError> {
+fn push_counts(html: &mut Html, plane: Plane) {
     let step = round_step(plane.top, 5).max(1);
     for place in 0..(plane.top / step).min(10).saturating_add(1) {
         let count = place.saturating_mul(step);
-        let y = plane.y(count);
-        let number = Grouped(count);
-        write!(
-            text,
-            "<path class='y' d='M40 {y}H388'/><text x='34' y='{y}' dy='4' text-anchor='end'>{number}</text>"
-        )?;
+        html.add("<path class='y' d='M40 ");
+        html.show(plane.y(count));
+        html.add("H388'/><text x='34' y='");
+        html.show(plane.y(count));
+        html.put("' dy='4' text-anchor='end'>{}</text>", &[Number(count)]);
     }
-    text.push('\n')
+    html.add("\n")
 }
 
 /// Adds the ticks below the plot.
-fn push_ticks(text: &mut String, plane: Plane) -> Result<(), AllocError> {
+fn push_ticks(html: &mut Html, plane: Plane) {
     let step = round_step(plane.span, 7).max(1);
     for place in 0..(plane.span / step).min(10).saturating_add(1) {
         let tick = place.saturating_mul(step);
-        let x = plane.x(tick);
-        let number = Grouped(tick);
-        write!(
-            text,
-            "<text x='{x}' y='202' text-anchor='middle'>{number}</text>"
-        )?;
+        html.add("<text x='");
+        html.show(plane.x(tick));
+        html.put("' y='202' text-anchor='middle'>{}</text>", &[Number(tick)]);
     }
-    text.push('\n')
+    html.add("\n")
+}
+
+/// What a plot counts, and since when it does.
+fn words_of(unit: Unit) -> (&'static str, &'static str) {
+    match unit {
+        Unit::Entries => ("entries", "nothing was due"),
+        _ => ("words", "the queue was empty"),
+    }
 }
 
 /// Adds the axes with their names, and the end of the window.
-fn push_axes(text: &mut String, plane: Plane, marks: &Marks) -> Result<(), AllocError> {
-    push_counts(text, plane)?;
-    push_ticks(text, plane)?;
-    let (what, since) = match marks.unit {
-        Unit::Entries => ("entries", "nothing was due"),
-        _ => ("words", "the queue was empty"),
-    };
-    let length = marks.tick.millis(1);
+fn push_axes(html: &mut Html, plane: Plane, marks: &Marks) {
+    push_counts(html, plane);
+    push_ticks(html, plane);
+    let (what, since) = words_of(marks.unit);
+    html.add("<path class='x' d='M40 26V188H388'/><text x='0' y='10'>");
+    html.add(what);
+    let length = Thousandths(marks.tick.millis(1).0);
+    html.put(
+        "</text><text x='388' y='217' text-anchor='end'>ticks of {} ms since ",
+        &[length],
+    );
+    html.add(since);
     let x = plane.x(u64::from(marks.window));
-    write!(
-        text,
-        "<path class='x' d='M40 26V188H388'/><text x='0' y='10'>{what}</text><text x='388' y='217' text-anchor='end'>ticks of {length} ms since {since}</text>\n<path class='z' d='M{x} 26V188'/><text x='{x}' y='20' text-anchor='middle'>window</text>\n"
-    )
+    html.add("</text>\n<path class='z' d='M");
+    html.show(x);
+    html.add(" 26V188'/><text x='");
+    html.show(x);
+    html.add("' y='20' text-anchor='middle'>window</text>\n")
+}
+
+/// Adds a step of a curve: along to a tick, and up to a count.
+fn push_step(html: &mut Html, x: Tenths, y: Tenths) {
+    html.add("H");
+    html.show(x);
+    html.add("V");
+    html.show(y)
 }
 
 /// Adds the curve of what may come: over tick w it is as high as the most of w ticks.
-fn push_come<A: ArrivalBound>(
-    text: &mut String,
-    arrivals: &A,
-    plane: Plane,
-) -> Result<(), AllocError> {
-    text.push_str("<path class='a' d='M40 188")?;
+fn push_come<A: ArrivalBound>(html: &mut Html, arrivals: &A, plane: Plane) {
+    html.add("<path class='a' d='M40 188");
     let mut last = 0;
     for point in 0..plane.points() {
         let tick = plane.tick(point);
         let count = come(arrivals, tick);
         if count != last {
-            let x = plane.x(tick.saturating_sub(1));
-            let y = plane.y(count);
-            write!(text, "H{x}V{y}")?;
+            push_step(html, plane.x(tick.saturating_sub(1)), plane.y(count));
             last = count;
         }
     }
-    text.push_str("H388'/>\n")
+    html.add("H388'/><text class='a' x='386' y='");
+    html.show(plane.y(last));
+    html.add("' dy='-5' text-anchor='end'>a(w)</text>\n")
+}
+
+/// Adds the end of the curve of what is surely taken, and what it is called.
+fn push_end(html: &mut Html, x: Tenths, y: Tenths) {
+    html.add("'/><text class='s' x='");
+    html.show(x);
+    html.add("' y='");
+    html.show(y);
+    html.add("' dx='-4' dy='14' text-anchor='end'>s(w &#8722; 1)</text>\n")
 }
 
 /// Adds the curve of what is surely taken: it rises at the end of a tick, and ends where it leaves the plot.
-fn push_taken<S: ServiceBound>(
-    text: &mut String,
-    service: &S,
-    plane: Plane,
-) -> Result<(), AllocError> {
-    text.push_str("<path class='s' d='M40 188")?;
+fn push_taken<S: ServiceBound>(html: &mut Html, service: &S, plane: Plane) {
+    html.add("<path class='s' d='M40 188");
     let mut last = 0;
     for point in 0..plane.points() {
         let tick = plane.tick(point);
         let count = taken(service, tick);
         if count > plane.top {
-            let x = plane.x(tick);
-            return write!(text, "H{x}V26'/>\n");
+            html.add("H");
+            html.show(plane.x(tick));
+            html.add("V26");
+            return push_end(html, plane.x(tick), plane.y(plane.top));
         }
         if count != last {
-            let x = plane.x(tick);
-            let y = plane.y(count);
-            write!(text, "H{x}V{y}")?;
+            push_step(html, plane.x(tick), plane.y(count));
             last = count;
         }
     }
-    text.push_str("H388'/>\n")
+    html.add("H388");
+    push_end(html, plane.x(plane.span), plane.y(last))
 }
 
 /// Adds the greatest height between the curves: over tick w, from what is taken by the end of the tick before it.
-fn push_height(
-    text: &mut String,
-    plane: Plane,
-    measure: Measure,
-    foot: u64,
-    top: u64,
-) -> Result<(), AllocError> {
-    let x = plane.middle(measure.at);
-    let low = plane.y(foot);
-    let high = plane.y(top);
-    let size = Grouped(measure.size);
-    write!(
-        text,
-        "<path class='w' d='M{x} {low}V{high}m-4 0h8M{x} {low}m-4 0h8'/><text x='{x}' y='{low}' dx='6' dy='-6'>{size}</text>\n"
-    )
+fn push_height(html: &mut Html, plane: Plane, measure: Measure, foot: u64, top: u64) {
+    let (x, low) = (plane.middle(measure.at), plane.y(foot));
+    html.add("<path class='w' d='M");
+    html.show(x);
+    html.add(" ");
+    html.show(low);
+    html.add("V");
+    html.show(plane.y(top));
+    html.add("m-4 0h8M");
+    html.show(x);
+    html.add(" ");
+    html.show(low);
+    html.add("m-4 0h8'/><text x='");
+    html.show(x);
+    html.add("' y='");
+    html.show(low);
+    html.put("' dx='6' dy='-6'>{}</text>\n", &[Number(measure.size)]);
 }
 
 /// Adds the greatest width between the curves: from the end of tick w on.
-fn push_width(
-    text: &mut String,
-    plane: Plane,
-    measure: Measure,
-    height: u64,
-) -> Result<(), AllocError> {
-    let left = plane.x(measure.at);
-    let right = plane.x(measure.at.saturating_add(measure.size));
-    let y = plane.y(height);
-    let size = Grouped(measure.size);
-    write!(
-        text,
-        "<path class='t' d='M{left} {y}H{right}m0 -5v10M{left} {y}m0 -5v10'/><text x='{left}' y='{y}' dx='6' dy='15'>{size}</text>\n"
-    )
+fn push_width(html: &mut Html, plane: Plane, measure: Measure, height: u64) {
+    let (left, y) = (plane.x(measure.at), plane.y(height));
+    html.add("<path class='t' d='M");
+    html.show(left);
+    html.add(" ");
+    html.show(y);
+    html.add("H");
+    html.show(plane.x(measure.at.saturating_add(measure.size)));
+    html.add("m0 -5v10M");
+    html.show(left);
+    html.add(" ");
+    html.show(y);
+    html.add("m0 -5v10'/><text x='");
+    html.show(left);
+    html.add("' y='");
+    html.show(y);
+    html.put("' dx='6' dy='15'>{}</text>\n", &[Number(measure.size)]);
 }
 
 /// Adds the two measures, where they are told.
 fn push_measures<A: ArrivalBound, S: ServiceBound>(
-    text: &mut String,
+    html: &mut Html,
     arrivals: &A,
     service: &S,
     plane: Plane,
     marks: &Marks,
-) -> Result<(), AllocError> {
+) {
     if let Some(wait) = marks.wait {
         let foot = taken(service, wait.at.saturating_sub(1));
-        push_height(text, plane, wait, foot, come(arrivals, wait.at))?;
+        push_height(html, plane, wait, foot, come(arrivals, wait.at));
     }
     if let Some(late) = marks.late {
-        push_width(text, plane, late, come(arrivals, late.at))?;
+        push_width(html, plane, late, come(arrivals, late.at));
     }
-    Ok(())
 }
 
-/// Adds what the lines of a plot mean.
-fn push_legend(text: &mut String, plane: Plane, marks: &Marks) -> Result<(), AllocError> {
-    let (come, taken) = match marks.unit {
-        Unit::Entries => (
-            "the most entries that fall due: a(w)",
-            "the fewest that are surely sent by then: s(w &#8722; 1)",
-        ),
-        _ => (
-            "the most words that may come: a(w)",
-            "the fewest that are surely taken by then: s(w &#8722; 1)",
-        ),
-    };
-    write!(
-        text,
-        "<p class='s'><span class='k a'></span>{come}<br/><span class='k s'></span>{taken}"
-    )?;
+/// Adds what the two measures are.
+fn push_meanings(html: &mut Html, marks: &Marks) {
     if let Some(wait) = marks.wait {
-        let amount = Amount {
-            count: wait.size,
-            unit: marks.unit,
-        };
-        write!(
-            text,
-            "<br/><span class='k w'></span>the greatest height between, what waits: {amount}"
-        )?;
+        html.put(
+            "<br/><span class='k w'></span>the greatest height between, what waits: {}",
+            &[Times(marks.unit, wait.size as usize)],
+        );
     }
     if let Some(late) = marks.late {
-        let span = Span {
-            ticks: late.size,
-            tick: marks.tick,
-        };
-        write!(
-            text,
-            "<br/><span class='k t'></span>the greatest width between, how long one waits: {span}"
-        )?;
+        html.put(
+            "<br/><span class='k t'></span>the greatest width between, how long one waits: {} <small>({} ms)</small>",
+            &[
+                Times(Unit::Ticks, late.size as usize),
+                Thousandths(marks.tick.millis(late.size).0),
+            ],
+        );
     }
-    push_stride(text, plane)?;
-    text.push_str("</p>\n")
 }
 
-/// Adds that not every tick is drawn, where that is so.
-fn push_stride(text: &mut String, plane: Plane) -> Result<(), AllocError> {
+/// Adds what the lines of a plot mean, and that not every tick is drawn, where that is so.
+fn push_legend(html: &mut Html, plane: Plane, marks: &Marks) {
+    html.add("<p class='s'><span class='k a'></span>");
+    html.add(match marks.unit {
+        Unit::Entries => {
+            "the most entries that fall due: a(w)<br/><span class='k s'></span>the fewest that are surely sent by then: s(w &#8722; 1)"
+        }
+        _ => {
+            "the most words that may come: a(w)<br/><span class='k s'></span>the fewest that are surely taken by then: s(w &#8722; 1)"
+        }
+    });
+    push_meanings(html, marks);
     let stride = plane.stride();
-    if stride == 1 {
-        return Ok(());
+    if stride != 1 {
+        html.put(
+            "<br/>The curves are drawn from one tick in {}.",
+            &[Number(stride)],
+        );
     }
-    write!(text, "<br/>The curves are drawn from one tick in {stride}.")
+    html.add("</p>\n")
 }
 
 /// Adds a plot with its legend.
 pub fn push_plot<A: ArrivalBound, S: ServiceBound>(
-    text: &mut String,
+    html: &mut Html,
     arrivals: &A,
     service: &S,
     marks: &Marks,
-) -> Result<(), AllocError> {
+) {
     let span = span_of(marks);
     let most = come(arrivals, span);
     let top = taken(service, span)
@@ -330,11 +345,13 @@ pub fn push_plot<A: ArrivalBound, S: ServiceBound>(
         .max(most)
         .max(1);
     let plane = Plane { span, top };
-    text.push_str("<svg viewBox='0 0 400 220'>\n")?;
-    push_axes(text, plane, marks)?;
-    push_come(text, arrivals, plane)?;
-    push_taken(text, service, plane)?;
-    push_measures(text, arrivals, service, plane, marks)?;
-    text.push_str("</svg>\n")?;
-    push_legend(text, plane, marks)
+    html.add(
+        "<svg role='img' viewBox='0 0 400 220'>\n<title>what may come, and what is surely served</title><desc>Two curves over ticks: the upper one is what may come or fall due, the lower one what is surely taken or sent. The window ends where the lower one meets it.</desc>\n",
+    );
+    push_axes(html, plane, marks);
+    push_come(html, arrivals, plane);
+    push_taken(html, service, plane);
+    push_measures(html, arrivals, service, plane, marks);
+    html.add("</svg>\n");
+    push_legend(html, plane, marks)
 }

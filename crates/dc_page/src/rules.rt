@@ -4,9 +4,8 @@ use crate::time::TickLength;
 use dc_busy::LONGEST_WINDOW;
 use dc_check::{CertificateList, Condition};
 use dc_margin::{Decider, Margin, MarginLine, Measure};
-use dc_page_text::{Amount, Unit};
-use std::alloc::AllocError;
-use std::fmt;
+use dc_page_text::Hole::{Number, Thousandths, Times};
+use dc_page_text::{Html, Unit};
 
 /// What the condition asks, in words.
 pub fn asks(condition: Condition) -> &'static str {
@@ -35,7 +34,9 @@ pub fn remedy(condition: Condition) -> &'static str {
     match condition {
         Condition::NamesDiffer => "list them as the tables do",
         Condition::WindowOutOfRange => "a window in the range",
-        Condition::WindowDoesNotClose => "a longer window, or more steps",
+        Condition::WindowDoesNotClose => {
+            "a longer window; where none closes, more steps of what serves it, a smaller within, more visits or fewer streams"
+        }
         Condition::BacklogTooSmall => "a greater backlog",
         Condition::QueueTooShort => "a longer queue, or more steps",
         Condition::DelayTooSmall => "a greater delay",
@@ -57,96 +58,71 @@ fn unit_of(line: MarginLine) -> Unit {
     }
 }
 
-/// The margin of a line, in words; of ticks with their milliseconds.
-#[derive(Clone, Copy)]
-pub struct MarginText {
-    pub line: MarginLine,
-    pub tick: TickLength,
-}
-
-impl fmt::Display for MarginText {
-    fn fmt<W: fmt::Write>(&self, f: &mut fmt::Formatter<W>) -> fmt::Result {
-        let line = self.line;
-        let Some(margin) = line.margin else {
-            return write!(f, "not told");
-        };
-        let Some(slack) = margin.slack else {
-            let most = self.tick.span(LONGEST_WINDOW);
-            return write!(f, "no delay up to {most} is enough");
-        };
-        let count = slack.unsigned_abs();
-        let unit = unit_of(line);
-        let amount = Amount { count, unit };
-        let what = if slack < 0 { "short" } else { "to spare" };
-        if !matches!(unit, Unit::Ticks) {
-            return write!(f, "{amount} {what}");
-        }
-        let millis = self.tick.millis(count);
-        write!(f, "{amount} {what} <small>({millis} ms)</small>")
+/// Adds the margin of a line, in words; of ticks with their milliseconds.
+pub fn push_slack(html: &mut Html, line: MarginLine, tick: TickLength) {
+    let Some(margin) = line.margin else {
+        return html.add("not told");
+    };
+    let Some(slack) = margin.slack else {
+        html.add("no delay up to ");
+        html.show(tick.span(LONGEST_WINDOW));
+        return html.add(" is enough");
+    };
+    let count = slack.unsigned_abs();
+    let unit = unit_of(line);
+    html.put("{}", &[Times(unit, count as usize)]);
+    html.add(if slack < 0 { " short" } else { " to spare" });
+    if matches!(unit, Unit::Ticks) {
+        let millis = tick.millis(count).0;
+        html.put(" <small>({} ms)</small>", &[Thousandths(millis)]);
     }
 }
 
-/// The attribute and the mark of a row whose margin is negative; nothing of another row.
-pub fn marks(is_negative: bool) -> (&'static str, &'static str) {
-    if is_negative {
-        (" class='no'", "&#10007; ")
+/// Adds the begin of a row, which is marked where its margin is negative, up to the code of its condition.
+pub fn push_code(html: &mut Html, line: MarginLine) {
+    html.add(if line.is_negative() {
+        "<tr class='no'><td class='n'>&#10007; "
     } else {
-        ("", "")
-    }
+        "<tr><td class='n'>"
+    });
+    html.add(line.condition.code());
 }
 
 /// Adds which number of ticks decides a margin, where one does.
-fn push_decider(
-    text: &mut String,
-    margin: Option<Margin>,
-    tick: TickLength,
-) -> Result<(), AllocError> {
+fn push_decider(html: &mut Html, margin: Option<Margin>, tick: TickLength) {
     let Some(margin) = margin else {
-        return Ok(());
+        return;
     };
-    match margin.decider {
-        Decider::Window(window) => {
-            let millis = tick.millis(u64::from(window));
-            write!(
-                text,
-                " <small>(nearest at w = {window}, {millis} ms)</small>"
-            )
-        }
-        _ => Ok(()),
+    if let Decider::Window(window) = margin.decider {
+        let ticks = u64::from(window);
+        html.put(
+            " <small>(nearest at w = {}, {} ms)</small>",
+            &[Number(ticks), Thousandths(tick.millis(ticks).0)],
+        );
     }
 }
 
 /// Adds a line to a table of margins, and what to do where it is negative.
-fn push_line(text: &mut String, line: MarginLine, tick: TickLength) -> Result<(), AllocError> {
-    let (attribute, mark) = marks(line.is_negative());
-    let code = line.condition.code();
-    let question = asks(line.condition);
-    let margin = MarginText { line, tick };
-    write!(
-        text,
-        "<tr{attribute}><td class='n'>{mark}{code}</td><td>{question}"
-    )?;
-    push_decider(text, line.margin, tick)?;
-    write!(text, "</td><td class='n'>{margin}</td></tr>\n")?;
+fn push_line(html: &mut Html, line: MarginLine, tick: TickLength) {
+    push_code(html, line);
+    html.add("</td><td>");
+    html.add(asks(line.condition));
+    push_decider(html, line.margin, tick);
+    html.add("</td><td class='n'>");
+    push_slack(html, line, tick);
+    html.add("</td></tr>\n");
     if line.is_negative() {
-        let remedy = remedy(line.condition);
-        write!(
-            text,
-            "<tr><td></td><td colspan='2' class='todo'>What to do: {remedy}</td></tr>\n"
-        )?;
+        html.add("<tr><td></td><td colspan='2' class='todo'>What to do: ");
+        html.add(remedy(line.condition));
+        html.add("</td></tr>\n");
     }
-    Ok(())
 }
 
 /// Adds a table of margins.
-pub fn push_lines(
-    text: &mut String,
-    lines: &[MarginLine],
-    tick: TickLength,
-) -> Result<(), AllocError> {
-    text.push_str("<table><tr><th>Rule</th><th>What it asks</th><th>Margin</th></tr>\n")?;
+pub fn push_lines(html: &mut Html, lines: &[MarginLine], tick: TickLength) {
+    html.add("<table><tr><th>Rule</th><th>What it asks</th><th>Margin</th></tr>\n");
     for line in lines {
-        push_line(text, *line, tick)?;
+        push_line(html, *line, tick);
     }
-    text.push_str("</table>\n")
+    html.add("</table>\n")
 }

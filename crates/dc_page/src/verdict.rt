@@ -1,72 +1,55 @@
 //! The verdict, in one sentence.
 
-ghost use Rattle.std.specs.Prelude.{◌<◌, length};
-ghost use Rattle.dc_check.specs.Placed.{IsPlaced, member_count};
-
+use crate::names::{member, push_member};
 use crate::rules::{asks, remedy};
-use crate::summary::member;
 use crate::time::TickLength;
-use dc_check::{CertificateList, CheckFault, Condition};
-use dc_document::Name;
-use dc_page_text::{Escaped, Unit};
+use dc_check::{CheckFault, Condition};
+use dc_page_text::Hole::{Number, Thousandths, Times};
+use dc_page_text::{Html, Unit};
 use dc_tables::Tables;
-use std::alloc::AllocError;
 
 /// Adds that the certificate is accepted.
-pub fn push_accepted(text: &mut String, tables: &Tables) -> Result<(), AllocError> {
-    let inputs = Unit::Inputs.times(tables.bus_count());
-    let outputs = Unit::Outputs.times(tables.output_count());
-    let labels = Unit::Labels.times(tables.label_count());
-    write!(
-        text,
-        "<div class='verdict'><p><b>Accepted:</b> the certificate keeps every rule for these tables, with {inputs}, {outputs} and {labels}.</p></div>\n"
-    )
-}
-
-/// The name of a bus, an output or a label.
-fn name(tables: &Tables, list: CertificateList, index: usize) -> Name
-    requires { index < member_count tables.now list }
-{
-    match list {
-        CertificateList::Inputs => *tables.bus_name(index),
-        CertificateList::Outputs => *tables.output_name(index),
-        CertificateList::Labels => *tables.label_name(index),
-    }
+pub fn push_accepted(html: &mut Html, tables: &Tables) {
+    html.put(
+        "<div class='verdict'><p><b>Accepted:</b> the certificate keeps every rule for these tables, with {}, {} and {}.",
+        &[
+            Times(Unit::Inputs, tables.bus_count()),
+            Times(Unit::Outputs, tables.output_count()),
+            Times(Unit::Labels, tables.label_count()),
+        ],
+    );
 }
 
 /// Adds where the certificate fails.
-fn push_place(text: &mut String, tables: &Tables, fault: CheckFault) -> Result<(), AllocError>
-    requires { IsPlaced tables.now fault }
-{
-    let member = member(fault.list);
+fn push_fault(html: &mut Html, tables: &Tables, fault: CheckFault) {
     if matches!(fault.condition, Condition::NamesDiffer) {
-        return write!(text, "the {member}s");
+        html.add("the ");
+        html.add(member(fault.list));
+        return html.add("s");
     }
-    let own = name(tables, fault.list, fault.index);
-    let name = Escaped(own.as_str());
-    write!(text, "{member} {name}")?;
+    push_member(html, tables, fault.list, fault.index);
     if fault.window == 0 {
-        return Ok(());
+        return;
     }
-    let window = fault.window;
-    let millis = TickLength::of(tables).millis(u64::from(window));
-    write!(text, ", first at w = {window} <small>({millis} ms)</small>")
+    let window = u64::from(fault.window);
+    html.put(
+        ", first at w = {} <small>({} ms)</small>",
+        &[
+            Number(window),
+            Thousandths(TickLength::of(tables).millis(window).0),
+        ],
+    );
 }
 
 /// Adds that the certificate is refused, by which rule, and what to do.
-pub fn push_refused(text: &mut String, tables: &Tables, fault: CheckFault) -> Result<(), AllocError>
-    requires { IsPlaced tables.now fault }
-{
-    let code = fault.condition.code();
-    write!(
-        text,
-        "<div class='verdict no'><p><b>&#10007; Refused by {code} at "
-    )?;
-    push_place(text, tables, fault)?;
-    let question = asks(fault.condition);
-    let remedy = remedy(fault.condition);
-    write!(
-        text,
-        ".</b> It asks that {question}. Nothing is promised.</p><p class='todo'>What to do: {remedy}</p></div>\n"
-    )
+pub fn push_refused(html: &mut Html, tables: &Tables, fault: CheckFault) {
+    html.add("<div class='verdict no'><p><b>&#10007; Refused by ");
+    html.add(fault.condition.code());
+    html.add(" at ");
+    push_fault(html, tables, fault);
+    html.add(".</b> It asks that ");
+    html.add(asks(fault.condition));
+    html.add(". Nothing is promised.</p><p class='todo'>What to do: ");
+    html.add(remedy(fault.condition));
+    html.add("</p><p>")
 }

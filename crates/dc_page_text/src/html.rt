@@ -4,6 +4,7 @@ use crate::amount::Unit;
 use crate::escape::Escaped;
 use crate::number::{Grouped, Hundredths, Thousandths};
 use std::alloc::{AllocError, Global};
+use std::fmt;
 
 /// What stands in a hole of a piece of a page.
 #[derive(Clone, Copy)]
@@ -93,6 +94,14 @@ impl Html {
                 }
             }
             self.add(words);
+        }
+    }
+
+    /// Adds what a value shows.
+    pub fn show<T: fmt::Display + Copy>(&mut self, value: T) {
+        let text = &mut self.text;
+        if let Err(error) = write!(text, "{value}") {
+            self.lose(error);
         }
     }
 
