@@ -1,5 +1,5 @@
 //! `network` and `report --network`: the network of a system's text is judged.
-ghost use Rattle.std.specs.Prelude.{◌≡◌, ◌≢◌, ◌≤◌, IfErr, IfOk, IfSome, length};
+ghost use Rattle.std.specs.Prelude.{◌≡◌, ◌≢◌, ◌≤◌, IfErr, IfOk, IfSome, [], length};
 ghost use Rattle.dc_answer.specs.Judging.{Leaves};
 ghost use Rattle.dc_checkpar.specs.declared.limits.TheConstants.{MOST_WORKERS};
 ghost use Rattle.dc_device.specs.States.{AsksUpTo, CanFail, IsCountable};
@@ -11,7 +11,7 @@ ghost use Rattle.dc_ways.specs.Members.{AreConnections, connection_at, rows_of};
 
 use crate::lines::{tell_link_fault, tell_ring, tell_system_fault};
 use crate::links::{connections, hops};
-use crate::members::{Halt, members_of};
+use crate::members::{Halt, add_members};
 use crate::paths::folder_of;
 use crate::shelf::Shelf;
 use crate::telling::{Lines, Paper, Telling};
@@ -103,7 +103,40 @@ fn judge_members<T: Telling>(
     }
 }
 
-/// Judges a system without a ring: its concentrators in order, and then their links.
+/// Judges a system without a ring: its concentrators in order, which are added where none is there, and then their links.
+fn judge_into<J: Verdicts, T: Telling, F: Shelf>(
+    alloc: Global,
+    by: &By<J, T>,
+    folder: &str,
+    system: &System,
+    shelf: &mut F,
+    members: &mut Vec<Member>,
+    page: &mut Page,
+) -> Result<Exit, Unjudged>
+    requires may { J.may_judge by.now.verdicts }
+    requires none { members.old.items ≡ [] }
+    ensures keeps { F.keeps shelf.old shelf.new }
+    ensures answers { IfOk result (AnswersOrdered T.says (F.holds shelf.old) folder.now system.now page.new) }
+    ensures threads { IfErr result (λ why. why ≡ Unjudged.Threads → J.starts_threads by.now.verdicts) }
+{
+    match add_members(
+        alloc,
+        &by.verdicts,
+        shelf,
+        folder,
+        system.concentrators(),
+        members,
+        page,
+    ) {
+        Ok(()) => judge_members(alloc, &by.telling, system, members.as_slice(), page),
+        Err(Halt::Told(outcome)) => Ok(outcome.exit()),
+        Err(Halt::NoFile) => Ok(Exit::Failed),
+        Err(Halt::Memory) => Err(Unjudged::Memory),
+        Err(Halt::Threads) => Err(Unjudged::Threads),
+    }
+}
+
+/// Judges a system without a ring.
 fn judge_ordered<J: Verdicts, T: Telling, F: Shelf>(
     alloc: Global,
     by: &By<J, T>,
@@ -117,20 +150,8 @@ fn judge_ordered<J: Verdicts, T: Telling, F: Shelf>(
     ensures answers { IfOk result (AnswersOrdered T.says (F.holds shelf.old) folder.now system.now page.new) }
     ensures threads { IfErr result (λ why. why ≡ Unjudged.Threads → J.starts_threads by.now.verdicts) }
 {
-    match members_of(
-        alloc,
-        &by.verdicts,
-        shelf,
-        folder,
-        system.concentrators(),
-        page,
-    ) {
-        Ok(members) => judge_members(alloc, &by.telling, system, &members, page),
-        Err(Halt::Told(outcome)) => Ok(outcome.exit()),
-        Err(Halt::NoFile) => Ok(Exit::Failed),
-        Err(Halt::Memory) => Err(Unjudged::Memory),
-        Err(Halt::Threads) => Err(Unjudged::Threads),
-    }
+    let mut members = Vec::new(alloc);
+    judge_into(alloc, by, folder, system, shelf, &mut members, page)
 }
 
 /// The first concentrator of a system that is on a ring, where there is one.

@@ -1,5 +1,5 @@
 //! The concentrators of a system: their files are opened, read and judged.
-ghost use Rattle.std.specs.Prelude.{◌≡◌, ◌≢◌, ℕ, List, IfErr, IfOk, IfSome, MatchResult, Ok, Some};
+ghost use Rattle.std.specs.Prelude.{◌≡◌, ◌≢◌, ℕ, List, IfErr, IfOk, IfSome, MatchResult, Ok, Some, []};
 ghost use Rattle.dc_cert.specs.NamedRows.{named_rows};
 ghost use Rattle.dc_cert.specs.Reading.{certificate_of};
 ghost use Rattle.dc_build.specs.Reported.{AreWrittenBy};
@@ -281,25 +281,27 @@ fn member_of<J: Verdicts, F: Shelf>(
     }
 }
 
-/// The concentrators of a system, in order; where one of them is not accepted, the page is the line of the first.
+/// Adds the concentrators of a system, in order, where none is there; where one of them is not accepted, the page is the
+/// line of the first.
 ///
 /// # Errors
 /// What that ends with; `Memory` where memory was refused, `Threads` where no thread could be started.
-pub(crate) fn members_of<J: Verdicts, F: Shelf>(
+pub(crate) fn add_members<J: Verdicts, F: Shelf>(
     alloc: Global,
     verdicts: &J,
     shelf: &mut F,
     folder: &str,
     concentrators: &[ConcentratorText],
+    members: &mut Vec<Member>,
     page: &mut Page,
-) -> Result<Vec<Member>, Halt>
-    requires { J.may_judge verdicts.now }
+) -> Result<(), Halt>
+    requires may { J.may_judge verdicts.now }
+    requires none { members.old.items ≡ [] }
     ensures keeps { F.keeps shelf.old shelf.new }
-    ensures judged { MatchResult result (λ v. AreMembers (F.holds shelf.old) folder.now concentrators.now v.items)
+    ensures judged { MatchResult result (λ _. AreMembers (F.holds shelf.old) folder.now concentrators.now members.new.items)
         (Halts (F.holds shelf.old) folder.now concentrators.now page.new) }
     ensures threads { IfErr result (λ halt. halt ≡ Halt.Threads → J.starts_threads verdicts.now) }
 {
-    let mut members = Vec::new(alloc);
     for concentrator in concentrators {
         match member_of(alloc, verdicts, shelf, folder, concentrator, page) {
             Ok(member) => match members.push(member) {
@@ -309,5 +311,5 @@ pub(crate) fn members_of<J: Verdicts, F: Shelf>(
             Err(halt) => return Err(halt),
         }
     }
-    Ok(members)
+    Ok(())
 }

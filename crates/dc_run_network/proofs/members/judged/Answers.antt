@@ -36,3 +36,15 @@ returns-in-Err-clause-judged c = λ rows text are read.
     let P : List ℕ → Type 0 = λ l. AnswersCheck rows text (one_line l WasRefused) in
     subst P (sym (c.print_refused.ensures ∙ ap (λ (t : TableRows). refused_text t c.in-Err.refused.fault) (c.tables.ensures ∙ ap (λ (w : WrittenRows). w.tables) same)))
     (refused-answer rows text c.args.written (named_rows c.args.certificate) c.in-Err.refused.fault are read (sym c.requires ∙ refused))
+
+pub returns-in-Ok-clause-said : goal.returns-in-Ok-clause-said
+returns-in-Ok-clause-said c = tt
+
+pub returns-in-Ok-clause-threads : goal.returns-in-Ok-clause-threads
+returns-in-Ok-clause-threads c = tt
+
+pub returns-in-Err-clause-said : goal.returns-in-Err-clause-said
+returns-in-Err-clause-said c = λ e. cc
+
+pub returns-in-Err-clause-threads : goal.returns-in-Err-clause-threads
+returns-in-Err-clause-threads c = λ e. cc
