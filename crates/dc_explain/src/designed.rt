@@ -42,8 +42,8 @@ fn tell_like(out: &mut Explanation, line: &str, cells: &[&str]) {
     }
 }
 
-/// Repeats the lines that were written, which say by rows and columns what to do and mostly go to a file, and tells which
-/// stream may be meant by one that is not there.
+/// Repeats the lines that were written, which say by rows and columns what to do and mostly go to a file, where they are
+/// not seen already, and tells which stream may be meant by one that is not there.
 pub(crate) fn repeat_lines(alloc: Global, ran: &Ran<'_>) -> Option<String> {
     let Ok(text) = from_utf8(whole_letters(ran.output.text.as_slice())) else {
         return None;
@@ -54,8 +54,10 @@ pub(crate) fn repeat_lines(alloc: Global, ran: &Ran<'_>) -> Option<String> {
         out.lose();
     }
     for line in text.lines() {
-        out.end_line();
-        out.add(line);
+        if !ran.is_seen {
+            out.end_line();
+            out.add(line);
+        }
         tell_like(&mut out, line, cells.as_slice());
     }
     out.finish()

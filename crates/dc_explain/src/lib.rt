@@ -9,6 +9,7 @@ mod designed;
 mod devices;
 mod ends;
 mod faults;
+mod fits;
 mod judged;
 mod lines;
 mod links;

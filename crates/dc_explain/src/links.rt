@@ -1,5 +1,6 @@
 //! Links that do not fit what they join: N14 to N19.
 use crate::ends::{concentrator_at, end_of};
+use crate::fits::tell_numbers;
 use crate::output::{Answer, index_in};
 use crate::ran::Ran;
 use dc_codes::{Kind as Sort, meaning_of};
@@ -115,7 +116,10 @@ pub(crate) fn explain_link(alloc: Global, ran: &Ran<'_>, answer: Answer<'_>) -> 
     tell_variation(&mut refused, answer.code, meaning.means);
     tell_tables(&mut refused, "from");
     tell_tables(&mut refused, "to");
-    refused.out.help("{}", &[Text(meaning.mend)]);
+    let is_of_times = answer.code == "N18" || answer.code == "N19";
+    if !is_of_times || !tell_numbers(&mut refused, ran, answer.code, stream) {
+        refused.out.help("{}", &[Text(meaning.mend)]);
+    }
     let Refused { out, .. } = refused;
     out.finish()
 }

@@ -45,10 +45,14 @@ pub(crate) struct Ran<'a> {
     pub(crate) named_first: &'a Kept,
     /// Its certificate.
     pub(crate) named_second: &'a Kept,
+    /// The tables of the concentrators before it, in their order.
+    pub(crate) earlier: &'a [Kept],
     /// Standard input.
     pub(crate) input: &'a Kept,
     /// What it wrote last.
     pub(crate) output: &'a Kept,
+    /// Whether that stands where it is explained.
+    pub(crate) is_seen: bool,
 }
 
 /// The name of a file as it is told.
@@ -222,6 +226,7 @@ fn explain_behind(
 ) -> Result<Option<String>, AllocError> {
     let input = notes.input.end(alloc)?;
     let output = notes.output.end(alloc)?;
+    let earlier = notes.earlier();
     let ran = Ran {
         order,
         exit,
@@ -231,8 +236,10 @@ fn explain_behind(
         second: files.1,
         named_first: named.0,
         named_second: named.1,
+        earlier: earlier.as_slice(),
         input: &input,
         output: &output,
+        is_seen: notes.progress.is_shared(),
     };
     Ok(explain(alloc, &ran))
 }

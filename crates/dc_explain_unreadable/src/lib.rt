@@ -20,4 +20,5 @@ mod visits;
 pub use certificate::{explain_certificate, explain_no_certificate};
 pub use counts::tell_count;
 pub use document::{refused_of, tell_no_document};
+pub use related::{are_same, parameter_of};
 pub use tables::explain_tables;

@@ -2,20 +2,24 @@
 use dc_explain_text::{Refused, number};
 use dc_tell::{Kind, Span};
 
-/// Whether two tables have the same at a key, in upper or lower case.
-pub(crate) fn agree(refused: &Refused<'_>, one: usize, other: usize, key: &str) -> bool {
-    let (left, right) = (
-        refused.layout.value(one, key),
-        refused.layout.value(other, key),
-    );
-    match (number(left), number(right)) {
-        (Some(left), Some(right)) => left == right,
-        _ => left.eq_ignore_ascii_case(right),
+/// Whether two values are the same number, or the same text in upper or lower case.
+pub fn are_same(left: &[u8], right: &[u8]) -> bool {
+    match number(left) {
+        Some(left) => number(right) == Some(left),
+        None => left.eq_ignore_ascii_case(right),
     }
 }
 
+/// Whether two tables have the same at a key, in upper or lower case.
+pub(crate) fn agree(refused: &Refused<'_>, one: usize, other: usize, key: &str) -> bool {
+    are_same(
+        refused.layout.value(one, key),
+        refused.layout.value(other, key),
+    )
+}
+
 /// The parameter that a stream or a label names.
-pub(crate) fn parameter_of(refused: &Refused<'_>, row: usize) -> Option<usize> {
+pub fn parameter_of(refused: &Refused<'_>, row: usize) -> Option<usize> {
     for (parameter, it) in refused.layout.rows.iter().enumerate() {
         if it.kind != Kind::Parameter || !agree(refused, row, parameter, "label") {
             continue;

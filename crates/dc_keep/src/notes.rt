@@ -143,10 +143,11 @@ impl Slot {
     }
 }
 
-/// What is kept of a run: of its two files in the order in which it opens them, of the last two that a text named, of
-/// standard input and of what it writes.
+/// What is kept of a run: of its two files in the order in which it opens them, of the last two that a text named and of
+/// the first of each pair before, of standard input and of what it writes.
 #[derive(Drop)]
 pub struct Notes {
+    alloc: Global,
     /// The file that is opened first.
     pub first: Slot,
     /// The file that is opened next.
@@ -155,8 +156,12 @@ pub struct Notes {
     pub named_first: Slot,
     /// The one that was opened next.
     pub named_second: Slot,
+    /// Of the pairs before, the files that were opened first, in their order.
+    earlier: RefCell<Vec<Kept>>,
     /// Whether the next file that a text names is the second of a pair.
     is_paired: Cell<bool>,
+    /// Whether one was opened.
+    is_named: Cell<bool>,
     /// Standard input, where it is read as a stream.
     pub input: Slot,
     /// What is written.
@@ -169,11 +174,14 @@ impl Notes {
     /// Notes that keep nothing yet.
     pub fn new(alloc: Global) -> Self {
         Notes {
+            alloc,
             first: Slot::new(alloc, MOST_OF_FILE),
             second: Slot::new(alloc, MOST_OF_FILE),
             named_first: Slot::new(alloc, MOST_OF_FILE),
             named_second: Slot::new(alloc, MOST_OF_FILE),
+            earlier: RefCell::new(Vec::new(alloc)),
             is_paired: Cell::new(false),
+            is_named: Cell::new(false),
             input: Slot::new(alloc, MOST_OF_STREAM),
             output: Slot::new(alloc, MOST_OF_OUTPUT),
             progress: Progress::new(),
@@ -193,14 +201,37 @@ impl Notes {
         self.output.want();
     }
 
-    /// The slot of a file that a text names and that is opened next: they come in pairs, and what was kept of the pair
-    /// before is forgotten.
+    /// Puts the first file of the pair before beside those of earlier ones, where memory is granted.
+    fn put_away(&self) {
+        let Ok(kept) = self.named_first.end(self.alloc) else {
+            return;
+        };
+        if let Ok(mut earlier) = self.earlier.try_borrow_mut() {
+            let _ = earlier.push(kept);
+        }
+    }
+
+    /// Of the pairs before the last one, the files that were opened first, in their order: fewer where memory was refused.
+    /// None of them is kept any more.
+    pub fn earlier(&self) -> Vec<Kept> {
+        match self.earlier.try_borrow_mut() {
+            Ok(mut earlier) => mem::replace(&mut *earlier, Vec::new(self.alloc)),
+            Err(_) => Vec::new(self.alloc),
+        }
+    }
+
+    /// The slot of a file that a text names and that is opened next: they come in pairs, and of the pair before what was
+    /// kept of the second is forgotten.
     pub fn next_named(&self) -> &Slot {
         let is_second = self.is_paired.get();
         self.is_paired.set(!is_second);
         if is_second {
             return &self.named_second;
         }
+        if self.is_named.get() {
+            self.put_away();
+        }
+        self.is_named.set(true);
         self.named_first.forget();
         self.named_second.forget();
         &self.named_first

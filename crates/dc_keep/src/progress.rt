@@ -86,6 +86,11 @@ impl Progress {
         self.is_shared.set(true);
     }
 
+    /// Whether what is written stands where it is shown.
+    pub fn is_shared(&self) -> bool {
+        self.is_shared.get()
+    }
+
     /// Goes on by bytes that were read, and shows it where a second has passed.
     pub fn pass<H: Eprint + Clock>(&self, runtime: &H, given: &[u8]) {
         let Some(from) = self.shown_from.get() else {
