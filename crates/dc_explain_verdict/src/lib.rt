@@ -7,6 +7,7 @@ mod bounds;
 mod fact;
 mod gaps;
 mod labels;
+mod mends;
 mod misnamed;
 mod names;
 mod obstacles;
@@ -17,5 +18,6 @@ mod teller;
 mod waits;
 mod ways;
 
+pub use mends::{Mends, mends_of};
 pub use obstacles::explain_find;
 pub use refused::{Files, explain_text, explain_verdict};

@@ -5,7 +5,7 @@ use crate::bounds::counts_of;
 use crate::fact::Fact::{Number, Several, Word};
 use crate::labels::{aging_of, sending_of, silence};
 use crate::refused::tell_label;
-use crate::servers::{Server, begin_counts, place, server_of, shares_of, tell_terms};
+use crate::servers::{Server, begin_counts, place, round_of, server_of, tell_terms};
 use crate::steps::closing_of;
 use crate::teller::Teller;
 use crate::waits::tell_room_ways;
@@ -109,12 +109,7 @@ const ROUNDS: u32 = 10;
 
 /// F1: no window of a queue closes.
 fn tell_never(told: &mut Teller<'_>, server: &Server) {
-    let (all, own) = shares_of(told.tables, server.queue);
-    let round = if server.is_bus {
-        server.within.saturating_mul(all)
-    } else {
-        own
-    };
+    let round = round_of(told.tables, server);
     let early = round.saturating_mul(ROUNDS).min(LONGEST_WINDOW);
     let left = begin_counts(told, "F1", server, (early, early), early.saturating_sub(1));
     let late = LONGEST_WINDOW;

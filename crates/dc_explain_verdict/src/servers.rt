@@ -194,6 +194,16 @@ pub(crate) fn shares_of(tables: &Tables, queue: Queue) -> (u32, u32) {
     (all, own)
 }
 
+/// The ticks in which a router goes once through its visits, with the fewest steps; of an output those of its frame.
+pub(crate) fn round_of(tables: &Tables, server: &Server) -> u32 {
+    let (all, own) = shares_of(tables, server.queue);
+    if server.is_bus {
+        server.within.saturating_mul(all)
+    } else {
+        own
+    }
+}
+
 /// The first other router, or other output, that has a shorter `within` than what serves a queue, and its `within`.
 pub(crate) fn sibling_of(tables: &Tables, server: &Server) -> Option<(usize, u32)> {
     let count = if server.is_bus {
