@@ -1,0 +1,2 @@
+mod Behinds
+mod Digested

@@ -1,0 +1,2 @@
+-- What `check --digest` answers.
+pub mod Digests
