@@ -5,9 +5,9 @@ pub const HEAD: &str = "<!DOCTYPE html>
 <html lang='en'><head><meta charset='utf-8'/><meta name='viewport' content='width=device-width, initial-scale=1'/>
 <title>dc429 network report</title><style>
 :root{color-scheme:light dark;--ink:#1b1f24;--soft:#59636e;--line:#d0d7de;--back:#fff;--card:#f6f8fa;
---come:#b35900;--take:#0a62c4;--good:#08783e}
+--come:#d27700;--take:#0a3a8a;--good:#08783e}
 @media (prefers-color-scheme:dark){:root{--ink:#e6edf3;--soft:#9aa7b4;--line:#3a434d;--back:#0d1117;--card:#161b22;
---come:#ffa657;--take:#6cb6ff;--good:#57d38c}}
+--come:#ffd08a;--take:#3378d4;--good:#57d38c}}
 *{box-sizing:border-box}
 body{margin:0 auto;padding:16px;max-width:1100px;background:var(--back);color:var(--ink);font:16px/1.5 system-ui,sans-serif}
 body{overflow-wrap:break-word}code{overflow-wrap:anywhere}

@@ -5,10 +5,12 @@ ghost use Rattle.std.specs.Prelude.{◌≡◌, ◌<◌, length, slice_index};
 ghost use Rattle.dc_cert.specs.Bounds.{certificate_rows, input_bound, output_bound};
 ghost use Rattle.dc_tables.specs.TableRows.{label_row};
 
+use crate::known::label_known;
+use crate::standing::Standing;
 use crate::time::TickLength;
 use dc_check::Fitted;
 use dc_document::Name;
-use dc_margin::{InputMargins, LabelMargins, OutputMargins, label_margins};
+use dc_margin::{InputMargins, LabelMargins, OutputMargins};
 use dc_tables::Tables;
 use dc_transmit::Schedule;
 use dc_word::Label;
@@ -17,6 +19,7 @@ use dc_word::Label;
 #[derive(Clone, Copy)]
 pub struct InputFacts {
     pub name: Name,
+    pub standing: Standing,
     pub tick: TickLength,
     pub router: Name,
     pub queue: u32,
@@ -27,10 +30,18 @@ pub struct InputFacts {
     pub margins: InputMargins,
 }
 
+impl InputFacts {
+    /// Whether no window of it closes.
+    pub fn is_open(&self) -> bool {
+        self.standing.is_none(self.delay)
+    }
+}
+
 /// Of an output.
 #[derive(Clone, Copy)]
 pub struct OutputFacts {
     pub name: Name,
+    pub standing: Standing,
     pub tick: TickLength,
     pub frame: u32,
     pub window: u32,
@@ -38,10 +49,18 @@ pub struct OutputFacts {
     pub margins: OutputMargins,
 }
 
+impl OutputFacts {
+    /// Whether no window of it closes.
+    pub fn is_open(&self) -> bool {
+        self.standing.is_none(self.delay)
+    }
+}
+
 /// Of a label: beside its own numbers its gaps, the delay of its output and the longest one of its sources' buses.
 #[derive(Clone, Copy)]
 pub struct LabelFacts {
     pub name: Name,
+    pub standing: Standing,
     pub tick: TickLength,
     pub least_gap: u64,
     pub greatest_gap: u64,
@@ -53,6 +72,18 @@ pub struct LabelFacts {
     pub age: u32,
     pub age_limit: u32,
     pub margins: LabelMargins,
+}
+
+impl LabelFacts {
+    /// Whether there is no delay of its output.
+    pub fn has_no_delay(&self) -> bool {
+        self.standing.is_none(self.output_delay)
+    }
+
+    /// Whether there is no age of it, since there is no delay of one of its sources' buses.
+    pub fn has_no_age(&self) -> bool {
+        self.standing.is_none(self.slowest)
+    }
 }
 
 /// Of a source of a label.
@@ -67,7 +98,12 @@ pub struct SourceFacts {
 }
 
 /// The facts of the input of this number, with its margins.
-pub fn input_facts(fitted: &Fitted<'_>, bus: usize, margins: &InputMargins) -> InputFacts
+pub fn input_facts(
+    fitted: &Fitted<'_>,
+    bus: usize,
+    margins: &InputMargins,
+    standing: Standing,
+) -> InputFacts
     requires there { bus < length fitted.now.tables.now.buses }
     ensures claimed { record { window = result.window; backlog = result.backlog; delay = result.delay }
         ≡ input_bound (certificate_rows fitted.now.certificate.now) bus }
@@ -77,6 +113,7 @@ pub fn input_facts(fitted: &Fitted<'_>, bus: usize, margins: &InputMargins) -> I
     let own = fitted.tables.bus(bus);
     InputFacts {
         name: *fitted.tables.bus_name(bus),
+        standing,
         tick: TickLength::of(fitted.tables),
         router: *fitted.tables.router_name(own.router),
         queue: own.queue,
@@ -89,13 +126,19 @@ pub fn input_facts(fitted: &Fitted<'_>, bus: usize, margins: &InputMargins) -> I
 }
 
 /// The facts of the output of this number, with its margins.
-pub fn output_facts(fitted: &Fitted<'_>, output: usize, margins: &OutputMargins) -> OutputFacts
+pub fn output_facts(
+    fitted: &Fitted<'_>,
+    output: usize,
+    margins: &OutputMargins,
+    standing: Standing,
+) -> OutputFacts
     requires there { output < length fitted.now.tables.now.outputs }
     ensures claimed { record { window = result.window; delay = result.delay } ≡ output_bound (certificate_rows fitted.now.certificate.now) output }
 {
     let row = &fitted.certificate.outputs[output];
     OutputFacts {
         name: *fitted.tables.output_name(output),
+        standing,
         tick: TickLength::of(fitted.tables),
         frame: fitted.tables.output(output).frame,
         window: row.window,
@@ -105,7 +148,7 @@ pub fn output_facts(fitted: &Fitted<'_>, output: usize, margins: &OutputMargins)
 }
 
 /// The facts of the label of this number.
-pub fn label_facts(fitted: &Fitted<'_>, label: usize) -> LabelFacts
+pub fn label_facts(fitted: &Fitted<'_>, label: usize, standing: Standing) -> LabelFacts
     requires there { label < length fitted.now.tables.now.labels }
     ensures claimed { result.age ≡ slice_index (certificate_rows fitted.now.certificate.now).ages label }
 {
@@ -114,6 +157,7 @@ pub fn label_facts(fitted: &Fitted<'_>, label: usize) -> LabelFacts
     let schedule = Schedule::of(fitted.tables, row.output);
     LabelFacts {
         name: *fitted.tables.label_name(label),
+        standing,
         tick: TickLength::of(fitted.tables),
         least_gap: schedule.min_gap(label),
         greatest_gap: schedule.max_gap(label),
@@ -124,7 +168,7 @@ pub fn label_facts(fitted: &Fitted<'_>, label: usize) -> LabelFacts
         slowest: slowest_delay(fitted, label),
         age: fitted.certificate.labels[label].age,
         age_limit: row.age_limit,
-        margins: label_margins(fitted, label),
+        margins: label_known(fitted, label, standing),
     }
 }
 

@@ -70,10 +70,13 @@ pub fn push_interval(html: &mut Html, facts: &LabelFacts) {
     html.add("'/><path class='d' d='M");
     push_place(html, "", facts.least_gap.saturating_sub(delay), span);
     push_place(html, " 15H", latest, span);
-    html.add("'/><path d='M");
-    push_place(html, "", facts.least_gap, span);
-    push_place(html, " 11v8M", facts.greatest_gap, span);
-    html.add(" 11v8'/></svg>")
+    html.add("'/>");
+    for way in ["<path class='f' d='M", "<path d='M"] {
+        push_place(html, way, facts.least_gap, span);
+        push_place(html, " 11v8M", facts.greatest_gap, span);
+        html.add(" 11v8'/>")
+    }
+    html.add("</svg>")
 }
 
 /// Adds the age of a label: the delay and the time for which a source is fresh, beside the age that is claimed and its
@@ -90,7 +93,9 @@ pub fn push_age(html: &mut Html, facts: &LabelFacts) {
     push_place(html, "'/><path class='o' d='M", stale, span);
     push_place(html, " 7H", oldest, span);
     push_place(html, "'/><path class='f' d='M", stale, span);
-    push_place(html, " 1v12'/><path d='M", age, span);
+    push_place(html, " 1v12M", age, span);
+    push_place(html, " 0v14M", limit, span);
+    push_place(html, " 0v14'/><path d='M", age, span);
     push_place(html, " 0v14'/><path class='r' d='M", limit, span);
     html.add(" 0v14'/></svg>")
 }

@@ -1,21 +1,25 @@
 //! The whole page.
 
 ghost use Rattle.std.specs.Prelude.{◌≡◌, length};
+ghost use Rattle.dc_cert.specs.Bounds.{certificate_rows};
 ghost use Rattle.dc_cert.specs.NamedRows.{named_rows};
-ghost use Rattle.dc_check.specs.Verdict.{verdict_of};
+ghost use Rattle.dc_check.specs.Verdict.{IsSized, verdict_of};
 
 use crate::claims::push_claims;
 use crate::drift::{Drift, push_drift};
+use crate::identity::{Identity, push_identity};
 use crate::input::push_inputs;
 use crate::known::{inputs_known, outputs_known};
 use crate::labels::push_labels;
 use crate::output::push_outputs;
+use crate::standing::Standing;
 use crate::style::{FOOT, HEAD};
-use crate::summary::{push_summary, push_tightest};
+use crate::summary::{push_failing, push_summary, push_tightest};
 use crate::tight::tightest;
-use crate::verdict::{push_accepted, push_refused};
+use crate::verdict::{SOUGHT, push_accepted, push_refused, push_sought};
 use dc_cert::Certificate;
 use dc_check::{CheckFault, Fitted, misnamed};
+use dc_find::FindFault;
 use dc_margin::{InputMargins, OutputMargins};
 use dc_page_text::Html;
 use dc_tables::Tables;
@@ -29,21 +33,25 @@ fn push_sections(
     fitted: &Fitted<'_>,
     inputs: &[InputMargins],
     outputs: &[OutputMargins],
-    is_accepted: bool,
+    standing: Standing,
 ) -> Result<(), AllocError>
     requires inputs { length inputs.now ≡ length fitted.now.tables.now.buses }
     requires outputs { length outputs.now ≡ length fitted.now.tables.now.outputs }
 {
-    let all = tightest(alloc, fitted, inputs, outputs)?;
-    push_tightest(html, fitted.tables, all.as_slice());
+    let all = tightest(alloc, fitted, inputs, outputs, standing)?;
+    if standing.is_sought() {
+        push_failing(html, fitted.tables, all.as_slice());
+    } else {
+        push_tightest(html, fitted.tables, all.as_slice());
+    }
     html.add("</p></div>\n");
-    push_summary(html, fitted.tables, all.as_slice());
-    if is_accepted {
+    push_summary(html, fitted.tables, all.as_slice(), standing);
+    if standing.is_accepted() {
         push_claims(html, fitted);
     }
-    push_inputs(alloc, html, fitted, inputs)?;
-    push_outputs(alloc, html, fitted, outputs)?;
-    push_labels(alloc, html, fitted)
+    push_inputs(alloc, html, fitted, inputs, standing)?;
+    push_outputs(alloc, html, fitted, outputs, standing)?;
+    push_labels(alloc, html, fitted, standing)
 }
 
 /// Adds what there is to show of a certificate whose names are the tables'.
@@ -51,21 +59,21 @@ fn push_named(
     alloc: Global,
     html: &mut Html,
     fitted: &Fitted<'_>,
-    is_accepted: bool,
+    standing: Standing,
 ) -> Result<(), AllocError> {
-    let inputs = inputs_known(alloc, fitted)?;
-    let outputs = outputs_known(alloc, fitted)?;
+    let inputs = inputs_known(alloc, fitted, standing)?;
+    let outputs = outputs_known(alloc, fitted, standing)?;
     push_sections(
         alloc,
         html,
         fitted,
         inputs.as_slice(),
         outputs.as_slice(),
-        is_accepted,
+        standing,
     )
 }
 
-/// Adds all of the page but its foot.
+/// Adds the verdict and all that there is to show of it.
 fn push_page(
     alloc: Global,
     html: &mut Html,
@@ -73,11 +81,16 @@ fn push_page(
     certificate: &Certificate,
     fault: Option<CheckFault>,
 ) -> Result<(), AllocError> {
-    html.add(HEAD);
-    match fault {
-        None => push_accepted(html, tables),
-        Some(fault) => push_refused(html, tables, fault),
-    }
+    let standing = match fault {
+        None => {
+            push_accepted(html, tables);
+            Standing::Accepted
+        }
+        Some(fault) => {
+            push_refused(html, tables, fault);
+            Standing::Refused
+        }
+    };
     if misnamed(tables, certificate).is_some() {
         html.add("</p></div>\n");
         return Ok(());
@@ -86,11 +99,45 @@ fn push_page(
         tables,
         certificate,
     };
-    push_named(alloc, html, &fitted, fault.is_none())
+    push_named(alloc, html, &fitted, standing)
 }
 
-/// The page on a certificate for tables, given the fault of its verdict, as HTML. No clause says what stands in it: it
-/// is tested.
+/// The head of a page, with what it is of where that is given.
+fn headed(alloc: Global, identity: Option<&Identity<'_>>) -> Html {
+    let mut html = Html::new(alloc);
+    html.add(HEAD);
+    if let Some(identity) = identity {
+        push_identity(&mut html, identity);
+    }
+    html
+}
+
+/// The page on a certificate for tables, given the fault of its verdict, as HTML; with a section on clocks that drift
+/// behind its parts where one is given, of which labels are left out where the certificate is refused, and with what it is
+/// of at its head where that is given. No clause says what stands in it: it is tested.
+///
+/// # Errors
+/// `AllocError` where an allocation failed.
+pub fn page_of(
+    alloc: Global,
+    tables: &Tables,
+    certificate: &Certificate,
+    fault: Option<CheckFault>,
+    drift: Option<&Drift<'_>>,
+    identity: Option<&Identity<'_>>,
+) -> Result<String, AllocError>
+    requires { fault ≡ verdict_of tables.now (named_rows certificate.now) }
+{
+    let mut html = headed(alloc, identity);
+    push_page(alloc, &mut html, tables, certificate, fault)?;
+    if let Some(drift) = drift {
+        push_drift(&mut html, tables, drift, fault.is_none());
+    }
+    html.add(FOOT);
+    html.end()
+}
+
+/// The page as [`page_of`] makes it, that does not say what it is of.
 ///
 /// # Errors
 /// `AllocError` where an allocation failed.
@@ -102,14 +149,10 @@ pub fn page(
 ) -> Result<String, AllocError>
     requires { fault ≡ verdict_of tables.now (named_rows certificate.now) }
 {
-    let mut html = Html::new(alloc);
-    push_page(alloc, &mut html, tables, certificate, fault)?;
-    html.add(FOOT);
-    html.end()
+    page_of(alloc, tables, certificate, fault, None, None)
 }
 
-/// The page on a certificate for tables as [`page`] makes it, with a section on clocks that drift behind its parts, of
-/// which labels are left out where the certificate is refused.
+/// The same with a section on clocks that drift.
 ///
 /// # Errors
 /// `AllocError` where an allocation failed.
@@ -122,9 +165,44 @@ pub fn page_with_drift(
 ) -> Result<String, AllocError>
     requires { fault ≡ verdict_of tables.now (named_rows certificate.now) }
 {
+    page_of(alloc, tables, certificate, fault, Some(drift), None)
+}
+
+/// The page on tables for which no certificate is accepted, up to the line of what stands first in the way of one, with what
+/// it is of at its head where that is given.
+///
+/// # Errors
+/// `AllocError` where an allocation failed.
+pub fn sought_front(alloc: Global, identity: Option<&Identity<'_>>) -> Result<String, AllocError> {
+    let mut html = headed(alloc, identity);
+    html.add(SOUGHT);
+    html.end()
+}
+
+/// The same page behind that line, given what stands first in the way, what was found, and where clocks drift what is shown
+/// of that, of which labels are left out. No clause says what stands in it: it is tested.
+///
+/// # Errors
+/// `AllocError` where an allocation failed.
+pub fn sought_back(
+    alloc: Global,
+    tables: &Tables,
+    found: &Certificate,
+    fault: FindFault,
+    drift: Option<&Drift<'_>>,
+) -> Result<String, AllocError>
+    requires { IsSized tables.now (certificate_rows found.now) }
+{
     let mut html = Html::new(alloc);
-    push_page(alloc, &mut html, tables, certificate, fault)?;
-    push_drift(&mut html, tables, drift, fault.is_none());
+    push_sought(&mut html, fault);
+    let fitted = Fitted {
+        tables,
+        certificate: found,
+    };
+    push_named(alloc, &mut html, &fitted, Standing::Sought)?;
+    if let Some(drift) = drift {
+        push_drift(&mut html, tables, drift, false);
+    }
     html.add(FOOT);
     html.end()
 }

@@ -6,12 +6,13 @@ use crate::alike::Alike;
 use crate::facts::{LabelFacts, SourceFacts, label_facts, source_at, source_facts};
 use crate::frame::{push_age, push_interval, push_strip};
 use crate::names::push_place;
-use crate::rules::{push_slack, remedy};
+use crate::rules::{push_slack, remedy, remedy_sought};
+use crate::standing::Standing;
 use crate::time::TickLength;
 use dc_check::{CertificateList, Fitted};
 use dc_margin::{MarginLine, label_lines};
 use dc_page_text::Hole::{Digits, Number, Text, Thousandths, Times};
-use dc_page_text::{Html, Unit};
+use dc_page_text::{Hole, Html, Unit};
 use dc_tables::Tables;
 use dc_word::Label;
 use std::alloc::{AllocError, Global};
@@ -24,7 +25,7 @@ const LEGEND: &str =
     "<p class='s'>Of each label: when it is due in the frame. <span class='k g'></span>the interval that is wanted from one time to the next, and <span class='k a'></span>what the gaps and the delay make of it. <span class='k q'></span>how long a source stays fresh (stale), <span class='k a'></span>the longest delay before that, <span class='k m'></span>the age that is claimed, and <span class='k r'></span>its limit. In grey the same in milliseconds.</p>\n";
 
 /// Adds the margin of a condition, and what to do where it is negative.
-fn push_margin(html: &mut Html, line: MarginLine, tick: TickLength) {
+fn push_margin(html: &mut Html, line: MarginLine, facts: &LabelFacts) {
     html.add(if line.is_negative() {
         "<br/><b class='no'>&#10007; "
     } else {
@@ -32,10 +33,14 @@ fn push_margin(html: &mut Html, line: MarginLine, tick: TickLength) {
     });
     html.add(line.condition.code());
     html.add(": ");
-    push_slack(html, line, tick);
+    push_slack(html, line, facts.tick);
     if line.is_negative() {
         html.add("</b><br/><span class='todo'>What to do: ");
-        html.add(remedy(line.condition));
+        html.add(if facts.standing.is_sought() {
+            remedy_sought(line.condition)
+        } else {
+            remedy(line.condition)
+        });
         html.add("</span>")
     }
 }
@@ -65,8 +70,24 @@ fn push_due(html: &mut Html, tables: &Tables, label: usize)
     html.add("</div>\n")
 }
 
+/// Adds the label's interval where no window of its output closes.
+fn push_gaps_alone(html: &mut Html, facts: &LabelFacts) {
+    html.put(
+        "<div>wanted {} to {} ticks; gaps {} to {}. No window of its output closes, so that it has no delay: C08 and C09 are not told.</div>\n",
+        &[
+            Number(u64::from(facts.minimum)),
+            Number(u64::from(facts.maximum)),
+            Number(facts.least_gap),
+            Number(facts.greatest_gap),
+        ],
+    );
+}
+
 /// Adds the label's interval, with the margins of C08 and C09.
 fn push_gaps(html: &mut Html, facts: &LabelFacts, soon: MarginLine, late: MarginLine) {
+    if facts.has_no_delay() {
+        return push_gaps_alone(html, facts);
+    }
     let (minimum, maximum) = (u64::from(facts.minimum), u64::from(facts.maximum));
     let (least, greatest) = (facts.least_gap, facts.greatest_gap);
     let delay = u64::from(facts.output_delay);
@@ -87,13 +108,16 @@ fn push_gaps(html: &mut Html, facts: &LabelFacts, soon: MarginLine, late: Margin
             Thousandths(facts.tick.millis(delay).0),
         ],
     );
-    push_margin(html, soon, facts.tick);
-    push_margin(html, late, facts.tick);
+    push_margin(html, soon, facts);
+    push_margin(html, late, facts);
     html.add("</div>\n")
 }
 
 /// Adds the label's age, with the margins of C10 and C11.
 fn push_ages(html: &mut Html, facts: &LabelFacts, own: MarginLine, limit: MarginLine) {
+    if facts.has_no_age() {
+        return push_no_age(html, facts);
+    }
     let (stale, delay) = (u64::from(facts.stale), u64::from(facts.slowest));
     html.add("<div>");
     push_age(html, facts);
@@ -109,8 +133,8 @@ fn push_ages(html: &mut Html, facts: &LabelFacts, own: MarginLine, limit: Margin
     html.show(facts.tick.age(facts.age));
     html.add(", limit ");
     html.show(facts.tick.span(facts.age_limit));
-    push_margin(html, own, facts.tick);
-    push_margin(html, limit, facts.tick);
+    push_margin(html, own, facts);
+    push_margin(html, limit, facts);
     html.add("</div>\n")
 }
 
@@ -198,25 +222,43 @@ fn push_sources(
     for place in 0..fitted.tables.label(label).sources.len() {
         push_source(html, fitted, label, source_at(fitted.tables, label, place));
     }
-    push_margin(html, fresh, facts.tick);
+    push_margin(html, fresh, facts);
     html.add("</div>\n")
+}
+
+/// Adds that a label has no age, where no window of one of its sources' buses closes.
+fn push_no_age(html: &mut Html, facts: &LabelFacts) {
+    html.put(
+        "<div>stale {}, limit {}. No window of a source's bus closes, so that the label has no age: C10, C11 and C12 are not told.</div>\n",
+        &[
+            Number(u64::from(facts.stale)),
+            Number(u64::from(facts.age_limit)),
+        ],
+    );
 }
 
 /// What the part on the label of this number shows below its name.
 ///
 /// # Errors
 /// `AllocError` where an allocation failed.
-fn body_of(alloc: Global, fitted: &Fitted<'_>, label: usize) -> Result<String, AllocError>
+fn body_of(
+    alloc: Global,
+    fitted: &Fitted<'_>,
+    label: usize,
+    standing: Standing,
+) -> Result<String, AllocError>
     requires there { label < length fitted.now.tables.now.labels }
 {
-    let facts = label_facts(fitted, label);
+    let facts = label_facts(fitted, label, standing);
     let [soon, late, age, age_limit, fresh] = label_lines(label, &facts.margins);
     let mut html = Html::new(alloc);
     html.add("<div class='g'>");
     push_due(&mut html, fitted.tables, label);
     push_gaps(&mut html, &facts, soon, late);
     push_ages(&mut html, &facts, age, age_limit);
-    push_sources(&mut html, fitted, &facts, label, fresh);
+    if !facts.has_no_age() {
+        push_sources(&mut html, fitted, &facts, label, fresh);
+    }
     html.add("</div></div>\n");
     html.end()
 }
@@ -225,10 +267,10 @@ fn body_of(alloc: Global, fitted: &Fitted<'_>, label: usize) -> Result<String, A
 ///
 /// # Errors
 /// `AllocError` where an allocation failed.
-fn bodies_of(alloc: Global, fitted: &Fitted<'_>) -> Result<Alike, AllocError> {
+fn bodies_of(alloc: Global, fitted: &Fitted<'_>, standing: Standing) -> Result<Alike, AllocError> {
     let mut alike = Alike::new(alloc);
     for label in 0..fitted.tables.label_count() {
-        alike.take(body_of(alloc, fitted, label)?)?;
+        alike.take(body_of(alloc, fitted, label, standing)?)?;
     }
     Ok(alike)
 }
@@ -274,8 +316,13 @@ fn push_names(html: &mut Html, fitted: &Fitted<'_>, alike: &Alike, place: usize)
 ///
 /// # Errors
 /// `AllocError` where an allocation failed.
-fn push_drawn(alloc: Global, html: &mut Html, fitted: &Fitted<'_>) -> Result<(), AllocError> {
-    let alike = bodies_of(alloc, fitted)?;
+fn push_drawn(
+    alloc: Global,
+    html: &mut Html,
+    fitted: &Fitted<'_>,
+    standing: Standing,
+) -> Result<(), AllocError> {
+    let alike = bodies_of(alloc, fitted, standing)?;
     html.add(LEGEND);
     for (place, body) in alike.bodies().iter().enumerate() {
         push_names(html, fitted, &alike, place);
@@ -304,6 +351,14 @@ fn push_cell(html: &mut Html, line: MarginLine) {
     html.add("</td>")
 }
 
+/// A number, or a dash where there is none.
+fn known(number: u32, is_none: bool) -> Hole<'static> {
+    if is_none {
+        return Text("-");
+    }
+    Number(u64::from(number))
+}
+
 /// Adds the numbers of a label, in ticks.
 fn push_numbers(html: &mut Html, facts: &LabelFacts) {
     html.put(
@@ -313,20 +368,20 @@ fn push_numbers(html: &mut Html, facts: &LabelFacts) {
             Number(u64::from(facts.maximum)),
             Number(facts.least_gap),
             Number(facts.greatest_gap),
-            Number(u64::from(facts.output_delay)),
+            known(facts.output_delay, facts.has_no_delay()),
             Number(u64::from(facts.stale)),
-            Number(u64::from(facts.slowest)),
-            Number(u64::from(facts.age)),
+            known(facts.slowest, facts.has_no_age()),
+            known(facts.age, facts.has_no_age()),
             Number(u64::from(facts.age_limit)),
         ],
     );
 }
 
 /// Adds the row of a label.
-fn push_row(html: &mut Html, fitted: &Fitted<'_>, label: usize)
+fn push_row(html: &mut Html, fitted: &Fitted<'_>, label: usize, standing: Standing)
     requires there { label < length fitted.now.tables.now.labels }
 {
-    let facts = label_facts(fitted, label);
+    let facts = label_facts(fitted, label, standing);
     html.add("<tr><td>");
     push_place(html, fitted.tables, CertificateList::Labels, label);
     push_first_other(html, fitted, label);
@@ -341,12 +396,12 @@ fn push_row(html: &mut Html, fitted: &Fitted<'_>, label: usize)
 }
 
 /// Adds a row for each label.
-fn push_rows(html: &mut Html, fitted: &Fitted<'_>) {
+fn push_rows(html: &mut Html, fitted: &Fitted<'_>, standing: Standing) {
     html.add(
         "<p class='s'>All in ticks; behind the numbers the margins of the rules, what is to spare, with a cross where it is short.</p>\n<table class='rows'><thead><tr><th>Label</th><th>Output</th><th>Wanted</th><th>Gaps &#177; delay</th><th>Stale + delay</th><th>Age of limit</th><th>C08</th><th>C09</th><th>C10</th><th>C11</th><th>C12</th></tr></thead><tbody>\n",
     );
     for label in 0..fitted.tables.label_count() {
-        push_row(html, fitted, label);
+        push_row(html, fitted, label, standing);
     }
     html.add("</tbody></table>\n")
 }
@@ -355,11 +410,16 @@ fn push_rows(html: &mut Html, fitted: &Fitted<'_>) {
 ///
 /// # Errors
 /// `AllocError` where an allocation failed.
-pub fn push_labels(alloc: Global, html: &mut Html, fitted: &Fitted<'_>) -> Result<(), AllocError> {
+pub fn push_labels(
+    alloc: Global,
+    html: &mut Html,
+    fitted: &Fitted<'_>,
+    standing: Standing,
+) -> Result<(), AllocError> {
     html.add("<h2>Labels</h2>\n");
     if fitted.tables.label_count() <= MOST_DRAWN {
-        return push_drawn(alloc, html, fitted);
+        return push_drawn(alloc, html, fitted, standing);
     }
-    push_rows(html, fitted);
+    push_rows(html, fitted, standing);
     Ok(())
 }

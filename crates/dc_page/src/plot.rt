@@ -4,6 +4,7 @@ ghost use Rattle.std.specs.Prelude.{◌≤◌};
 
 use crate::time::TickLength;
 use dc_bound::{ArrivalBound, ServiceBound};
+use dc_busy::LONGEST_WINDOW;
 use dc_margin::{Decider, Margin};
 use dc_page_text::Hole::{Number, Thousandths, Times};
 use dc_page_text::{Html, Tenths, Unit, round_step, share};
@@ -33,10 +34,19 @@ pub struct Measure {
     pub size: u64,
 }
 
+/// Where a plot ends.
+#[derive(Clone, Copy)]
+pub enum End {
+    /// A little behind the window, which closes.
+    Window(u32),
+    /// After so many ticks: no window closes.
+    Never(u32),
+}
+
 /// What a plot shows beside its curves.
 #[derive(Clone, Copy)]
 pub struct Marks {
-    pub window: u32,
+    pub end: End,
     pub wait: Option<Measure>,
     pub late: Option<Measure>,
     pub unit: Unit,
@@ -111,9 +121,26 @@ fn taken<S: ServiceBound>(service: &S, ticks: u64) -> u64 {
     service.at_least(ticks.saturating_sub(1).min(LONGEST_SPAN) as u32)
 }
 
-/// How many ticks a plot shows: the window and the greatest width, and a little more.
+/// So many rounds of what serves a queue are shown of which no window closes.
+const ROUNDS: u32 = 10;
+
+/// What a plot shows of a queue of which no window closes, given the ticks of a round.
+pub fn never(round: u32, unit: Unit, tick: TickLength) -> Marks {
+    Marks {
+        end: End::Never(round.saturating_mul(ROUNDS).clamp(ROUNDS, LONGEST_WINDOW)),
+        wait: None,
+        late: None,
+        unit,
+        tick,
+    }
+}
+
+/// How many ticks a plot shows: the window and the greatest width, and a little more; where no window closes what is asked.
 fn span_of(marks: &Marks) -> u64 {
-    let window = u64::from(marks.window);
+    let window = match marks.end {
+        End::Window(window) => u64::from(window),
+        End::Never(ticks) => return u64::from(ticks),
+    };
     let width = match marks.late {
         Some(late) => late.at.saturating_add(late.size),
         None => 0,
@@ -169,8 +196,15 @@ fn push_axes(html: &mut Html, plane: Plane, marks: &Marks) {
         &[length],
     );
     html.add(since);
-    let x = plane.x(u64::from(marks.window));
-    html.add("</text>\n<path class='z' d='M");
+    html.add("</text>\n");
+    if let End::Window(window) = marks.end {
+        push_window(html, plane.x(u64::from(window)))
+    }
+}
+
+/// Adds where the window ends.
+fn push_window(html: &mut Html, x: Tenths) {
+    html.add("<path class='z' d='M");
     html.show(x);
     html.add(" 26V188'/><text x='");
     html.show(x);
@@ -197,18 +231,20 @@ fn push_come<A: ArrivalBound>(html: &mut Html, arrivals: &A, plane: Plane) {
             last = count;
         }
     }
-    html.add("H388'/><text class='a' x='386' y='");
+    html.add("H388'/><text x='386' y='");
     html.show(plane.y(last));
     html.add("' dy='-5' text-anchor='end'>a(w)</text>\n")
 }
 
-/// Adds the end of the curve of what is surely taken, and what it is called.
-fn push_end(html: &mut Html, x: Tenths, y: Tenths) {
-    html.add("'/><text class='s' x='");
+/// Adds the end of the curve of what is surely taken, and so far below what it is called.
+fn push_end(html: &mut Html, x: Tenths, y: Tenths, below: &str) {
+    html.add("'/><text x='");
     html.show(x);
     html.add("' y='");
     html.show(y);
-    html.add("' dx='-4' dy='14' text-anchor='end'>s(w &#8722; 1)</text>\n")
+    html.add("' dx='-4' dy='");
+    html.add(below);
+    html.add("' text-anchor='end'>s(w &#8722; 1)</text>\n")
 }
 
 /// Adds the curve of what is surely taken: it rises at the end of a tick, and ends where it leaves the plot.
@@ -222,7 +258,7 @@ fn push_taken<S: ServiceBound>(html: &mut Html, service: &S, plane: Plane) {
             html.add("H");
             html.show(plane.x(tick));
             html.add("V26");
-            return push_end(html, plane.x(tick), plane.y(plane.top));
+            return push_end(html, plane.x(tick), plane.y(plane.top), "14");
         }
         if count != last {
             push_step(html, plane.x(tick), plane.y(count));
@@ -230,7 +266,7 @@ fn push_taken<S: ServiceBound>(html: &mut Html, service: &S, plane: Plane) {
         }
     }
     html.add("H388");
-    push_end(html, plane.x(plane.span), plane.y(last))
+    push_end(html, plane.x(plane.span), plane.y(last), "24")
 }
 
 /// Adds the greatest height between the curves: over tick w, from what is taken by the end of the tick before it.
@@ -288,6 +324,15 @@ fn push_measures<A: ArrivalBound, S: ServiceBound>(
     if let Some(late) = marks.late {
         push_width(html, plane, late, come(arrivals, late.at));
     }
+    if let End::Never(ticks) = marks.end {
+        let by = u64::from(ticks);
+        let (foot, top) = (taken(service, by), come(arrivals, by));
+        let left = Measure {
+            at: by,
+            size: top.saturating_sub(foot),
+        };
+        push_height(html, plane, left, foot, top);
+    }
 }
 
 /// Adds what the two measures are.
@@ -307,6 +352,36 @@ fn push_meanings(html: &mut Html, marks: &Marks) {
             ],
         );
     }
+}
+
+/// Adds what is left of what came, where no window closes: by the last tick that is shown, and by the longest window.
+fn push_left<A: ArrivalBound, S: ServiceBound>(
+    html: &mut Html,
+    arrivals: &A,
+    service: &S,
+    marks: &Marks,
+) {
+    let End::Never(ticks) = marks.end else {
+        return;
+    };
+    html.add("<p class='s'><span class='k w'></span>what may be left of it: ");
+    for by in [u64::from(ticks), u64::from(LONGEST_WINDOW)] {
+        let left = come(arrivals, by).saturating_sub(taken(service, by));
+        html.put(
+            "{} by tick {} <small>({} ms)</small>",
+            &[
+                Times(marks.unit, left as usize),
+                Number(by),
+                Thousandths(marks.tick.millis(by).0),
+            ],
+        );
+        html.add(if by < u64::from(LONGEST_WINDOW) {
+            ", "
+        } else {
+            ""
+        });
+    }
+    html.add("</p>\n")
 }
 
 /// Adds what the lines of a plot mean, and that not every tick is drawn, where that is so.
@@ -346,12 +421,17 @@ pub fn push_plot<A: ArrivalBound, S: ServiceBound>(
         .max(1);
     let plane = Plane { span, top };
     html.add(
-        "<svg role='img' viewBox='0 0 400 220'>\n<title>what may come, and what is surely served</title><desc>Two curves over ticks: the upper one is what may come or fall due, the lower one what is surely taken or sent. The window ends where the lower one meets it.</desc>\n",
+        "<svg role='img' viewBox='0 0 400 220'>\n<title>what may come, and what is surely served</title><desc>Two curves over ticks: the upper one is what may come or fall due, the lower one what is surely taken or sent. ",
     );
+    html.add(match marks.end {
+        End::Window(_) => "The window ends where the lower one meets it.</desc>\n",
+        End::Never(_) => "The lower one never meets it: no window closes.</desc>\n",
+    });
     push_axes(html, plane, marks);
     push_come(html, arrivals, plane);
     push_taken(html, service, plane);
     push_measures(html, arrivals, service, plane, marks);
     html.add("</svg>\n");
-    push_legend(html, plane, marks)
+    push_legend(html, plane, marks);
+    push_left(html, arrivals, service, marks)
 }

@@ -1,5 +1,6 @@
 //! The conditions of a certificate with their margins, as the page shows them.
 
+use crate::standing::Standing;
 use crate::time::TickLength;
 use dc_busy::LONGEST_WINDOW;
 use dc_check::{CertificateList, Condition};
@@ -46,6 +47,16 @@ pub fn remedy(condition: Condition) -> &'static str {
         Condition::AgeTooSmall => "a greater age",
         Condition::AgeOverLimit => "a smaller age, or a shorter stale",
         Condition::SourceGoesStale => "a longer stale",
+    }
+}
+
+/// What to do where it fails on a label, whatever is accepted of the inputs and outputs.
+pub fn remedy_sought(condition: Condition) -> &'static str {
+    match condition {
+        Condition::AgeOverLimit => {
+            "a greater limit, a shorter stale, or more steps of the routers of its sources"
+        }
+        _ => remedy(condition),
     }
 }
 
@@ -102,8 +113,8 @@ fn push_decider(html: &mut Html, margin: Option<Margin>, tick: TickLength) {
     }
 }
 
-/// Adds a line to a table of margins, and what to do where it is negative.
-fn push_line(html: &mut Html, line: MarginLine, tick: TickLength) {
+/// Adds a line to a table of margins, and what to do where it is negative, if that was not said with its number.
+fn push_line(html: &mut Html, line: MarginLine, tick: TickLength, standing: Standing) {
     push_code(html, line);
     html.add("</td><td>");
     html.add(asks(line.condition));
@@ -111,18 +122,20 @@ fn push_line(html: &mut Html, line: MarginLine, tick: TickLength) {
     html.add("</td><td class='n'>");
     push_slack(html, line, tick);
     html.add("</td></tr>\n");
-    if line.is_negative() {
+    if line.is_negative() && !standing.is_sought() {
         html.add("<tr><td></td><td colspan='2' class='todo'>What to do: ");
         html.add(remedy(line.condition));
         html.add("</td></tr>\n");
     }
 }
 
-/// Adds a table of margins.
-pub fn push_lines(html: &mut Html, lines: &[MarginLine], tick: TickLength) {
+/// Adds a table of margins; of those of what was found the ones that are told.
+pub fn push_lines(html: &mut Html, lines: &[MarginLine], tick: TickLength, standing: Standing) {
     html.add("<table><tr><th>Rule</th><th>What it asks</th><th>Margin</th></tr>\n");
     for line in lines {
-        push_line(html, *line, tick);
+        if line.margin.is_some() || !standing.is_sought() {
+            push_line(html, *line, tick, standing);
+        }
     }
     html.add("</table>\n")
 }

@@ -4,6 +4,7 @@ use crate::names::{member, push_member};
 use crate::rules::{asks, remedy};
 use crate::time::TickLength;
 use dc_check::{CheckFault, Condition};
+use dc_find::FindFault;
 use dc_page_text::Hole::{Number, Thousandths, Times};
 use dc_page_text::{Html, Unit};
 use dc_tables::Tables;
@@ -52,4 +53,27 @@ pub fn push_refused(html: &mut Html, tables: &Tables, fault: CheckFault) {
     html.add(". Nothing is promised.</p><p class='todo'>What to do: ");
     html.add(remedy(fault.condition));
     html.add("</p><p>")
+}
+
+/// That no certificate is accepted, up to the line of what stands first in the way of one.
+pub const SOUGHT: &str =
+    "<div class='verdict no'><p><b>&#10007; No certificate is accepted: <code>";
+
+/// Adds behind that line what it says.
+pub fn push_sought(html: &mut Html, fault: FindFault) {
+    html.add("</code>.</b> ");
+    match fault {
+        FindFault::WindowNeverCloses(_) => {
+            html.add("No window of 1 to 100,000 ticks closes there")
+        }
+        FindFault::QueueTooShort(_) => html.add("More words may wait there than the queue holds"),
+        FindFault::LabelRule(_, condition) => {
+            html.add(
+                "Whatever is accepted of the inputs and outputs, a rule fails there that asks that ",
+            );
+            html.add(asks(condition))
+        }
+        FindFault::Memory => {}
+    }
+    html.add(". Nothing is promised.</p><p>")
 }
