@@ -1,12 +1,11 @@
 -- What `report` answers, and what it reports from what the frame does.
-use Rattle.std.proofs.Common.{◌≡◌, ◌≢◌, ℕ, ◌+◌, List, [], ◌∷◌, refl, ap, subst, Option, IfOk, Result, Ok, Err, inl, inr}
+use Rattle.std.proofs.Common.{◌≡◌, ℕ, ◌+◌, ◌++◌, List, [], ◌∷◌, refl, ap, subst, sym, ◌∙◌, append-nil, append_assoc, Option, IfOk, Result, Ok, Err, inl, inr}
 use Rattle.dc_cert.specs.NamedRows.{NamedRows, named_rows}
 use Rattle.dc_cert.specs.Reading.{Reading as CertificateReading, certificate_of}
 use Rattle.dc_check.specs.Verdict.{verdict_of}
 use Rattle.dc_find.specs.Least.{IsLeastAccepted, NoneAccepted}
 use Rattle.dc_find.specs.Ways.{IsFirstInTheWay}
 use Rattle.dc_find.specs.declared.fault.FindFault.{FindFault}
-use Rattle.dc_find.specs.declared.fault.FindFault.TheVariants.{Memory as NoMemory}
 use Rattle.dc_document.specs.declared.fault.BuildError.TheVariants.{Refused as RefusedTables, Memory as NoTables}
 use Rattle.dc_build.specs.Reported.{AreTablesOf, AreWrittenBy}
 use Rattle.dc_build.specs.Written.{WrittenRows}
@@ -17,14 +16,14 @@ use Rattle.dc_toml.specs.Written.{Written}
 use Rattle.dc_answer.specs.Answer.{Answer, Reported, WholeOrNone, one_line}
 use Rattle.dc_answer.specs.Exits.{is_answered}
 use Rattle.dc_answer.specs.Inputs.{AnswersCertificate, AnswersWritten, AnswersClaims as FrameClaims}
-use Rattle.dc_answer.specs.Judging.{Keeps}
+use Rattle.dc_answer.specs.Judging.{Keeps, Says}
 use Rattle.dc_answer.specs.declared.exit.Exit.{Exit}
 use Rattle.dc_answer.specs.declared.exit.Outcome.{Outcome}
 use Rattle.dc_answer.specs.declared.exit.Outcome.TheVariants.{Done, Refused as WasRefused}
-use Rattle.dc_answer.specs.lemmas.Judgments.{one_said}
+use Rattle.dc_answer.specs.lemmas.Judgments.{kept_as, one_said}
 use Rattle.dc_answer.specs.lemmas.Plain.{of_one, of_two, reported_as, whole_as}
 use Rattle.dc_run.specs.Find.{obstacle_text}
-use Rattle.dc_run_report.specs.Paper.{AnswersClaims, AnswersLeast, AnswersReport, AnswersRows, IsPage, ReportsLeast, ReportsPage, outcome_of}
+use Rattle.dc_run_report.specs.Paper.{AnswersClaims, AnswersLeast, AnswersReport, AnswersRows, AnswersSought, Holds, IsPage, ReportsLeast, ReportsPage, outcome_of}
 
 -- ---- what is told
 
@@ -37,11 +36,23 @@ pub found_kept : {E : Type 0} (t : TableRows) (claims : NamedRows) (text : List 
 found_kept t claims text (Ok o) least is = one_said (AnswersRows t) text text o refl (inl (claims, least, (text, ap (one_line text) is)))
 found_kept t claims text (Err e) least is = tt
 
-pub obstacle_kept : {E : Type 0} (t : TableRows) (fault : FindFault) (text : List ℕ) (result : Result Outcome E) → (fault ≢ NoMemory → NoneAccepted t) → (fault ≢ NoMemory → IsFirstInTheWay t fault)
-    → IfOk result (λ x. text ≡ obstacle_text t fault) → IfOk result (λ o. o ≡ WasRefused) → IfOk result (λ x. fault ≢ NoMemory) → Keeps (AnswersRows t) text result
-obstacle_kept t fault text (Ok o) none first kept is some =
-    one_said (AnswersRows t) text (obstacle_text t fault) o kept (inr (record { fault = fault; none = none some; first = first some; said = ap (one_line (obstacle_text t fault)) is }))
-obstacle_kept t fault text (Err e) none first kept is some = tt
+-- a page with the line of what stands first in the way
+pub sought_kept : (t : TableRows) (fault : FindFault) (text : List ℕ) (o : Outcome) → NoneAccepted t → IsFirstInTheWay t fault → Holds (obstacle_text t fault) text → o ≡ WasRefused
+    → Says (AnswersSought t) text o
+sought_kept t fault text o none first holds is =
+    one_said (AnswersSought t) text text o refl (record { fault = fault; none = none; first = first; page = text; holds = holds; said = ap (one_line text) is })
+
+-- the same, as one of both answers
+pub rows_kept : {E : Type 0} (t : TableRows) (text : List ℕ) (result : Result Outcome E) → Keeps (AnswersSought t) text result → Keeps (AnswersRows t) text result
+rows_kept t text result = kept_as (AnswersSought t) (AnswersRows t) text result (λ answer is. inr is)
+
+-- a line behind what was kept before, and what is added behind it
+pub line_held : (front line old new : List ℕ) → old ≡ front → new ≡ old ++ line → Holds line new
+line_held front line old new same is = (front, [], is ∙ ap (λ x. x ++ line) same ∙ ap (λ x. front ++ x) (sym (append-nil line)))
+
+pub more_held : (line old back new : List ℕ) → Holds line old → new ≡ old ++ back → Holds line new
+more_held line old back new (front, rest, is) more =
+    (front, rest ++ back, more ∙ ap (λ x. x ++ back) is ∙ append_assoc front (line ++ rest) back ∙ ap (λ x. front ++ x) (append_assoc line rest back))
 
 -- ---- what is reported
 

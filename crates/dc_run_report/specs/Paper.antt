@@ -1,11 +1,13 @@
 -- What `report` answers to the texts of tables and of a certificate: a page, whose words no clause says, and the outcome.
-use Rattle.std.specs.Prelude.{◌≡◌, ◌⊎◌, ℕ, Option, Some, None, List, Result, Ok, Err}
+use Rattle.std.specs.Prelude.{◌≡◌, ◌⊎◌, ℕ, ◌++◌, Option, Some, None, List, Result, Ok, Err}
 use Rattle.dc_cert.specs.NamedRows.{NamedRows}
 use Rattle.dc_cert.specs.Faults.{fault_text}
 use Rattle.dc_cert.specs.Reading.{Reading, certificate_of}
 use Rattle.dc_check.specs.Verdict.{verdict_of}
 use Rattle.dc_check.specs.declared.fault.CheckFault.{CheckFault}
-use Rattle.dc_find.specs.Least.{IsLeastAccepted}
+use Rattle.dc_find.specs.Least.{IsLeastAccepted, NoneAccepted}
+use Rattle.dc_find.specs.Ways.{IsFirstInTheWay}
+use Rattle.dc_find.specs.declared.fault.FindFault.{FindFault}
 use Rattle.dc_tables.specs.TableRows.{TableRows}
 use Rattle.dc_document.specs.declared.fault.BuildError.{BuildError}
 use Rattle.dc_document.specs.declared.fault.BuildError.TheVariants.{Refused, Memory as NoMemory}
@@ -17,7 +19,7 @@ use Rattle.dc_answer.specs.Inputs.{tables_end}
 use Rattle.dc_answer.specs.declared.exit.Exit.{Exit}
 use Rattle.dc_answer.specs.declared.exit.Outcome.{Outcome}
 use Rattle.dc_answer.specs.declared.exit.Outcome.TheVariants.{Done, Refused as WasRefused}
-use Rattle.dc_run.specs.Find.{AnswersObstacle}
+use Rattle.dc_run.specs.Find.{obstacle_text}
 
 -- the outcome of a verdict
 abbrev pub outcome_of : Option CheckFault → Outcome
@@ -45,9 +47,22 @@ AnswersReport tables certificate answer = (read : Result TableRows BuildError) �
 
 -- ---- without a certificate
 
--- to tables alone: a page on the least certificate that is accepted; or, where none is, what stands first in the way of one
+-- in a text there stands a line
+abbrev pub Holds : (line text : List ℕ) → Type 0
+Holds line text = (front back : List ℕ) × (text ≡ front ++ (line ++ back))
+
+-- none is accepted: a page in which there stands the line of what is first in the way of one, as `find` has it
+pub record AnswersSought (t : TableRows) (answer : Answer) : Type 0 where
+  pub fault : FindFault
+  pub none : NoneAccepted t
+  pub first : IsFirstInTheWay t fault
+  pub page : List ℕ
+  pub holds : Holds (obstacle_text t fault) page
+  pub said : answer ≡ one_line page WasRefused
+
+-- to tables alone: a page on the least certificate that is accepted, or on what was found where none is
 abbrev pub AnswersRows : TableRows → Answer → Type 0
-AnswersRows t answer = ((claims : NamedRows) × IsLeastAccepted t claims × IsPage Done answer) ⊎ AnswersObstacle t answer
+AnswersRows t answer = ((claims : NamedRows) × IsLeastAccepted t claims × IsPage Done answer) ⊎ AnswersSought t answer
 
 -- to what the text of tables says: the same for tables, the line of the first fault else; not memory, which is a failure
 abbrev pub AnswersAlone : Answer → Result TableRows BuildError → Type 0

@@ -7,7 +7,7 @@ use dc_drift::{
     declared_sent, declared_source, declared_spacing, oldest, sent_intervals, source_intervals,
     wire_spacing,
 };
-use dc_page::{Drifted, LabelDrift, SourceDrift, WireDrift};
+use dc_page::{Drift, Drifted, LabelDrift, SourceDrift, WireDrift};
 use std::alloc::{AllocError, Global};
 
 /// What is shown of wires, streams and labels.
@@ -19,6 +19,18 @@ pub(crate) struct Shown {
     pub sources: Vec<SourceDrift>,
     /// Of the labels.
     pub labels: Vec<LabelDrift>,
+}
+
+impl Shown {
+    /// The same as the page takes it, of a drift in millionths.
+    pub(crate) fn drift(&self, ppm: u16) -> Drift<'_> {
+        Drift {
+            ppm: u32::from(ppm),
+            wires: self.wires.as_slice(),
+            sources: self.sources.as_slice(),
+            labels: self.labels.as_slice(),
+        }
+    }
 }
 
 /// A number of microseconds beside what is declared.

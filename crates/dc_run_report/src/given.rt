@@ -10,6 +10,7 @@ ghost use Rattle.dc_document.specs.declared.limits.TheConstants.{TEXT_LIMIT};
 ghost use Rattle.dc_toml.specs.Reading.{tables_of};
 ghost use Rattle.dc_run_report.specs.Paper.{IsPage, ReportsPage, outcome_of};
 
+use crate::identity::{PageOf, Shown};
 use crate::pages::keep_page;
 use dc_answer::{End, Exit, Outcome, Page, ReadCertificate, ReadWritten, Tell, Then, With, run};
 use dc_build::WrittenTables;
@@ -23,13 +24,13 @@ fn keep_judged(
     alloc: Global,
     written: &WrittenTables,
     certificate: &Certificate,
-    drift: Option<u16>,
+    shown: Shown<'_>,
     page: &mut Page,
 ) -> Result<Outcome, AllocError>
     ensures outcome { IfOk result (λ o. o ≡ outcome_of (verdict_of written.now.tables (named_rows certificate.now))) }
 {
     let fault = verdict(written.tables(), certificate).err();
-    keep_page(alloc, written, certificate, fault, drift, page)
+    keep_page(alloc, written, certificate, fault, shown, page)
 }
 
 /// Judges a certificate, and keeps the page on it.
@@ -37,23 +38,23 @@ fn report_on(
     alloc: Global,
     written: &WrittenTables,
     certificate: &Certificate,
-    drift: Option<u16>,
+    shown: Shown<'_>,
     page: &mut Page,
 ) -> Result<Outcome, AllocError>
     ensures { Keeps (IsPage (outcome_of (verdict_of written.now.tables (named_rows certificate.now)))) page.new result }
 {
-    keep_judged(alloc, written, certificate, drift, page)
+    keep_judged(alloc, written, certificate, shown, page)
 }
 
 /// Makes the page on a certificate for tables, with the outcome of its verdict. No clause says what stands in the page:
 /// it is tested.
-#[derive(Clone, Copy, Debug)]
-pub struct Report {
-    /// The drift of clocks, in millionths, on which the page has a section.
-    pub drift: Option<u16>,
+#[derive(Clone, Copy)]
+pub struct Report<'a> {
+    /// What the page shows beside them.
+    pub shown: Shown<'a>,
 }
 
-impl Tell<(WrittenTables, Certificate)> for Report {
+impl<'a> Tell<(WrittenTables, Certificate)> for Report<'a> {
     ghost answers = { λ _ known. IsPage (outcome_of (verdict_of known.0.tables (named_rows known.1))) };
 
     fn tell(
@@ -63,7 +64,7 @@ impl Tell<(WrittenTables, Certificate)> for Report {
         page: &mut Page,
     ) -> Result<Outcome, AllocError> {
         let (written, certificate) = known;
-        report_on(alloc, &written, &certificate, self.drift, page)
+        report_on(alloc, &written, &certificate, self.shown, page)
     }
 }
 
@@ -100,6 +101,36 @@ pub fn run_report<T: Source, C: Source, K: Sink>(
     ensures quiet { result ≢ Exit.Failed → (T.state tables.new).failed + (C.state certificate.new).failed + (K.state sink.new).failed
         ≡ (T.state tables.old).failed + (C.state certificate.old).failed + (K.state sink.old).failed }
 {
+    run_report_of(alloc, drift, None, tables, certificate, sink)
+}
+
+/// Writes the page as [`run_report`] does, at whose head it stands what it is of, where that is given: the digests of the
+/// texts are made by their sources while these are read.
+pub fn run_report_of<T: Source, C: Source, K: Sink>(
+    alloc: Global,
+    drift: Option<u16>,
+    of: Option<PageOf<'_>>,
+    tables: &mut T,
+    certificate: &mut C,
+    sink: &mut K,
+) -> Exit
+    requires tables { IsCountable (T.state tables.old) }
+    requires certificate { IsCountable (C.state certificate.old) }
+    requires sink { CanFail (K.state sink.old) }
+    ensures reports { (rows given : List ℕ) → (T.state tables.old).remaining ≡ Some rows → (C.state certificate.old).remaining ≡ Some given
+        → ReportsPage rows given (K.state sink.old).contents (K.state sink.new).contents
+        ((T.state tables.old).failed + (C.state certificate.old).failed) ((T.state tables.new).failed + (C.state certificate.new).failed)
+        (K.state sink.old).failed (K.state sink.new).failed result }
+    ensures reported { Reported Any (K.state sink.old).contents (K.state sink.new).contents
+        ((T.state tables.old).failed + (C.state certificate.old).failed) ((T.state tables.new).failed + (C.state certificate.new).failed)
+        (K.state sink.old).failed (K.state sink.new).failed result }
+    ensures asks_tables { AsksUpTo TEXT_LIMIT (T.state tables.old) (T.state tables.new) }
+    ensures asks_certificate { AsksUpTo TEXT_LIMIT (C.state certificate.old) (C.state certificate.new) }
+    ensures order { IfSome (T.state tables.old).remaining (λ rows. OnlyBehind (tables_of rows) (certificate.new ≡ certificate.old)) }
+    ensures left { LeavesSink (K.state sink.old).failed (K.state sink.new).failed (K.state sink.new).last_failed (K.state sink.new).hidden }
+    ensures quiet { result ≢ Exit.Failed → (T.state tables.new).failed + (C.state certificate.new).failed + (K.state sink.new).failed
+        ≡ (T.state tables.old).failed + (C.state certificate.old).failed + (K.state sink.old).failed }
+{
     let mut given = With {
         first: tables,
         rest: With {
@@ -107,6 +138,8 @@ pub fn run_report<T: Source, C: Source, K: Sink>(
             rest: End,
         },
     };
-    let engine = ReadWritten(ReadCertificate(Then(Report { drift })));
+    let engine = ReadWritten(ReadCertificate(Then(Report {
+        shown: Shown { drift, of },
+    })));
     run(&(), alloc, &engine, &mut given, sink)
 }

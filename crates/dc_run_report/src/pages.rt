@@ -5,11 +5,12 @@ ghost use Rattle.dc_check.specs.Verdict.{verdict_of};
 ghost use Rattle.dc_run_report.specs.Paper.{outcome_of};
 
 use crate::drift::rows_shown;
+use crate::identity::{PageOf, Shown, identity_of};
 use dc_answer::{Outcome, Page};
 use dc_build::WrittenTables;
 use dc_cert::Certificate;
 use dc_check::CheckFault;
-use dc_page::Drift;
+use dc_page::{Identity, page_of};
 use std::alloc::{AllocError, Global};
 
 /// The outcome of a verdict: accepted, or a fault.
@@ -29,6 +30,7 @@ fn drifting_page(
     certificate: &Certificate,
     fault: Option<CheckFault>,
     drift: u16,
+    identity: Option<&Identity<'_>>,
 ) -> Result<String, AllocError>
     requires { fault ≡ verdict_of written.now.tables (named_rows certificate.now) }
 {
@@ -37,33 +39,67 @@ fn drifting_page(
         Some(_) => None,
     };
     let rows = rows_shown(alloc, written, accepted, drift)?;
-    let drift = Drift {
-        ppm: u32::from(drift),
-        wires: rows.wires.as_slice(),
-        sources: rows.sources.as_slice(),
-        labels: rows.labels.as_slice(),
-    };
-    dc_page::page_with_drift(alloc, written.tables(), certificate, fault, &drift)
+    page_of(
+        alloc,
+        written.tables(),
+        certificate,
+        fault,
+        Some(&rows.drift(drift)),
+        identity,
+    )
 }
 
 /// The page on a certificate, with a section on clocks that drift where a drift is given.
-fn page_text(
+fn page_beside(
     alloc: Global,
     written: &WrittenTables,
     certificate: &Certificate,
     fault: Option<CheckFault>,
     drift: Option<u16>,
+    identity: Option<&Identity<'_>>,
 ) -> Result<String, AllocError>
     requires { fault ≡ verdict_of written.now.tables (named_rows certificate.now) }
 {
     match drift {
-        None => dc_page::page(alloc, written.tables(), certificate, fault),
-        Some(drift) => drifting_page(alloc, written, certificate, fault, drift),
+        None => page_of(alloc, written.tables(), certificate, fault, None, identity),
+        Some(drift) => drifting_page(alloc, written, certificate, fault, drift, identity),
     }
 }
 
-/// Keeps the page on a certificate, given the fault of its verdict, with the outcome of that; with a section on clocks
-/// that drift where a drift is given, in millionths.
+/// The page on a certificate, that says what it is of.
+fn identified_page(
+    alloc: Global,
+    written: &WrittenTables,
+    certificate: &Certificate,
+    fault: Option<CheckFault>,
+    drift: Option<u16>,
+    of: PageOf<'_>,
+) -> Result<String, AllocError>
+    requires { fault ≡ verdict_of written.now.tables (named_rows certificate.now) }
+{
+    let digits = of.digits(alloc)?;
+    let identity = identity_of(of, &digits);
+    page_beside(alloc, written, certificate, fault, drift, Some(&identity))
+}
+
+/// The page on a certificate, with what is shown beside it.
+fn page_text(
+    alloc: Global,
+    written: &WrittenTables,
+    certificate: &Certificate,
+    fault: Option<CheckFault>,
+    shown: Shown<'_>,
+) -> Result<String, AllocError>
+    requires { fault ≡ verdict_of written.now.tables (named_rows certificate.now) }
+{
+    match shown.of {
+        None => page_beside(alloc, written, certificate, fault, shown.drift, None),
+        Some(of) => identified_page(alloc, written, certificate, fault, shown.drift, of),
+    }
+}
+
+/// Keeps the page on a certificate, given the fault of its verdict, with the outcome of that; and with what is shown
+/// beside it.
 ///
 /// # Errors
 /// `AllocError` where memory was refused.
@@ -72,13 +108,13 @@ pub fn keep_page(
     written: &WrittenTables,
     certificate: &Certificate,
     fault: Option<CheckFault>,
-    drift: Option<u16>,
+    shown: Shown<'_>,
     page: &mut Page,
 ) -> Result<Outcome, AllocError>
     requires { fault ≡ verdict_of written.now.tables (named_rows certificate.now) }
     ensures outcome { IfOk result (λ o. o ≡ outcome_of fault) }
 {
-    let text = page_text(alloc, written, certificate, fault, drift)?;
+    let text = page_text(alloc, written, certificate, fault, shown)?;
     page.keep(text.as_bytes())?;
     Ok(outcome(fault))
 }
