@@ -283,6 +283,23 @@ class Judge:
         return [obstacle, *(it.line for it in self.conditions(certificate))] if obstacle else self.margins(certificate)
 
 
+def fields_of(line):
+    """What an object of `margins --json` says of the line of a margin, with its microseconds where it has them: `-` is nothing."""
+    part, name, code, amount, unit, by, *us = line.split()
+    fields = {"part": part, "name": name, "code": code, "amount": amount, "unit": unit, "where": by}
+    if us:
+        fields["us"] = us[0].removesuffix("us")
+    numbers = {key: int(fields[key]) for key in ("amount", "us") if fields.get(key, "-") not in ("-", "none")}
+    return {key: None if it == "-" else it for key, it in {**fields, **numbers}.items()}
+
+
+def objects_of(lines):
+    """The lines of `margins` as `margins --json` tells them."""
+    verdict, *lines = lines
+    margins = [fields_of(it) if it.split()[0] in ("input", "output", "label") else {"line": it} for it in lines]
+    return [text_of(it) for it in [{"verdict": verdict}, *margins]]
+
+
 def text_of(certificate):
-    """The text of a certificate in the compact form, keys in the order of their bytes."""
+    """The text of a certificate, or of such an object, in the compact form, keys in the order of their bytes."""
     return json.dumps(certificate, sort_keys=True, separators=(",", ":"))

@@ -18,10 +18,12 @@ use Rattle.dc_build.specs.Written.{WrittenRows}
 use Rattle.dc_tables.specs.TableRows.{TableRows}
 use Rattle.dc_run_margins.proofs.Feeding.{fed-both, fed-spelled}
 use Rattle.dc_run_margins.specs.Drift.{lines_of_drift}
-use Rattle.dc_run_margins.specs.declared.drift.InTime.{InTime}
+use Rattle.dc_run_margins.specs.Telling.{told_as}
+use Rattle.dc_run_margins.specs.declared.telling.LineKey.TheVariants.{Verdict}
+use Rattle.dc_run_margins.specs.declared.telling.Telling.{Telling}
 use Rattle.dc_run_margins.specs.Margins.{Answers, AnswersReached, AnswersRows, answer_margins, fed, lines_reached}
 
-module _ (told : InTime) (w : WrittenRows) where
+module _ (told : Telling) (w : WrittenRows) where
   -- the least certificate was judged
   pub found_judged : {E : Type 0} (claims : NamedRows) (text : List ℕ) (result : Result Outcome E) → IsLeastAccepted w.tables claims → Answers (answer_margins told w claims) text result
       → Keeps (AnswersRows told w) text result
@@ -32,24 +34,25 @@ module _ (told : InTime) (w : WrittenRows) where
   -- none is accepted: the line, those of the margins of what was reached and of what is behind, and those of a drift
   abbrev pub JudgedObstacle : TableRows → Type 0
   JudgedObstacle t = (fault : FindFault) (claims : NamedRows) (jobs : ℕ) (old mid text : List ℕ) (outcome : Outcome) → NoneAccepted w.tables → IsFirstInTheWay w.tables fault
-      → jobs ≡ jobs_reached t fault → IsReached t jobs claims → IsFound t claims → old ≡ obstacle_text t fault
-      → mid ≡ old ++ fed (lines_reached told.microseconds jobs t (numbers_of claims)) → text ≡ mid ++ fed (lines_of_drift w told.drift None) → outcome ≡ WasRefused
+      → jobs ≡ jobs_reached t fault → IsReached t jobs claims → IsFound t claims → old ≡ told_as told.json Verdict (obstacle_text t fault)
+      → mid ≡ old ++ fed (lines_reached told jobs t (numbers_of claims)) → text ≡ mid ++ fed (lines_of_drift told.json w told.drift None) → outcome ≡ WasRefused
       → Says (AnswersReached told w) text outcome
 
   obstacle_judged : JudgedObstacle w.tables
   obstacle_judged fault claims jobs old mid text outcome none first count reached found line lines more is =
-      let first_line = obstacle_text w.tables fault in
-      let behind : ℕ → List (List ℕ) = λ n. lines_reached told.microseconds n w.tables (numbers_of claims) ++ lines_of_drift w told.drift None in (
+      let plain = obstacle_text w.tables fault in
+      let first_line = told_as told.json Verdict plain in
+      let behind : ℕ → List (List ℕ) = λ n. lines_reached told n w.tables (numbers_of claims) ++ lines_of_drift told.json w told.drift None in (
         record { lines = first_line ∷ behind (jobs_reached w.tables fault); outcome = WasRefused },
         record {
-          line = one_line first_line WasRefused;
+          line = one_line plain WasRefused;
           obstacle = record { fault = fault; none = none; first = first; said = refl };
           claims = claims;
           reached = subst (λ n. IsReached w.tables n claims) count reached;
           found = found;
           is = refl;
         },
-        ap (λ l. l ++ 10 ∷ []) (fed-both old mid text (lines_reached told.microseconds jobs w.tables (numbers_of claims)) (lines_of_drift w told.drift None) lines more
+        ap (λ l. l ++ 10 ∷ []) (fed-both old mid text (lines_reached told jobs w.tables (numbers_of claims)) (lines_of_drift told.json w told.drift None) lines more
             ∙ ap (λ l. l ++ fed (behind jobs)) line ∙ ap (λ n. first_line ++ fed (behind n)) count)
             ∙ fed-spelled first_line (behind (jobs_reached w.tables fault)),
         is,

@@ -1,3 +1,4 @@
 pub mod Feeding
+pub mod Enclosing
 pub mod Advising
 pub mod Finding

@@ -1,11 +1,13 @@
 -- What `margins` tells of clocks that drift by so many millionths: what they ask of sources, and what labels keep, in whole microseconds.
-use Rattle.std.specs.Prelude.{ℕ, zero, suc, if◌then◌else◌, Option, Some, None, List, [], ◌∷◌, ◌++◌, length, slice_index, codes, decimal}
+use Rattle.std.specs.Prelude.{ℕ, Bool, zero, suc, if◌then◌else◌, Option, Some, None, List, [], ◌∷◌, ◌++◌, length, slice_index, codes, decimal}
 use Rattle.dc_build.specs.Written.{WrittenRows}
 use Rattle.dc_drift.specs.Drift.{drifting_intervals, oldest_of}
 use Rattle.dc_event.specs.ReplyText.{name_at}
 use Rattle.dc_in_time.specs.Documents.{intervals_of}
 use Rattle.dc_run_margins.specs.declared.drift.DriftPart.{DriftPart}
 use Rattle.dc_run_margins.specs.declared.drift.DriftPart.TheVariants.{Wires, Sources, Sent}
+use Rattle.dc_run_margins.specs.declared.telling.LineKey.TheVariants.{Line}
+use Rattle.dc_run_margins.specs.Telling.{told_as}
 use Rattle.dc_tables.specs.TableRows.{TableRows, bus_row, is_policed}
 use Rattle.dc_time.specs.Intervals.{Intervals}
 
@@ -34,12 +36,18 @@ sent_text_by kept declared name age x =
     codes "sent " ++ name ++ figure_text (codes " least ") (kept.label_least x) (declared.label_least x)
     ++ figure_text (codes " most ") (kept.label_most x) (declared.label_most x) ++ codes " age " ++ age
 
--- the line of the bus, stream or label of this number; none of a bus that is policed
-abbrev pub drift_line : WrittenRows → (drift : ℕ) → Option (List ℕ) → DriftPart → ℕ → List (List ℕ)
-drift_line w drift ages Wires k = if is_policed w.tables k then [] else wire_text w.tables drift k ∷ []
-drift_line w drift ages Sources k = source_text_by (drifting_intervals w.tables drift) (intervals_of w.parts w.tables) (name_at w.tables.names.streams k) k ∷ []
-drift_line w drift ages Sent k =
-    sent_text_by (drifting_intervals w.tables drift) (intervals_of w.parts w.tables) (name_at w.tables.names.labels k) (oldest_text w.tables drift ages k) k ∷ []
+-- what is said of the bus, stream or label of this number
+abbrev pub drift_text : WrittenRows → (drift : ℕ) → Option (List ℕ) → DriftPart → ℕ → List ℕ
+drift_text w drift ages Wires k = wire_text w.tables drift k
+drift_text w drift ages Sources k = source_text_by (drifting_intervals w.tables drift) (intervals_of w.parts w.tables) (name_at w.tables.names.streams k) k
+drift_text w drift ages Sent k =
+    sent_text_by (drifting_intervals w.tables drift) (intervals_of w.parts w.tables) (name_at w.tables.names.labels k) (oldest_text w.tables drift ages k) k
+
+-- the line with it; none of a bus that is policed
+abbrev pub drift_line : (json : Bool) → WrittenRows → (drift : ℕ) → Option (List ℕ) → DriftPart → ℕ → List (List ℕ)
+drift_line json w drift ages Wires k = if is_policed w.tables k then [] else told_as json Line (drift_text w drift ages Wires k) ∷ []
+drift_line json w drift ages Sources k = told_as json Line (drift_text w drift ages Sources k) ∷ []
+drift_line json w drift ages Sent k = told_as json Line (drift_text w drift ages Sent k) ∷ []
 
 -- how many buses, streams or labels there are
 abbrev pub part_count : TableRows → DriftPart → ℕ
@@ -53,14 +61,14 @@ texts_below lines zero = []
 texts_below lines (suc n) = texts_below lines n ++ lines n
 
 -- the lines of all of a part
-abbrev pub part_lines : WrittenRows → (drift : ℕ) → Option (List ℕ) → DriftPart → List (List ℕ)
-part_lines w drift ages part = texts_below (drift_line w drift ages part) (part_count w.tables part)
+abbrev pub part_lines : (json : Bool) → WrittenRows → (drift : ℕ) → Option (List ℕ) → DriftPart → List (List ℕ)
+part_lines json w drift ages part = texts_below (drift_line json w drift ages part) (part_count w.tables part)
 
 -- the wires', the sources' and the labels'
-abbrev pub drift_lines : WrittenRows → (drift : ℕ) → Option (List ℕ) → List (List ℕ)
-drift_lines w drift ages = part_lines w drift ages Wires ++ (part_lines w drift ages Sources ++ part_lines w drift ages Sent)
+abbrev pub drift_lines : (json : Bool) → WrittenRows → (drift : ℕ) → Option (List ℕ) → List (List ℕ)
+drift_lines json w drift ages = part_lines json w drift ages Wires ++ (part_lines json w drift ages Sources ++ part_lines json w drift ages Sent)
 
 -- where a drift is asked for
-abbrev pub lines_of_drift : WrittenRows → Option ℕ → Option (List ℕ) → List (List ℕ)
-lines_of_drift w None ages = []
-lines_of_drift w (Some drift) ages = drift_lines w drift ages
+abbrev pub lines_of_drift : (json : Bool) → WrittenRows → Option ℕ → Option (List ℕ) → List (List ℕ)
+lines_of_drift json w None ages = []
+lines_of_drift json w (Some drift) ages = drift_lines json w drift ages

@@ -64,16 +64,25 @@ margin_text t line =
 
 -- ---- the same in microseconds
 
--- so many ticks in microseconds, as `-2000us`; `-` where no delay up to the longest passes
-abbrev pub room_microseconds : (tick : ℕ) → Option ℤ → List ℕ
-room_microseconds tick None = codes "-"
-room_microseconds tick (Some slack) = signed_decimal (slack *ℤ pos tick) ++ codes "us"
+-- so many ticks in microseconds; none where no delay up to the longest passes
+abbrev pub room_microseconds : (tick : ℕ) → Option ℤ → Option ℤ
+room_microseconds tick None = None
+room_microseconds tick (Some slack) = Some (slack *ℤ pos tick)
+
+-- the amount of a margin in microseconds; none where it counts words or is not told
+abbrev pub microseconds_of : (tick : ℕ) → Measure → Option Margin → Option ℤ
+microseconds_of tick Words margin = None
+microseconds_of tick Ticks None = None
+microseconds_of tick Ticks (Some margin) = room_microseconds tick margin.slack
+
+-- so many microseconds, as `-2000us`; `-` where there are none
+abbrev pub microseconds_text : Option ℤ → List ℕ
+microseconds_text None = codes "-"
+microseconds_text (Some us) = signed_decimal us ++ codes "us"
 
 -- the amount of a margin in microseconds; `-` where it counts words or is not told
 abbrev pub slack_microseconds : (tick : ℕ) → Measure → Option Margin → List ℕ
-slack_microseconds tick Words margin = codes "-"
-slack_microseconds tick Ticks None = codes "-"
-slack_microseconds tick Ticks (Some margin) = room_microseconds tick margin.slack
+slack_microseconds tick measure margin = microseconds_text (microseconds_of tick measure margin)
 
 -- the line of a margin, with that as one field more where microseconds are asked for
 unfoldable pub margin_line : (microseconds : Bool) → TableRows → MarginLine → List ℕ

@@ -3,9 +3,12 @@
 ghost use Rattle.std.specs.Prelude.{◌≡◌, ◌<◌, ◌++◌, ◌∷◌, [], None, IfOk, IfSome, decimal, option_map, slice_index};
 ghost use Rattle.dc_cert.specs.Bounds.{certificate_rows};
 ghost use Rattle.dc_check.specs.Verdict.{IsSized};
-ghost use Rattle.dc_run_margins.specs.Drift.{drift_line, drift_lines, figure_text, lines_of_drift, oldest_text, part_count, part_lines, wire_text};
+ghost use Rattle.dc_run_margins.specs.Drift.{drift_line, drift_lines, drift_text, figure_text, lines_of_drift, oldest_text, part_count, part_lines, wire_text};
 ghost use Rattle.dc_run_margins.specs.Margins.{fed};
+ghost use Rattle.dc_run_margins.specs.Telling.{told_as};
+ghost use Rattle.dc_run_margins.specs.declared.telling.LineKey.TheVariants.{Line};
 
+use crate::telling::{Telling, closing, fed_opening};
 use dc_answer::Page;
 use dc_build::WrittenTables;
 use dc_cert::Certificate;
@@ -15,15 +18,6 @@ use dc_drift::{
 use dc_tables::Tables;
 use itoa::Buffer;
 use std::alloc::AllocError;
-
-/// What is told of time beside the margins.
-#[derive(Clone, Copy, Debug, PartialEq, Eq)]
-pub struct InTime {
-    /// Whether each amount that counts ticks is told in microseconds too.
-    pub microseconds: bool,
-    /// The drift of clocks, in millionths, of which it is told what they ask and keep.
-    pub drift: Option<u16>,
-}
 
 /// Of what clocks that drift ask or keep something.
 #[derive(Clone, Copy, Debug, PartialEq, Eq)]
@@ -36,10 +30,12 @@ pub enum DriftPart {
     Sent,
 }
 
-/// What the lines of a drift are told of: tables beside their document, the drift in millionths, and the certificate
-/// where it is accepted.
+/// What the lines of a drift are told of, and how: tables beside their document, the drift in millionths, and the
+/// certificate where it is accepted.
 #[derive(Clone, Copy)]
 pub(crate) struct Drifting<'a> {
+    /// Whether each line is told as an object.
+    pub json: bool,
     /// The tables.
     pub written: &'a WrittenTables,
     /// The drift.
@@ -66,27 +62,27 @@ fn add_figure(page: &mut Page, word: &[u8], figure: u64, declared: u64) -> Resul
     add_number(page, declared)
 }
 
-/// Puts the line of the wire of this bus at the end, after a line feed.
+/// Puts what is said of the wire of this bus at the end.
 fn add_wire(shown: &Drifting<'_>, bus: usize, page: &mut Page) -> Result<(), AllocError>
     requires { bus < part_count shown.now.written.now.tables DriftPart.Wires }
-    ensures { IfOk result (λ _. page.new ≡ page.old ++ fed (wire_text shown.now.written.now.tables shown.now.drift bus ∷ [])) }
+    ensures { IfOk result (λ _. page.new ≡ page.old ++ wire_text shown.now.written.now.tables shown.now.drift bus) }
 {
     let tables = shown.written.tables();
-    page.add(b"\nwire ")?;
+    page.add(b"wire ")?;
     page.add(tables.bus_name(bus).text())?;
     let least = wire_spacing(tables, bus, shown.drift);
     add_figure(page, b" least ", least, u64::from(tables.bus(bus).spacing))
 }
 
-/// Puts the line of the stream of this number at the end, after a line feed.
+/// Puts what is said of the stream of this number at the end.
 fn add_source(shown: &Drifting<'_>, stream: usize, page: &mut Page) -> Result<(), AllocError>
     requires { stream < part_count shown.now.written.now.tables DriftPart.Sources }
-    ensures { IfOk result (λ _. page.new ≡ page.old ++ fed (drift_line shown.now.written.now shown.now.drift None DriftPart.Sources stream)) }
+    ensures { IfOk result (λ _. page.new ≡ page.old ++ drift_text shown.now.written.now shown.now.drift None DriftPart.Sources stream) }
 {
     let tables = shown.written.tables();
     let kept = source_intervals(tables, stream, shown.drift);
     let declared = declared_source(shown.written, stream);
-    page.add(b"\nsource ")?;
+    page.add(b"source ")?;
     page.add(tables.stream_name(stream).text())?;
     add_figure(page, b" least ", kept.least, declared.least)?;
     add_figure(page, b" most ", kept.most, declared.most)?;
@@ -120,22 +116,58 @@ fn add_oldest(shown: &Drifting<'_>, label: usize, page: &mut Page) -> Result<(),
     }
 }
 
-/// Puts the line of the label of this number at the end, after a line feed.
+/// Puts what is said of the label of this number at the end.
 fn add_sent(shown: &Drifting<'_>, label: usize, page: &mut Page) -> Result<(), AllocError>
     requires there { label < part_count shown.now.written.now.tables DriftPart.Sent }
     requires sized { IfSome shown.now.accepted (λ c. IsSized shown.now.written.now.tables (certificate_rows c.now)) }
-    ensures { IfOk result (λ _. page.new ≡ page.old ++ fed (drift_line shown.now.written.now shown.now.drift
-        (option_map (λ c. (certificate_rows c.now).ages) shown.now.accepted) DriftPart.Sent label)) }
+    ensures { IfOk result (λ _. page.new ≡ page.old ++ drift_text shown.now.written.now shown.now.drift
+        (option_map (λ c. (certificate_rows c.now).ages) shown.now.accepted) DriftPart.Sent label) }
 {
     let tables = shown.written.tables();
     let kept = sent_intervals(tables, label, shown.drift);
     let declared = declared_sent(shown.written, label);
-    page.add(b"\nsent ")?;
+    page.add(b"sent ")?;
     page.add(tables.label_name(label).text())?;
     add_figure(page, b" least ", kept.least, declared.least)?;
     add_figure(page, b" most ", kept.most, declared.most)?;
     page.add(b" age ")?;
     add_oldest(shown, label, page)
+}
+
+/// Puts what is said of the bus, stream or label of this number at the end.
+fn add_text(
+    shown: &Drifting<'_>,
+    part: DriftPart,
+    place: usize,
+    page: &mut Page,
+) -> Result<(), AllocError>
+    requires there { place < part_count shown.now.written.now.tables part }
+    requires sized { IfSome shown.now.accepted (λ c. IsSized shown.now.written.now.tables (certificate_rows c.now)) }
+    ensures { IfOk result (λ _. page.new ≡ page.old ++ drift_text shown.now.written.now shown.now.drift
+        (option_map (λ c. (certificate_rows c.now).ages) shown.now.accepted) part place) }
+{
+    match part {
+        DriftPart::Wires => add_wire(shown, place, page),
+        DriftPart::Sources => add_source(shown, place, page),
+        DriftPart::Sent => add_sent(shown, place, page),
+    }
+}
+
+/// Puts this as it is told at the end, after a line feed.
+fn add_told(
+    shown: &Drifting<'_>,
+    part: DriftPart,
+    place: usize,
+    page: &mut Page,
+) -> Result<(), AllocError>
+    requires there { place < part_count shown.now.written.now.tables part }
+    requires sized { IfSome shown.now.accepted (λ c. IsSized shown.now.written.now.tables (certificate_rows c.now)) }
+    ensures { IfOk result (λ _. page.new ≡ page.old ++ 10 ∷ told_as shown.now.json Line (drift_text shown.now.written.now shown.now.drift
+        (option_map (λ c. (certificate_rows c.now).ages) shown.now.accepted) part place)) }
+{
+    page.add(fed_opening(shown.json))?;
+    add_text(shown, part, place, page)?;
+    page.add(closing(shown.json))
 }
 
 /// Puts the line of the bus, stream or label of this number at the end, after a line feed; none of a bus that is
@@ -148,7 +180,7 @@ fn add_line(
 ) -> Result<(), AllocError>
     requires there { place < part_count shown.now.written.now.tables part }
     requires sized { IfSome shown.now.accepted (λ c. IsSized shown.now.written.now.tables (certificate_rows c.now)) }
-    ensures { IfOk result (λ _. page.new ≡ page.old ++ fed (drift_line shown.now.written.now shown.now.drift
+    ensures { IfOk result (λ _. page.new ≡ page.old ++ fed (drift_line shown.now.json shown.now.written.now shown.now.drift
         (option_map (λ c. (certificate_rows c.now).ages) shown.now.accepted) part place)) }
 {
     match part {
@@ -156,10 +188,10 @@ fn add_line(
             if shown.written.tables().bus(place).police {
                 return Ok(());
             }
-            add_wire(shown, place, page)
+            add_told(shown, DriftPart::Wires, place, page)
         }
-        DriftPart::Sources => add_source(shown, place, page),
-        DriftPart::Sent => add_sent(shown, place, page),
+        DriftPart::Sources => add_told(shown, DriftPart::Sources, place, page),
+        DriftPart::Sent => add_told(shown, DriftPart::Sent, place, page),
     }
 }
 
@@ -178,7 +210,7 @@ fn count(shown: &Drifting<'_>, part: DriftPart) -> usize
 /// Puts the lines of a part at the end, each after a line feed.
 fn add_part(shown: &Drifting<'_>, part: DriftPart, page: &mut Page) -> Result<(), AllocError>
     requires { IfSome shown.now.accepted (λ c. IsSized shown.now.written.now.tables (certificate_rows c.now)) }
-    ensures { IfOk result (λ _. page.new ≡ page.old ++ fed (part_lines shown.now.written.now shown.now.drift
+    ensures { IfOk result (λ _. page.new ≡ page.old ++ fed (part_lines shown.now.json shown.now.written.now shown.now.drift
         (option_map (λ c. (certificate_rows c.now).ages) shown.now.accepted) part)) }
 {
     for place in 0..count(shown, part) {
@@ -190,7 +222,7 @@ fn add_part(shown: &Drifting<'_>, part: DriftPart, page: &mut Page) -> Result<()
 /// Puts the lines of a drift at the end, each after a line feed: those of the wires, of the sources and of the labels.
 fn add_parts(shown: &Drifting<'_>, page: &mut Page) -> Result<(), AllocError>
     requires { IfSome shown.now.accepted (λ c. IsSized shown.now.written.now.tables (certificate_rows c.now)) }
-    ensures { IfOk result (λ _. page.new ≡ page.old ++ fed (drift_lines shown.now.written.now shown.now.drift
+    ensures { IfOk result (λ _. page.new ≡ page.old ++ fed (drift_lines shown.now.json shown.now.written.now shown.now.drift
         (option_map (λ c. (certificate_rows c.now).ages) shown.now.accepted))) }
 {
     add_part(shown, DriftPart::Wires, page)?;
@@ -202,18 +234,19 @@ fn add_parts(shown: &Drifting<'_>, page: &mut Page) -> Result<(), AllocError>
 /// Puts the lines of a drift at the end, each after a line feed, where one is asked for.
 pub(crate) fn add_drift(
     written: &WrittenTables,
-    drift: Option<u16>,
+    told: Telling,
     accepted: Option<&Certificate>,
     page: &mut Page,
 ) -> Result<(), AllocError>
     requires { IfSome accepted (λ c. IsSized written.now.tables (certificate_rows c.now)) }
-    ensures { IfOk result (λ _. page.new ≡ page.old ++ fed (lines_of_drift written.now drift
+    ensures { IfOk result (λ _. page.new ≡ page.old ++ fed (lines_of_drift told.json written.now told.drift
         (option_map (λ c. (certificate_rows c.now).ages) accepted.entry))) }
 {
-    let Some(drift) = drift else {
+    let Some(drift) = told.drift else {
         return Ok(());
     };
     let shown = Drifting {
+        json: told.json,
         written,
         drift,
         accepted,

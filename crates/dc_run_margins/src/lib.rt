@@ -5,7 +5,11 @@ mod drift;
 mod least;
 mod lines;
 mod margins;
+mod objects;
+mod telling;
+mod told;
 
-pub use drift::{DriftPart, InTime};
-pub use least::{MarginsLeast, run_margins_least};
-pub use margins::{Margins, run_margins};
+pub use drift::DriftPart;
+pub use least::{MarginsLeast, run_margins_least, run_margins_least_told};
+pub use margins::{Margins, run_margins, run_margins_told};
+pub use telling::{InTime, LineKey, Telling};

@@ -2,9 +2,9 @@
 
 ghost use Rattle.std.specs.Prelude.{◌≡◌, ◌++◌, ◌+◌, ◌<◌, ◌≤◌, IfSome, codes, drop, length};
 ghost use Rattle.arrayvec.specs.ArrayVec.{array_vec_len};
-ghost use Rattle.dc_run_margins.specs.Lines.{by_text, decider_text, margin_text, measure_text, name_field, number_field, member_field, slack_text};
+ghost use Rattle.dc_run_margins.specs.Lines.{by_text, decider_text, margin_text, measure_text, microseconds_of, name_field, number_field, member_field, slack_text};
 ghost use Rattle.dc_check.specs.Placed.{member_count};
-ghost use Rattle.dc_margin.specs.Lines.{IsDeciderThere, IsLinePlaced};
+ghost use Rattle.dc_margin.specs.Lines.{IsDeciderThere, IsLinePlaced, measure_of};
 ghost use Rattle.dc_print.specs.Verdicts.{member_name};
 ghost use Rattle.dc_document.specs.declared.limits.TheConstants.{NAME_LIMIT};
 ghost use Rattle.dc_print.specs.declared.text.TheConstants.{TEXT_CAPACITY};
@@ -40,7 +40,7 @@ fn member(list: CertificateList) -> &'static [u8]
 }
 
 /// The name of a bus, an output or a label.
-fn name(tables: &Tables, list: CertificateList, index: usize) -> &[u8]
+pub(crate) fn name(tables: &Tables, list: CertificateList, index: usize) -> &[u8]
     requires { index < member_count tables.now list }
     ensures text { result.now ≡ member_name tables.now list index }
     ensures short { length result.now ≤ NAME_LIMIT }
@@ -94,7 +94,7 @@ fn append_slack(text: &mut Text, margin: Option<Margin>)
 }
 
 /// What a margin counts.
-fn measure(measure: Measure) -> &'static [u8]
+pub(crate) fn measure(measure: Measure) -> &'static [u8]
     ensures text { result.now ≡ measure_text measure }
     ensures short { length result.now ≤ 5 }
 {
@@ -156,4 +156,16 @@ pub(crate) fn print_margin(text: &mut Text, tables: &Tables, line: &MarginLine)
     append(text, measure(line.measure()));
     append(text, b" ");
     append_by(text, tables, line.margin);
+}
+
+/// The amount of a margin in microseconds; `None` where it counts words, or is not told, or is no number.
+pub(crate) fn microseconds_of(tick_us: u32, line: &MarginLine) -> Option<i128>
+    ensures { result ≡ microseconds_of tick_us (measure_of line.now.condition) line.now.margin }
+{
+    if line.measure() == Measure::Words {
+        return None;
+    }
+    let margin = line.margin?;
+    let slack = margin.slack?;
+    Some(i128::from(slack) * i128::from(tick_us))
 }

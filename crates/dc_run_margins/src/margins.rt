@@ -13,17 +13,22 @@ ghost use Rattle.dc_margin.specs.Lines.{IsLinePlaced, measure_of};
 ghost use Rattle.dc_document.specs.declared.limits.TheConstants.{TEXT_LIMIT};
 ghost use Rattle.dc_toml.specs.Reading.{tables_of};
 ghost use Rattle.dc_run_margins.specs.Lines.{margin_line, slack_microseconds};
+ghost use Rattle.dc_run_margins.specs.Objects.{margin_told};
+ghost use Rattle.dc_run_margins.specs.Telling.{in_lines, told_as};
 ghost use Rattle.dc_run_margins.specs.Drift.{lines_of_drift};
 ghost use Rattle.dc_run_margins.specs.Margins.{Answers, ReportsMargins, ages_where, answer_margins, fed, verdict_line, verdict_outcome};
 
-use crate::drift::{InTime, add_drift};
-use crate::lines::print_margin;
+use crate::drift::add_drift;
+use crate::lines::{microseconds_of, print_margin};
+use crate::objects::add_object;
+use crate::telling::{InTime, LineKey, Telling, closing, opening};
+use crate::told::Told;
 use dc_answer::{End, Exit, Outcome, Page, ReadCertificate, ReadWritten, Tell, Then, With, run};
 use dc_build::WrittenTables;
 use dc_cert::Certificate;
 use dc_check::{CheckFault, misnamed, verdict};
 use dc_device::{Sink, Source};
-use dc_margin::{MarginLine, Measure, margin_lines, verdict_fault};
+use dc_margin::{MarginLine, margin_lines, verdict_fault};
 use dc_print::{Text, print_accepted, print_refused};
 use dc_tables::Tables;
 use itoa::Buffer;
@@ -33,38 +38,27 @@ use std::alloc::{AllocError, Global};
 fn add_microseconds(tick_us: u32, line: &MarginLine, page: &mut Page) -> Result<(), AllocError>
     ensures { IfOk result (λ _. page.new ≡ page.old ++ slack_microseconds tick_us (measure_of line.now.condition) line.now.margin) }
 {
-    if line.measure() == Measure::Words {
-        return page.add(b"-");
-    }
-    let Some(margin) = line.margin else {
-        return page.add(b"-");
-    };
-    let Some(slack) = margin.slack else {
+    let Some(us) = microseconds_of(tick_us, line) else {
         return page.add(b"-");
     };
     let mut buffer = Buffer::new();
-    page.add(
-        buffer
-            .format(i128::from(slack) * i128::from(tick_us))
-            .as_bytes(),
-    )?;
+    page.add(buffer.format(us).as_bytes())?;
     page.add(b"us")
 }
 
-/// Puts the line of a margin at the end, after a line feed.
+/// Puts the line of a margin at the end.
 #[tactic(auto, unfolding(crate::specs::Lines::margin_line))]
-pub(crate) fn append_line(
+fn add_fields(
     tables: &Tables,
     microseconds: bool,
     line: &MarginLine,
     page: &mut Page,
 ) -> Result<(), AllocError>
     requires { IsLinePlaced tables.now line.now }
-    ensures { IfOk result (λ _. page.new ≡ page.old ++ 10 ∷ margin_line microseconds tables.now line.now) }
+    ensures { IfOk result (λ _. page.new ≡ page.old ++ margin_line microseconds tables.now line.now) }
 {
     let mut printed = Text::new();
     print_margin(&mut printed, tables, line);
-    page.add(b"\n")?;
     page.add(printed.as_slice())?;
     if microseconds {
         page.add(b" ")?;
@@ -73,18 +67,36 @@ pub(crate) fn append_line(
     Ok(())
 }
 
-/// Puts the lines of margins at the end, each after a line feed.
+/// Puts a margin as it is told at the end, after a line feed.
+pub(crate) fn append_line(
+    tables: &Tables,
+    told: Telling,
+    line: &MarginLine,
+    page: &mut Page,
+) -> Result<(), AllocError>
+    requires { IsLinePlaced tables.now line.now }
+    ensures { IfOk result (λ _. page.new ≡ page.old ++ 10 ∷ margin_told told tables.now line.now) }
+{
+    page.add(b"\n")?;
+    if told.json {
+        add_object(tables, told.microseconds, line, page)
+    } else {
+        add_fields(tables, told.microseconds, line, page)
+    }
+}
+
+/// Puts margins as they are told at the end, each after a line feed.
 pub(crate) fn append_lines(
     tables: &Tables,
-    microseconds: bool,
+    told: Telling,
     lines: &[MarginLine],
     page: &mut Page,
 ) -> Result<(), AllocError>
     requires { All (IsLinePlaced tables.now) lines.now }
-    ensures { IfOk result (λ _. page.new ≡ page.old ++ fed (map (margin_line microseconds tables.now) lines.now)) }
+    ensures { IfOk result (λ _. page.new ≡ page.old ++ fed (map (margin_told told tables.now) lines.now)) }
 {
     for own in lines {
-        append_line(tables, microseconds, own, page)?;
+        append_line(tables, told, own, page)?;
     }
     Ok(())
 }
@@ -107,21 +119,30 @@ fn print_verdict(tables: &Tables, fault: Option<CheckFault>, line: &mut Text) ->
     }
 }
 
+/// Keeps the line of a verdict as it is told.
+fn keep_verdict(json: bool, line: &[u8], page: &mut Page) -> Result<(), AllocError>
+    ensures { IfOk result (λ _. page.new ≡ told_as json LineKey.Verdict line.now) }
+{
+    page.keep(opening(json, LineKey::Verdict))?;
+    page.add(line)?;
+    page.add(closing(json))
+}
+
 /// Puts the lines of a drift at the end, each after a line feed, with the ages of the certificate where this is no fault
 /// of its verdict.
 fn append_drift(
     written: &WrittenTables,
-    drift: Option<u16>,
+    told: Telling,
     fault: Option<CheckFault>,
     certificate: &Certificate,
     page: &mut Page,
 ) -> Result<(), AllocError>
     requires sized { fault ≡ None → IsSized written.now.tables (certificate_rows certificate.now) }
-    ensures { IfOk result (λ _. page.new ≡ page.old ++ fed (lines_of_drift written.now drift (ages_where fault (named_rows certificate.now)))) }
+    ensures { IfOk result (λ _. page.new ≡ page.old ++ fed (lines_of_drift told.json written.now told.drift (ages_where fault (named_rows certificate.now)))) }
 {
     match fault {
-        None => add_drift(written, drift, Some(certificate), page),
-        Some(_) => add_drift(written, drift, None, page),
+        None => add_drift(written, told, Some(certificate), page),
+        Some(_) => add_drift(written, told, None, page),
     }
 }
 
@@ -129,7 +150,7 @@ fn append_drift(
 fn judge_misnamed(
     written: &WrittenTables,
     certificate: &Certificate,
-    told: InTime,
+    told: Telling,
     page: &mut Page,
 ) -> Result<Outcome, AllocError>
     requires { misnaming written.now.tables (named_rows certificate.now) ≢ None }
@@ -138,8 +159,8 @@ fn judge_misnamed(
     let tables = written.tables();
     let mut line = Text::new();
     let outcome = print_verdict(tables, verdict(tables, certificate).err(), &mut line);
-    page.keep(line.as_slice())?;
-    match add_drift(written, told.drift, None, page) {
+    keep_verdict(told.json, line.as_slice(), page)?;
+    match add_drift(written, told, None, page) {
         Ok(()) => Ok(outcome),
         Err(e) => Err(e),
     }
@@ -151,7 +172,7 @@ fn judge_named(
     alloc: Global,
     written: &WrittenTables,
     certificate: &Certificate,
-    told: InTime,
+    told: Telling,
     page: &mut Page,
 ) -> Result<Outcome, AllocError>
     requires named { misnaming written.now.tables (named_rows certificate.now) ≡ None }
@@ -163,9 +184,9 @@ fn judge_named(
     let fault = verdict_fault(tables, certificate, lines.as_slice());
     let mut line = Text::new();
     let outcome = print_verdict(tables, fault, &mut line);
-    page.keep(line.as_slice())?;
-    append_lines(tables, told.microseconds, lines.as_slice(), page)?;
-    match append_drift(written, told.drift, fault, certificate, page) {
+    keep_verdict(told.json, line.as_slice(), page)?;
+    append_lines(tables, told, lines.as_slice(), page)?;
+    match append_drift(written, told, fault, certificate, page) {
         Ok(()) => Ok(outcome),
         Err(e) => Err(e),
     }
@@ -176,7 +197,7 @@ pub(crate) fn judge(
     alloc: Global,
     written: &WrittenTables,
     certificate: &Certificate,
-    told: InTime,
+    told: Telling,
     page: &mut Page,
 ) -> Result<Outcome, AllocError>
     ensures { Answers (answer_margins told written.now (named_rows certificate.now)) page.new result }
@@ -192,8 +213,8 @@ pub(crate) fn judge(
 /// than the tables' has no line of a condition.
 #[derive(Clone, Copy, Debug)]
 pub struct Margins {
-    /// What is told of time.
-    pub told: InTime,
+    /// How they are told.
+    pub told: Telling,
 }
 
 impl Tell<(WrittenTables, Certificate)> for Margins {
@@ -214,15 +235,16 @@ impl Tell<(WrittenTables, Certificate)> for Margins {
 /// sink, and then a line for each condition of each input, output and label: how far it is from failing, and what
 /// decides that, with its microseconds where they are told. A certificate with other names than the tables' has none of
 /// these lines. Where a drift is told, a line follows for each wire whose bus is not policed, each stream and each label:
-/// what clocks that drift so far ask and keep, in whole microseconds, beside what is declared.
+/// what clocks that drift so far ask and keep, in whole microseconds, beside what is declared. Where JSON is told each of
+/// these lines is an object, and so is that of a text that can't be read.
 ///
 /// It ends `Done` where the certificate is accepted, `Refused` where it is refused, `Unreadable` where a text can't be
 /// read; `Failed` where a device failed or memory was refused: `failed memory` alone was written, or `failed device`
 /// behind whole lines of a front of the answer; where a push or flush failed, a front of one of these or of the answer.
 /// That call is the last of the sink, and at most one pull of each source gives no byte.
-pub fn run_margins<T: Source, C: Source, K: Sink>(
+pub fn run_margins_told<T: Source, C: Source, K: Sink>(
     alloc: Global,
-    told: InTime,
+    told: Telling,
     tables: &mut T,
     certificate: &mut C,
     sink: &mut K,
@@ -251,6 +273,37 @@ pub fn run_margins<T: Source, C: Source, K: Sink>(
             rest: End,
         },
     };
-    let engine = ReadWritten(ReadCertificate(Then(Margins { told })));
+    let engine = Told {
+        json: told.json,
+        plain: ReadWritten(ReadCertificate(Then(Margins { told }))),
+    };
     run(&(), alloc, &engine, &mut given, sink)
+}
+
+/// Writes what [`run_margins_told`] writes where no object is asked for: each margin and each line as it is.
+pub fn run_margins<T: Source, C: Source, K: Sink>(
+    alloc: Global,
+    told: InTime,
+    tables: &mut T,
+    certificate: &mut C,
+    sink: &mut K,
+) -> Exit
+    requires tables { IsCountable (T.state tables.old) }
+    requires certificate { IsCountable (C.state certificate.old) }
+    requires sink { CanFail (K.state sink.old) }
+    ensures reports { (rows claims : List ℕ) → (T.state tables.old).remaining ≡ Some rows → (C.state certificate.old).remaining ≡ Some claims
+        → ReportsMargins (in_lines told) rows claims (K.state sink.old).contents (K.state sink.new).contents
+        ((T.state tables.old).failed + (C.state certificate.old).failed) ((T.state tables.new).failed + (C.state certificate.new).failed)
+        (K.state sink.old).failed (K.state sink.new).failed result }
+    ensures reported { Reported Any (K.state sink.old).contents (K.state sink.new).contents
+        ((T.state tables.old).failed + (C.state certificate.old).failed) ((T.state tables.new).failed + (C.state certificate.new).failed)
+        (K.state sink.old).failed (K.state sink.new).failed result }
+    ensures asks_tables { AsksUpTo TEXT_LIMIT (T.state tables.old) (T.state tables.new) }
+    ensures asks_certificate { AsksUpTo TEXT_LIMIT (C.state certificate.old) (C.state certificate.new) }
+    ensures order { IfSome (T.state tables.old).remaining (λ rows. OnlyBehind (tables_of rows) (certificate.new ≡ certificate.old)) }
+    ensures left { LeavesSink (K.state sink.old).failed (K.state sink.new).failed (K.state sink.new).last_failed (K.state sink.new).hidden }
+    ensures quiet { result ≢ Exit.Failed → (T.state tables.new).failed + (C.state certificate.new).failed + (K.state sink.new).failed
+        ≡ (T.state tables.old).failed + (C.state certificate.old).failed + (K.state sink.old).failed }
+{
+    run_margins_told(alloc, told.in_lines(), tables, certificate, sink)
 }

@@ -10,15 +10,15 @@ use Rattle.dc_engine.specs.declared.fault.OpenFault.{OpenFault}
 use Rattle.dc_engine.specs.declared.fault.OpenFault.TheVariants.{Memory as OutOfMemory}
 use Rattle.dc_engine.specs.declared.fault.Report.{Report}
 use Rattle.dc_run_margins.specs.Margins.{AnswersMargins, AnswersTablesAlone}
-use Rattle.dc_run_margins.specs.declared.drift.InTime.{InTime}
+use Rattle.dc_run_margins.specs.declared.telling.Telling.{Telling}
 use Rattle.dc_texts.specs.Finding.{FindsText}
 use Rattle.dc_texts.specs.Reports.{not_found_report}
 use Rattle.dc_texts.specs.declared.fault.NotFound.{NotFound}
 use Rattle.dc_texts.specs.declared.fault.NotFound.TheVariants.{Memory}
 
--- what is told of time without options
-abbrev pub without_options : InTime
-without_options = record { microseconds = false; drift = None }
+-- how margins are told without options
+abbrev pub without_options : Telling
+without_options = record { json = false; microseconds = false; drift = None }
 
 -- a text is the lines of an answer that is such
 pub record IsTextOf (Is : Answer → Type 0) (text : List ℕ) : Type 0 where

@@ -9,11 +9,12 @@ use crate::growing::Growing;
 use dc_answer::Exit;
 use dc_device::MemSource;
 use dc_engine::{OpenFault, Report, judge};
-use dc_run_margins::{InTime, run_margins, run_margins_least};
+use dc_run_margins::{Telling, run_margins_least_told, run_margins_told};
 use std::alloc::{AllocError, Global};
 
-/// What is told of time without options.
-const WITHOUT_OPTIONS: InTime = InTime {
+/// How margins are told without options.
+const WITHOUT_OPTIONS: Telling = Telling {
+    json: false,
     microseconds: false,
     drift: None,
 };
@@ -88,7 +89,7 @@ fn lines(alloc: Global, tables: &[u8], certificate: &[u8]) -> Result<Vec<u8>, Al
     let mut rows = MemSource::new(tables, PIECE, 0);
     let mut claims = MemSource::new(certificate, PIECE, 0);
     let mut sink = Growing::new(alloc);
-    let exit = run_margins(alloc, WITHOUT_OPTIONS, &mut rows, &mut claims, &mut sink);
+    let exit = run_margins_told(alloc, WITHOUT_OPTIONS, &mut rows, &mut claims, &mut sink);
     if !is_whole(exit) {
         return Err(AllocError);
     }
@@ -101,7 +102,7 @@ fn least_lines(alloc: Global, tables: &[u8]) -> Result<Vec<u8>, AllocError>
 {
     let mut rows = MemSource::new(tables, PIECE, 0);
     let mut sink = Growing::new(alloc);
-    let exit = run_margins_least(alloc, WITHOUT_OPTIONS, &mut rows, &mut sink);
+    let exit = run_margins_least_told(alloc, WITHOUT_OPTIONS, &mut rows, &mut sink);
     if !is_whole(exit) {
         return Err(AllocError);
     }

@@ -1,4 +1,4 @@
-use Rattle.std.proofs.Common.{◌≡◌, ◌++◌, ◌∙◌, IfOk, ap, decimal, option_map, slice_index, subst, sym}
+use Rattle.std.proofs.Common.{◌≡◌, ◌++◌, ◌∙◌, IfOk, ap, decimal, option_map, subst, sym}
 use Rattle.dc_cert.specs.Bounds.{certificate_rows}
 use Rattle.dc_drift.specs.Drift.{oldest_of}
 use Rattle.dc_run_margins.specs.Drift.{oldest_text}

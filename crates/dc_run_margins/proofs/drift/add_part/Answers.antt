@@ -11,5 +11,5 @@ loop-place-init c = sym (append-nil c.args.page.now)
 pub loop-place-preserved : goal.loop-place-preserved
 loop-place-preserved c =
     let shown = c.args.shown.now in
-    texts-more (drift_line shown.written.now shown.drift (option_map (λ c. (certificate_rows c.now).ages) shown.accepted) c.args.part) c.loop-place.place c.args.page.now c.loop-place.page c.add_line.new.page
+    texts-more (drift_line shown.json shown.written.now shown.drift (option_map (λ c. (certificate_rows c.now).ages) shown.accepted) c.args.part) c.loop-place.place c.args.page.now c.loop-place.page c.add_line.new.page
     c.loop-place.invariant c.in_ok-add_line.ensures

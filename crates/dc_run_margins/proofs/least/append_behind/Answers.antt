@@ -13,5 +13,5 @@ pub loop-behind-preserved : goal.loop-behind-preserved
 loop-behind-preserved c =
     let t = c.args.fitted.now.tables.now in
     let rows = certificate_rows c.args.fitted.now.certificate.now in
-    job-more (found_text c.args.microseconds t rows) (λ k. job_lines_of t rows (c.args.jobs + k)) c.loop-behind.behind c.args.page.now c.loop-behind.page c.append_found.new.page
+    job-more (found_text c.args.told t rows) (λ k. job_lines_of t rows (c.args.jobs + k)) c.loop-behind.behind c.args.page.now c.loop-behind.page c.append_found.new.page
     c.as_slice.result.now c.loop-behind.invariant (c.as_slice.ensures ∙ c.job_lines-own.ensures.lines) c.in_ok-append_found.ensures

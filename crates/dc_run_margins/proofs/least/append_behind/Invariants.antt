@@ -8,4 +8,4 @@ abbrev pub invariant-loop-behind : goal.invariant-loop-behind
 invariant-loop-behind l =
     let t = l.fitted.tables.now in
     let rows = certificate_rows l.fitted.certificate.now in
-    l.page ≡ l.initial.page ++ fed (map (found_text l.microseconds t rows) (lines_below (λ k. job_lines_of t rows (l.jobs + k)) l.behind))
+    l.page ≡ l.initial.page ++ fed (map (found_text l.told t rows) (lines_below (λ k. job_lines_of t rows (l.jobs + k)) l.behind))

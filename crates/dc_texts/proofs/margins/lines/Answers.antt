@@ -7,6 +7,6 @@ use Rattle.dc_texts.proofs.margins.lines.Goals as goal
 
 pub returns : goal.returns
 returns c =
-    let whole : is_answered c.run_margins-exit.result ≡ true = search rules in
-    written_from (AnswersMargins without_options c.args.tables.now c.args.certificate.now) c.into_text.result.items _ _ _ _ _ _ c.run_margins-exit.result c.new-sink.ensures.text c.into_text.ensures whole
-    (c.run_margins-exit.ensures.reports c.args.tables.now c.args.certificate.now (ap (λ b. Some b.now) c.new-rows.ensures.bytes) (ap (λ b. Some b.now) c.new-claims.ensures.bytes))
+    let whole : is_answered c.run_margins_told-exit.result ≡ true = search rules in
+    written_from (AnswersMargins without_options c.args.tables.now c.args.certificate.now) c.into_text.result.items _ _ _ _ _ _ c.run_margins_told-exit.result c.new-sink.ensures.text c.into_text.ensures whole
+    (c.run_margins_told-exit.ensures.reports c.args.tables.now c.args.certificate.now (ap (λ b. Some b.now) c.new-rows.ensures.bytes) (ap (λ b. Some b.now) c.new-claims.ensures.bytes))
