@@ -113,17 +113,17 @@ CodesAre None all None = IsSet all true
 -- what the matches of the command of this name ask
 abbrev pub AsksBy : Text → List Row → Order → Type 0
 AsksBy name rows (Decode format) = (name ≡ codes "decode") × (first_of (codes "format") rows ≡ Some (format_name format))
-AsksBy name rows (Check tables certificate workers) =
+AsksBy name rows (Check tables certificate workers digest) =
     (name ≡ codes "check") × (first_of (codes "TABLES") rows ≡ Some tables.now) × (first_of (codes "CERT") rows ≡ Some certificate.now)
-    × AreGiven (first_of (codes "workers") rows) workers
+    × AreGiven (first_of (codes "workers") rows) workers × IsSet (one_of (codes "digest") rows) digest
 AsksBy name rows (Find tables) = (name ≡ codes "find") × (first_of (codes "TABLES") rows ≡ Some tables.now)
 AsksBy name rows (Report tables certificate drift) =
     (name ≡ codes "report") × (first_of (codes "TABLES") rows ≡ Some tables.now) × (option_map (λ s. s.now) certificate ≡ first_of (codes "CERT") rows)
     × DriftIs (first_of (codes "drift") rows) drift
 AsksBy name rows (ReportNetwork system) = (name ≡ codes "report") × (first_of (codes "network") rows ≡ Some system.now)
-AsksBy name rows (Margins tables certificate microseconds drift) =
+AsksBy name rows (Margins tables certificate microseconds drift json) =
     (name ≡ codes "margins") × (first_of (codes "TABLES") rows ≡ Some tables.now) × (option_map (λ s. s.now) certificate ≡ first_of (codes "CERT") rows)
-    × IsSet (one_of (codes "us") rows) microseconds × DriftIs (first_of (codes "drift") rows) drift
+    × IsSet (one_of (codes "us") rows) microseconds × DriftIs (first_of (codes "drift") rows) drift × IsSet (one_of (codes "json") rows) json
 AsksBy name rows (Survey tables) = (name ≡ codes "survey") × (first_of (codes "TABLES") rows ≡ Some tables.now)
 AsksBy name rows (Trace tables from) =
     (name ≡ codes "trace") × (first_of (codes "TABLES") rows ≡ Some tables.now) × BeginIs (first_of (codes "from") rows) from
@@ -177,11 +177,11 @@ ExplainsIn words when = (formats : ValueParser) × Explains (subcommand_of (prog
 
 -- each number is in its range
 abbrev pub IsInRange : Order → Type 0
-IsInRange (Check tables certificate workers) = IfSome workers (λ n. (1 ≤ n) × (n ≤ MOST_WORKERS))
+IsInRange (Check tables certificate workers digest) = IfSome workers (λ n. (1 ≤ n) × (n ≤ MOST_WORKERS))
 IsInRange (Network system workers) = IfSome workers (λ n. (1 ≤ n) × (n ≤ MOST_WORKERS))
 IsInRange (Bench tables certificate ticks marks) = (1 ≤ ticks) × (ticks ≤ MOST_TICKS)
 IsInRange (Report tables certificate drift) = IfSome drift (λ n. n ≤ MOST_DRIFT)
-IsInRange (Margins tables certificate microseconds drift) = IfSome drift (λ n. n ≤ MOST_DRIFT)
+IsInRange (Margins tables certificate microseconds drift json) = IfSome drift (λ n. n ≤ MOST_DRIFT)
 IsInRange (Trace tables from) = IfSome from (λ n. n ≤ LAST_BEGIN)
 IsInRange (Design inputs outputs tick headroom police certificate) = IfSome tick (λ n. (SHORTEST_TICK ≤ n) × (n ≤ LONGEST_TICK)) × IfSome headroom (λ n. n ≤ MOST_HEADROOM)
 IsInRange _ = Unit {0}

@@ -13,9 +13,9 @@ AreNotBothInput tables certificate = tables ≡ codes "-" → IsNotInput certifi
 
 -- The order names standard input at most once, and not where it reads its trace or its capture there.
 abbrev pub HasOneInput : Order → Type 0
-HasOneInput (Check tables certificate workers) = AreNotBothInput tables.now certificate.now
+HasOneInput (Check tables certificate workers digest) = AreNotBothInput tables.now certificate.now
 HasOneInput (Report tables (Some certificate) drift) = AreNotBothInput tables.now certificate.now
-HasOneInput (Margins tables (Some certificate) microseconds drift) = AreNotBothInput tables.now certificate.now
+HasOneInput (Margins tables (Some certificate) microseconds drift json) = AreNotBothInput tables.now certificate.now
 HasOneInput (Survey tables) = IsNotInput tables.now
 HasOneInput (Trace tables from) = IsNotInput tables.now
 HasOneInput (Replay tables all long) = IsNotInput tables.now

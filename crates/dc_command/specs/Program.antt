@@ -82,6 +82,14 @@ marks_rule = flag_rule (codes "marks")
 abbrev pub us_rule : Rule
 us_rule = flag_rule (codes "us")
 
+-- `--json`
+abbrev pub json_rule : Rule
+json_rule = flag_rule (codes "json")
+
+-- `--digest`
+abbrev pub digest_rule : Rule
+digest_rule = flag_rule (codes "digest")
+
 -- `--long`
 abbrev pub long_rule : Rule
 long_rule = flag_rule (codes "long")
@@ -106,9 +114,9 @@ certificate_app name = with_rule (tables_app name) (file_rule (codes "CERT"))
 abbrev pub decode_app : ValueParser → App
 decode_app formats = explaining_app (codes "decode") (format_rule formats)
 
--- `check`, which may be told how many workers
+-- `check`, which may be told how many workers, and to tell the digests
 abbrev pub check_app : App
-check_app = with_rule (certificate_app (codes "check")) workers_rule
+check_app = with_rule (with_rule (certificate_app (codes "check")) workers_rule) digest_rule
 
 -- `bench`, which may be told how many ticks, and to tell the marks
 abbrev pub bench_app : App
@@ -134,9 +142,10 @@ network_rule = record (new_rule (codes "network")) { long = Some (codes "network
 abbrev pub report_app : App
 report_app = with_rule (with_rule (with_rule (explaining_app (codes "report") reported_tables_rule) some_certificate_rule) drift_rule) (tied_rule network_rule)
 
--- `margins`, which reads tables, and a certificate where one is given, and may be told to tell microseconds, and a drift
+-- `margins`, which reads tables, and a certificate where one is given, and may be told to tell microseconds, a drift, and
+-- objects of JSON
 abbrev pub margins_app : App
-margins_app = with_rule (with_rule (with_rule (tables_app (codes "margins")) some_certificate_rule) us_rule) drift_rule
+margins_app = with_rule (with_rule (with_rule (with_rule (tables_app (codes "margins")) some_certificate_rule) us_rule) drift_rule) json_rule
 
 -- `trace`, which reads tables and may be told when tick 0 begins
 abbrev pub trace_app : App

@@ -28,7 +28,7 @@ pub(crate) const AFTER_FIND: &str = "Example: dc429 find tables.toml > certifica
 A file named - is standard input; one of that name is ./-
 
 The keys of tables, with their units and ranges, stand in docs/formats.md under
-\"Tables\"; examples/policed.toml has each.
+\"Tables\"; examples/template.toml has each, to be copied and changed.
 
 Exit status:
   0  found

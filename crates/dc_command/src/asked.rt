@@ -31,6 +31,8 @@ pub enum Order<'a> {
         certificate: &'a str,
         /// By how many workers, 1 to [`MOST_WORKERS`](crate::MOST_WORKERS), where that is said.
         workers: Option<u8>,
+        /// Whether the digests of both texts are told.
+        digest: bool,
     },
     /// Find the least certificate for the tables in a file.
     Find {
@@ -61,6 +63,8 @@ pub enum Order<'a> {
         microseconds: bool,
         /// The drift of clocks, in millionths, 0 to [`MOST_DRIFT`](crate::MOST_DRIFT), where one is said.
         drift: Option<u16>,
+        /// Whether each line is told as a JSON object.
+        json: bool,
     },
     /// Survey the capture on standard input for the tables in a file.
     Survey {
@@ -312,11 +316,13 @@ fn check_in<'a>(matches: &ArgMatches<'a>) -> Option<Order<'a>>
 {
     let tables = matches.get_str("TABLES")?;
     let certificate = matches.get_str("CERT")?;
+    let digest = matches.get_flag("digest");
     match workers_in(matches) {
         Ok(workers) => Some(Order::Check {
             tables,
             certificate,
             workers,
+            digest,
         }),
         Err(_) => None,
     }
@@ -363,12 +369,14 @@ fn margins_in<'a>(matches: &ArgMatches<'a>) -> Option<Order<'a>>
     let tables = matches.get_str("TABLES")?;
     let certificate = matches.get_str("CERT");
     let microseconds = matches.get_flag("us");
+    let json = matches.get_flag("json");
     match drift_in(matches) {
         Ok(drift) => Some(Order::Margins {
             tables,
             certificate,
             microseconds,
             drift,
+            json,
         }),
         Err(_) => None,
     }

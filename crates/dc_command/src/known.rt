@@ -8,6 +8,7 @@ use crate::after::{
     AFTER_MARGINS, AFTER_NETWORK, AFTER_OBSERVE, AFTER_REPLAY, AFTER_REPORT, AFTER_SURVEY,
     AFTER_TRACE,
 };
+use crate::identity::VERSION;
 use crate::limits::{
     LAST_BEGIN, LONGEST_TICK, MOST_DRIFT, MOST_HEADROOM, MOST_TICKS, MOST_WORKERS, SHORTEST_TICK,
 };
@@ -157,13 +158,18 @@ fn workers<'a>(alloc: Global) -> Arg<'a>
 fn check<'a>(alloc: Global) -> Result<Command<'a>, Error>
     ensures { IfOk result (IsRead check_app) }
 {
+    let digest = flag(
+        alloc,
+        "digest",
+        "Prints the SHA-256 of both texts behind the verdict",
+    );
     let check = on_certificate(
         alloc,
         "check",
         "Judges a certificate for tables, and prints the verdict",
         AFTER_CHECK,
     );
-    with_argument(check, workers(alloc))
+    with_argument(with_argument(check, workers(alloc)), digest)
 }
 
 /// The command `find`.
@@ -251,7 +257,13 @@ fn margins<'a>(alloc: Global) -> Result<Command<'a>, Error>
         AFTER_MARGINS,
     );
     let certified = with_argument(margins, some_certificate(alloc));
-    with_argument(with_argument(certified, us), drift(alloc))
+    let drifting = with_argument(with_argument(certified, us), drift(alloc));
+    let json = flag(
+        alloc,
+        "json",
+        "Tells each line as a JSON object, for scripts",
+    );
+    with_argument(drifting, json)
 }
 
 /// The command `survey`.
@@ -478,7 +490,7 @@ fn bare<'a>(alloc: Global) -> Command<'a>
 {
     Command::new(alloc, "dc429")
         .about("An ARINC 429 concentrator that is certified before it flies")
-        .version("0.1.0")
+        .version(VERSION)
         .subcommand_required(true)
 }
 

@@ -1,5 +1,5 @@
 -- What an order names, and what its engine reports.
-use Rattle.std.specs.Prelude.{◌≡◌, ◌⊎◌, ◌-◌, ◌+◌, ◌^◌, ◌<◌, ℕ, List, [], ◌∷◌, Option, Some, None}
+use Rattle.std.specs.Prelude.{◌≡◌, ◌⊎◌, ◌-◌, ◌+◌, ◌^◌, ◌<◌, ℕ, List, [], ◌∷◌, Bool, true, false, Option, Some, None}
 use Rattle.dc_answer.specs.Answer.{Any, Reported, Reports}
 use Rattle.dc_answer.specs.Threads.{ReportsThreads}
 use Rattle.dc_answer.specs.declared.answer.Failure.TheVariants.{Source}
@@ -18,6 +18,7 @@ use Rattle.dc_run.specs.Find.{ReportsFind}
 use Rattle.dc_run.specs.Limits.{trace_limit}
 use Rattle.dc_run.specs.Replay.{ReportsReplay}
 use Rattle.dc_run_bench.specs.Bench.{ReportsBench}
+use Rattle.dc_run_digest.specs.Digests.{ReportsDigests}
 use Rattle.dc_run_explain.specs.Explain.{ReportsExplain}
 use Rattle.dc_run_observe.specs.Answer.{ReportsObserve}
 use Rattle.dc_run.specs.declared.limits.TheConstants.{LONG_TRACE_LIMIT}
@@ -31,12 +32,12 @@ use Rattle.dc_run_trace.specs.Answer.{ReportsTrace}
 -- the names of the files that an order names, in the order in which they are opened
 abbrev pub files_of : Order → List (List ℕ)
 files_of (Decode format) = []
-files_of (Check tables certificate workers) = tables.now ∷ certificate.now ∷ []
+files_of (Check tables certificate workers digest) = tables.now ∷ certificate.now ∷ []
 files_of (Find tables) = tables.now ∷ []
 files_of (Report tables None drift) = tables.now ∷ []
 files_of (Report tables (Some certificate) drift) = tables.now ∷ certificate.now ∷ []
-files_of (Margins tables None microseconds drift) = tables.now ∷ []
-files_of (Margins tables (Some certificate) microseconds drift) = tables.now ∷ certificate.now ∷ []
+files_of (Margins tables None microseconds drift json) = tables.now ∷ []
+files_of (Margins tables (Some certificate) microseconds drift json) = tables.now ∷ certificate.now ∷ []
 files_of (Survey tables) = tables.now ∷ []
 files_of (Trace tables from) = tables.now ∷ []
 files_of (Replay tables all long) = tables.now ∷ []
@@ -55,7 +56,7 @@ workers_of (Some count) = Some (Workers count)
 
 -- for whom threads are asked
 abbrev pub crew_of : Order → Option Crew
-crew_of (Check tables certificate workers) = workers_of workers
+crew_of (Check tables certificate workers digest) = workers_of workers
 crew_of (Network system workers) = workers_of workers
 crew_of (Bench tables certificate ticks marks) = Some Actors
 crew_of _ = None
@@ -92,12 +93,19 @@ sources_in _ failed input = failed
 abbrev pub ReportsOrder : Order → (List ℕ → Option (List ℕ)) → ℕ → SourceState → SourceState → SinkState → SinkState → Exit → Type 0
 ReportsOrder (Decode format) holds failed input input' sink sink' exit =
     (text : List ℕ) → input.remaining ≡ Some text → Reports sink.contents sink'.contents Source (sink'.failed - sink.failed) (decode_text format text) exit
-ReportsOrder (Check tables certificate None) holds failed input input' sink sink' exit =
+ReportsOrder (Check tables certificate None false) holds failed input input' sink sink' exit =
     (rows claims : List ℕ) → holds tables.now ≡ Some rows → holds certificate.now ≡ Some claims
     → ReportsCheck rows claims sink.contents sink'.contents 0 failed sink.failed sink'.failed exit
-ReportsOrder (Check tables certificate (Some count)) holds failed input input' sink sink' exit =
+ReportsOrder (Check tables certificate None true) holds failed input input' sink sink' exit =
+    (rows claims : List ℕ) → holds tables.now ≡ Some rows → holds certificate.now ≡ Some claims
+    → ReportsDigests rows claims sink.contents sink'.contents 0 failed sink.failed sink'.failed exit
+ReportsOrder (Check tables certificate (Some count) false) holds failed input input' sink sink' exit =
     (rows claims : List ℕ) → holds tables.now ≡ Some rows → holds certificate.now ≡ Some claims
     → ReportsCheck rows claims sink.contents sink'.contents 0 failed sink.failed sink'.failed exit
+    ⊎ ReportsThreads sink.contents sink'.contents 0 failed sink.failed sink'.failed exit
+ReportsOrder (Check tables certificate (Some count) true) holds failed input input' sink sink' exit =
+    (rows claims : List ℕ) → holds tables.now ≡ Some rows → holds certificate.now ≡ Some claims
+    → ReportsDigests rows claims sink.contents sink'.contents 0 failed sink.failed sink'.failed exit
     ⊎ ReportsThreads sink.contents sink'.contents 0 failed sink.failed sink'.failed exit
 ReportsOrder (Find tables) holds failed input input' sink sink' exit =
     (rows : List ℕ) → holds tables.now ≡ Some rows → ReportsFind rows sink.contents sink'.contents 0 failed sink.failed sink'.failed exit
@@ -106,11 +114,11 @@ ReportsOrder (Report tables None drift) holds failed input input' sink sink' exi
 ReportsOrder (Report tables (Some certificate) drift) holds failed input input' sink sink' exit =
     (rows claims : List ℕ) → holds tables.now ≡ Some rows → holds certificate.now ≡ Some claims
     → ReportsPage rows claims sink.contents sink'.contents 0 failed sink.failed sink'.failed exit
-ReportsOrder (Margins tables None microseconds drift) holds failed input input' sink sink' exit =
-    (rows : List ℕ) → holds tables.now ≡ Some rows → ReportsMarginsLeast (record { microseconds = microseconds; drift = drift }) rows sink.contents sink'.contents 0 failed sink.failed sink'.failed exit
-ReportsOrder (Margins tables (Some certificate) microseconds drift) holds failed input input' sink sink' exit =
+ReportsOrder (Margins tables None microseconds drift json) holds failed input input' sink sink' exit =
+    (rows : List ℕ) → holds tables.now ≡ Some rows → ReportsMarginsLeast (record { json = json; microseconds = microseconds; drift = drift }) rows sink.contents sink'.contents 0 failed sink.failed sink'.failed exit
+ReportsOrder (Margins tables (Some certificate) microseconds drift json) holds failed input input' sink sink' exit =
     (rows claims : List ℕ) → holds tables.now ≡ Some rows → holds certificate.now ≡ Some claims
-    → ReportsMargins (record { microseconds = microseconds; drift = drift }) rows claims sink.contents sink'.contents 0 failed sink.failed sink'.failed exit
+    → ReportsMargins (record { json = json; microseconds = microseconds; drift = drift }) rows claims sink.contents sink'.contents 0 failed sink.failed sink'.failed exit
 ReportsOrder (Survey tables) holds failed input input' sink sink' exit =
     (rows capture : List ℕ) → holds tables.now ≡ Some rows → input.remaining ≡ Some capture
     → ReportsSurvey rows capture sink.contents sink'.contents (0 + input.failed) (failed + input'.failed) sink.failed sink'.failed exit
@@ -138,7 +146,7 @@ ReportsOrder (Explain code) holds failed input input' sink sink' exit = ReportsE
 -- What it reports whatever the texts are: what is told to have failed has failed.
 abbrev pub ReportsAny : Order → ℕ → SourceState → SourceState → SinkState → SinkState → Exit → Type 0
 ReportsAny (Decode format) failed input input' sink sink' exit = exit ≡ Failed → input.failed + sink.failed < input'.failed + sink'.failed
-ReportsAny (Check tables certificate (Some count)) failed input input' sink sink' exit =
+ReportsAny (Check tables certificate (Some count) digest) failed input input' sink sink' exit =
     Reported Any sink.contents sink'.contents 0 failed sink.failed sink'.failed exit ⊎ ReportsThreads sink.contents sink'.contents 0 failed sink.failed sink'.failed exit
 ReportsAny (Bench tables certificate ticks marks) failed input input' sink sink' exit =
     Reported Any sink.contents sink'.contents 0 failed sink.failed sink'.failed exit ⊎ ReportsThreads sink.contents sink'.contents 0 failed sink.failed sink'.failed exit

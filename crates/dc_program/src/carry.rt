@@ -10,6 +10,7 @@ ghost use Rattle.dc_program.specs.World.{IsNew};
 
 use crate::crews::ByThreads;
 use crate::designs::design;
+use crate::digests::{check_digest, check_digest_by};
 use crate::engines::{
     audit, bench, check, check_by, decode, explain, find, network, network_by, network_page,
     observe, replay, survey, trace,
@@ -20,7 +21,7 @@ use dc_answer::Exit;
 use dc_command::Order;
 use dc_device::{Sink, Source};
 use dc_run_design::Plan;
-use dc_run_margins::InTime;
+use dc_run_margins::Telling;
 use std::alloc::Global;
 
 /// Opens the files that an order names, and runs its engine over them.
@@ -48,12 +49,26 @@ fn obey<'a, W: World<'a>, S: Source, K: Sink, H: ByThreads>(
             tables,
             certificate,
             workers: None,
+            digest: false,
         } => check(alloc, world, sink, tables, certificate),
         Order::Check {
             tables,
             certificate,
+            workers: None,
+            digest: true,
+        } => check_digest(alloc, world, sink, tables, certificate),
+        Order::Check {
+            tables,
+            certificate,
             workers: Some(workers),
+            digest: false,
         } => check_by(threads, world, sink, tables, certificate, workers),
+        Order::Check {
+            tables,
+            certificate,
+            workers: Some(workers),
+            digest: true,
+        } => check_digest_by(threads, world, sink, tables, certificate, workers),
         Order::Explain { code } => explain(alloc, world, sink, code),
         Order::Find { tables } => find(alloc, world, sink, tables),
         Order::Report {
@@ -66,8 +81,10 @@ fn obey<'a, W: World<'a>, S: Source, K: Sink, H: ByThreads>(
             certificate,
             microseconds,
             drift,
+            json,
         } => {
-            let told = InTime {
+            let told = Telling {
+                json,
                 microseconds,
                 drift,
             };
@@ -129,8 +146,9 @@ fn obey<'a, W: World<'a>, S: Source, K: Sink, H: ByThreads>(
 /// that failed is the last call of the sink.
 ///
 /// Of `check`: where the texts of both files are known it ends `Done` only where they are those of tables and of a
-/// certificate that is accepted for them, and then the line `accepted ..` alone was written and the certificate keeps
-/// its claims in every admissible run of the tables; and it ends neither `Done` nor `Failed` only where they are not.
+/// certificate that is accepted for them, and then the line `accepted ..` alone was written, or behind it the digests of
+/// both texts where they are told, and the certificate keeps its claims in every admissible run of the tables; and it ends
+/// neither `Done` nor `Failed` only where they are not.
 pub fn carry_out<'a, W: World<'a>, S: Source, K: Sink, H: ByThreads>(
     alloc: Global,
     threads: &H,

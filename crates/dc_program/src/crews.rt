@@ -7,6 +7,7 @@ ghost use Rattle.dc_answer.specs.Threads.{ReportsThreads};
 ghost use Rattle.dc_device.specs.States.{CanFail, IsCountable};
 ghost use Rattle.dc_run.specs.Check.{ReportsCheck};
 ghost use Rattle.dc_run_bench.specs.Bench.{ReportsBench};
+ghost use Rattle.dc_run_digest.specs.Digests.{ReportsDigests};
 ghost use Rattle.dc_run_network.specs.Answer.{IsLines, ReportsNetwork};
 ghost use Rattle.dc_run_network.specs.Paths.{folder_of};
 
@@ -14,6 +15,7 @@ use dc_answer::Exit;
 use dc_device::{Sink, Source};
 use dc_run::run_check_par;
 use dc_run_bench::run_bench;
+use dc_run_digest::run_check_par_digest;
 use dc_run_network::{Shelf, run_network_par};
 use std::marker::Sync;
 use std::sync::Wait;
@@ -40,6 +42,35 @@ pub trait ByThreads {
         requires sink { CanFail (K.state sink.old) }
         ensures reports { (rows claims : List ℕ) → (T.state tables.old).remaining ≡ Some rows → (C.state certificate.old).remaining ≡ Some claims
             → ReportsCheck rows claims (K.state sink.old).contents (K.state sink.new).contents
+            ((T.state tables.old).failed + (C.state certificate.old).failed) ((T.state tables.new).failed + (C.state certificate.new).failed)
+            (K.state sink.old).failed (K.state sink.new).failed result
+            ⊎ ReportsThreads (K.state sink.old).contents (K.state sink.new).contents
+            ((T.state tables.old).failed + (C.state certificate.old).failed) ((T.state tables.new).failed + (C.state certificate.new).failed)
+            (K.state sink.old).failed (K.state sink.new).failed result }
+        ensures reported { Reported Any (K.state sink.old).contents (K.state sink.new).contents
+            ((T.state tables.old).failed + (C.state certificate.old).failed) ((T.state tables.new).failed + (C.state certificate.new).failed)
+            (K.state sink.old).failed (K.state sink.new).failed result
+            ⊎ ReportsThreads (K.state sink.old).contents (K.state sink.new).contents
+            ((T.state tables.old).failed + (C.state certificate.old).failed) ((T.state tables.new).failed + (C.state certificate.new).failed)
+            (K.state sink.old).failed (K.state sink.new).failed result }
+        ensures left { LeavesSink (K.state sink.old).failed (K.state sink.new).failed (K.state sink.new).last_failed (K.state sink.new).hidden };
+
+    /// The same with the digests of both texts behind the verdict, as
+    /// [`run_check_par_digest`](dc_run_digest::run_check_par_digest) does.
+    fn check_digest<T: Source, C: Source, K: Sink>(
+        &self,
+        workers: u8,
+        tables: &mut T,
+        certificate: &mut C,
+        sink: &mut K,
+    ) -> Exit
+        requires may { may_start self.now }
+        requires workers { (1 ≤ workers) × (workers ≤ 64) }
+        requires tables { IsCountable (T.state tables.old) }
+        requires certificate { IsCountable (C.state certificate.old) }
+        requires sink { CanFail (K.state sink.old) }
+        ensures reports { (rows claims : List ℕ) → (T.state tables.old).remaining ≡ Some rows → (C.state certificate.old).remaining ≡ Some claims
+            → ReportsDigests rows claims (K.state sink.old).contents (K.state sink.new).contents
             ((T.state tables.old).failed + (C.state certificate.old).failed) ((T.state tables.new).failed + (C.state certificate.new).failed)
             (K.state sink.old).failed (K.state sink.new).failed result
             ⊎ ReportsThreads (K.state sink.old).contents (K.state sink.new).contents
@@ -119,6 +150,18 @@ impl<'r, R: AllocGlobal + Threads + Wait + Sync> ByThreads for Started<'r, R> {
     ) -> Exit {
         let runtime = self.0;
         run_check_par(runtime, runtime.alloc(), workers, tables, certificate, sink)
+    }
+
+    fn check_digest<T: Source, C: Source, K: Sink>(
+        &self,
+        workers: u8,
+        tables: &mut T,
+        certificate: &mut C,
+        sink: &mut K,
+    ) -> Exit {
+        let runtime = self.0;
+        let alloc = runtime.alloc();
+        run_check_par_digest(runtime, alloc, workers, tables, certificate, sink)
     }
 
     fn network<S: Source, F: Shelf, K: Sink>(

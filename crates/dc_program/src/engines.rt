@@ -1,5 +1,5 @@
 //! The engines are run over the files of an order.
-ghost use Rattle.std.specs.Prelude.{◌≡◌, ◌≤◌, None, Some};
+ghost use Rattle.std.specs.Prelude.{◌≡◌, ◌≤◌, None, Some, false};
 ghost use Rattle.dc_answer.specs.Judging.{Leaves};
 ghost use Rattle.dc_device.specs.States.{AsksUpTo, CanFail, IsCountable, SourceState};
 ghost use Rattle.dc_capture.specs.declared.capture_lines.TheConstants.{CAPTURE_LIMIT};
@@ -71,7 +71,7 @@ pub fn check<'a, W: World<'a>, K: Sink>(
 ) -> Exit
     requires new { IsNew (W.state world.old) }
     requires sink { CanFail (K.state sink.old) }
-    ensures carries { (input : SourceState) → Carries (Check tables.entry certificate.entry None) (W.state world.old) (W.state world.new) input input
+    ensures carries { (input : SourceState) → Carries (Check tables.entry certificate.entry None false) (W.state world.old) (W.state world.new) input input
         (K.state sink.old) (K.state sink.new) result }
     ensures left { Leaves (K.state sink.old) (K.state sink.new) }
 {
@@ -233,7 +233,7 @@ pub fn check_by<'a, W: World<'a>, K: Sink, H: ByThreads>(
     requires range { (1 ≤ workers) × (workers ≤ 64) }
     requires new { IsNew (W.state world.old) }
     requires sink { CanFail (K.state sink.old) }
-    ensures carries { (input : SourceState) → Carries (Check tables.entry certificate.entry (Some workers)) (W.state world.old) (W.state world.new)
+    ensures carries { (input : SourceState) → Carries (Check tables.entry certificate.entry (Some workers) false) (W.state world.old) (W.state world.new)
         input input (K.state sink.old) (K.state sink.new) result }
     ensures left { Leaves (K.state sink.old) (K.state sink.new) }
 {

@@ -4,6 +4,7 @@
 mod carry;
 mod crews;
 mod designs;
+mod digests;
 mod disk;
 mod engines;
 mod limits;

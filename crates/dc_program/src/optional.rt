@@ -10,7 +10,7 @@ use crate::opening::{end_unopened, open_both, open_one};
 use crate::world::World;
 use dc_answer::Exit;
 use dc_device::Sink;
-use dc_run_margins::{InTime, run_margins, run_margins_least};
+use dc_run_margins::{Telling, run_margins_least_told, run_margins_told};
 use dc_run_report::{run_report, run_report_least};
 use std::alloc::Global;
 
@@ -84,16 +84,16 @@ fn margins_least<'a, W: World<'a>, K: Sink>(
     world: &mut W,
     sink: &mut K,
     tables: &'a str,
-    told: InTime,
+    told: Telling,
 ) -> Exit
     requires new { IsNew (W.state world.old) }
     requires sink { CanFail (K.state sink.old) }
-    ensures carries { (input : SourceState) → Carries (Margins tables.entry None told.microseconds told.drift) (W.state world.old) (W.state world.new) input input (K.state sink.old)
+    ensures carries { (input : SourceState) → Carries (Margins tables.entry None told.microseconds told.drift told.json) (W.state world.old) (W.state world.new) input input (K.state sink.old)
         (K.state sink.new) result }
     ensures left { Leaves (K.state sink.old) (K.state sink.new) }
 {
     match open_one(world, tables) {
-        Ok(mut tables) => run_margins_least(alloc, told, &mut tables, sink),
+        Ok(mut tables) => run_margins_least_told(alloc, told, &mut tables, sink),
         Err(why) => end_unopened(why, sink),
     }
 }
@@ -105,17 +105,17 @@ fn margins_given<'a, W: World<'a>, K: Sink>(
     sink: &mut K,
     tables: &'a str,
     certificate: &'a str,
-    told: InTime,
+    told: Telling,
 ) -> Exit
     requires new { IsNew (W.state world.old) }
     requires sink { CanFail (K.state sink.old) }
-    ensures carries { (input : SourceState) → Carries (Margins tables.entry (Some certificate.entry) told.microseconds told.drift) (W.state world.old) (W.state world.new) input input
+    ensures carries { (input : SourceState) → Carries (Margins tables.entry (Some certificate.entry) told.microseconds told.drift told.json) (W.state world.old) (W.state world.new) input input
         (K.state sink.old) (K.state sink.new) result }
     ensures left { Leaves (K.state sink.old) (K.state sink.new) }
 {
     match open_both(world, tables, certificate) {
         Ok((mut tables, mut certificate)) => {
-            run_margins(alloc, told, &mut tables, &mut certificate, sink)
+            run_margins_told(alloc, told, &mut tables, &mut certificate, sink)
         }
         Err(why) => end_unopened(why, sink),
     }
@@ -128,11 +128,11 @@ pub fn margins<'a, W: World<'a>, K: Sink>(
     sink: &mut K,
     tables: &'a str,
     certificate: Option<&'a str>,
-    told: InTime,
+    told: Telling,
 ) -> Exit
     requires new { IsNew (W.state world.old) }
     requires sink { CanFail (K.state sink.old) }
-    ensures carries { (input : SourceState) → Carries (Margins tables.entry certificate.entry told.microseconds told.drift) (W.state world.old) (W.state world.new) input input
+    ensures carries { (input : SourceState) → Carries (Margins tables.entry certificate.entry told.microseconds told.drift told.json) (W.state world.old) (W.state world.new) input input
         (K.state sink.old) (K.state sink.new) result }
     ensures left { Leaves (K.state sink.old) (K.state sink.new) }
 {

@@ -7,10 +7,12 @@ use Rattle.dc_command.proofs.asked.margins_in.Goals as goal
 pub returns-in-Ok : goal.returns-in-Ok
 returns-in-Ok c =
     let found = found_of c.args.matches.now in
-    let us = c.get_flag-microseconds.ensures in (
+    let us = c.get_flag-microseconds.ensures in
+    let json = c.get_flag-json.ensures in (
       refl,
       text_given found (codes "TABLES") _ c.in_ok-tables.ensures,
       c.get_str-certificate.ensures ∙ first_value-rows found (codes "CERT"),
       flag_given found (codes "us") _ us.none us.value us.other,
       drift_given found (codes "drift") _ c.in-Ok.ensures,
+      flag_given found (codes "json") _ json.none json.value json.other,
     )

@@ -1,4 +1,4 @@
-use Rattle.std.proofs.Common.{◌+◌, refl, None}
+use Rattle.std.proofs.Common.{◌+◌, refl, None, false}
 use Rattle.dc_answer.specs.Answer.{Any, Reported}
 use Rattle.dc_command.specs.declared.asked.Order.TheVariants.{Check}
 use Rattle.dc_run.specs.Check.{ReportsCheck}
@@ -10,6 +10,6 @@ returns-in-Ok-clause-carries g c = λ input.
     let sink = g.K.Sink.state c.args.sink.now in
     let sink' = g.K.Sink.state c.run_check.new.sink in
     let failed = (g.W.File.Source.state c.run_check.new.tables).failed + (g.W.File.Source.state c.run_check.new.certificate).failed in
-    ran (Check c.args.tables c.args.certificate None) _ _ _ _ _ input input failed c.in-Ok.ensures.opened refl
+    ran (Check c.args.tables c.args.certificate None false) _ _ _ _ _ input input failed c.in-Ok.ensures.opened refl
     (two_texts (λ rows claims n. ReportsCheck rows claims sink.contents sink'.contents n failed sink.failed sink'.failed c.run_check.result) (g.W.File.Source.state c.in-Ok.tables) (g.W.File.Source.state c.in-Ok.certificate) _ _ c.in-Ok.ensures.first c.in-Ok.ensures.second c.run_check.ensures.reports)
     (of_two (λ n. Reported Any sink.contents sink'.contents n failed sink.failed sink'.failed c.run_check.result) (g.W.File.Source.state c.in-Ok.tables) (g.W.File.Source.state c.in-Ok.certificate) _ _ c.in-Ok.ensures.first c.in-Ok.ensures.second c.run_check.ensures.reported)
