@@ -65,7 +65,7 @@ test:
 # on the commands of docs/recordings.md, of docs/networks.md and of the tutorial, at its edges, under refused memory and failing devices; the library for C
 # beside it; what is installed and packed, in a folder of its own; the instructions of the benchmark's workloads: some minutes, no proof
 # where the library is built. With EMBED=where-changed, as in .ci/run, the library is not tried where its sources are as they were tried last.
-trials: $(addprefix try-,rows explained chance timed networks recordings recorded designs crowds largest audits edges hostile pages refused embed tutorial installed pace)
+trials: $(addprefix try-,rows explained chance timed networks recordings recorded designs crowds largest audits edges hostile pages printed refused embed tutorial installed pace)
 
 try-%:
 	@scripts/$*

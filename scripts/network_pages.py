@@ -12,6 +12,7 @@ import xml.etree.ElementTree as Tree
 from pathlib import Path
 from random import Random
 
+from contrasts import contrast_faults
 from program import ROOT, module_of
 
 networks = module_of(ROOT / "scripts/networks")
@@ -34,6 +35,7 @@ def shape_faults(written):
     ids = [node.get("id") for node in tree.iter() if node.get("id") is not None]
     found += [f"has the id {it} {ids.count(it)} times" for it in sorted(set(ids)) if ids.count(it) != 1]
     found += [f"leads to {node.get('href')}" for node in tree.iter("a") if (node.get("href") or "").removeprefix("#") not in set(ids)]
+    found += contrast_faults(written)
     return found + [f"has an element {node.tag}" for node in tree.iter() if node.tag in ("script", "link", "img", "iframe", "object")], tree
 
 

@@ -7,7 +7,7 @@ from pathlib import Path
 
 ROOT = Path(__file__).resolve().parent.parent
 OUT = ROOT / "crates/dc429/out"
-VERSIONED = ROOT / "crates/dc_command/src/known.rt"
+VERSIONED = ROOT / "crates/dc_command/src/identity.rt"
 BUILT = [OUT / "dc429", ROOT / "build/dc429"]
 
 
@@ -36,7 +36,12 @@ def module_of(path):
 
 def version():
     """The version that the program prints, as its source has it: the one place where it is written."""
-    (said,) = re.findall(r'\.version\("([0-9.]+)"\)', VERSIONED.read_text())
+    return constant("VERSION")
+
+
+def constant(name):
+    """A text of the source that says what the program is, by its name."""
+    (said,) = re.findall(rf'^pub const {name}: &str = "([^"]+)";$', VERSIONED.read_text(), re.M)
     return said
 
 
