@@ -41,15 +41,15 @@ impl Hashing {
 
 /// A source that gives what another gives, which is hashed.
 #[derive(Drop)]
-pub struct Hashed<'a, S> {
+pub struct Hashed<'h, S> {
     /// The source.
-    pub source: &'a mut S,
+    pub source: S,
     /// The digest of what it gives.
-    pub hashing: &'a Hashing,
+    pub hashing: &'h Hashing,
 }
 
-impl<'a, S: Source> Source for Hashed<'a, S> {
-    ghost state = { λ h. S.state h.source.now };
+impl<'h, S: Source> Source for Hashed<'h, S> {
+    ghost state = { λ h. S.state h.source };
 
     fn pull(&mut self, buf: &mut [u8]) -> Result<usize, Broken> {
         match self.source.pull(buf) {

@@ -9,10 +9,43 @@ ghost use Rattle.dc_program.specs.World.{IsNew};
 use crate::opening::{end_unopened, open_both, open_one};
 use crate::world::World;
 use dc_answer::Exit;
+use dc_command::{LOGIC, VERSION};
 use dc_device::Sink;
+use dc_digest::{Hashed, Hashing};
 use dc_run_margins::{Telling, run_margins_least_told, run_margins_told};
-use dc_run_report::{run_report, run_report_least};
+use dc_run_report::{PageOf, TextOf, run_report_least_of, run_report_of};
 use std::alloc::Global;
+
+/// The digests of the texts of a page while these are read.
+#[derive(Drop)]
+struct Digests {
+    tables: Hashing,
+    certificate: Hashing,
+}
+
+/// What a page on the least certificate says that it is of.
+fn of_tables<'n, 'h>(tables: &'n str, hashing: &'h Hashing) -> PageOf<'n, 'h> {
+    PageOf {
+        tables: TextOf {
+            name: tables,
+            hashing,
+        },
+        certificate: None,
+        version: VERSION,
+        logic: LOGIC,
+    }
+}
+
+/// What a page on a certificate says that it is of.
+fn of_both<'n, 'h>(tables: &'n str, certificate: &'n str, digests: &'h Digests) -> PageOf<'n, 'h> {
+    PageOf {
+        certificate: Some(TextOf {
+            name: certificate,
+            hashing: &digests.certificate,
+        }),
+        ..of_tables(tables, &digests.tables)
+    }
+}
 
 /// Writes the page on the least certificate.
 fn page_least<'a, W: World<'a>, K: Sink>(
@@ -29,7 +62,15 @@ fn page_least<'a, W: World<'a>, K: Sink>(
     ensures left { Leaves (K.state sink.old) (K.state sink.new) }
 {
     match open_one(world, tables) {
-        Ok(mut tables) => run_report_least(alloc, drift, &mut tables, sink),
+        Ok(source) => {
+            let hashing = Hashing::new();
+            let of = of_tables(tables, &hashing);
+            let mut hashed = Hashed {
+                source,
+                hashing: &hashing,
+            };
+            run_report_least_of(alloc, drift, Some(of), &mut hashed, sink)
+        }
         Err(why) => end_unopened(why, sink),
     }
 }
@@ -50,8 +91,21 @@ fn page_given<'a, W: World<'a>, K: Sink>(
     ensures left { Leaves (K.state sink.old) (K.state sink.new) }
 {
     match open_both(world, tables, certificate) {
-        Ok((mut tables, mut certificate)) => {
-            run_report(alloc, drift, &mut tables, &mut certificate, sink)
+        Ok((rows, claims)) => {
+            let digests = Digests {
+                tables: Hashing::new(),
+                certificate: Hashing::new(),
+            };
+            let of = of_both(tables, certificate, &digests);
+            let mut rows = Hashed {
+                source: rows,
+                hashing: &digests.tables,
+            };
+            let mut claims = Hashed {
+                source: claims,
+                hashing: &digests.certificate,
+            };
+            run_report_of(alloc, drift, Some(of), &mut rows, &mut claims, sink)
         }
         Err(why) => end_unopened(why, sink),
     }

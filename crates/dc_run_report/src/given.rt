@@ -24,7 +24,7 @@ fn keep_judged(
     alloc: Global,
     written: &WrittenTables,
     certificate: &Certificate,
-    shown: Shown<'_>,
+    shown: Shown<'_, '_>,
     page: &mut Page,
 ) -> Result<Outcome, AllocError>
     ensures outcome { IfOk result (λ o. o ≡ outcome_of (verdict_of written.now.tables (named_rows certificate.now))) }
@@ -38,7 +38,7 @@ fn report_on(
     alloc: Global,
     written: &WrittenTables,
     certificate: &Certificate,
-    shown: Shown<'_>,
+    shown: Shown<'_, '_>,
     page: &mut Page,
 ) -> Result<Outcome, AllocError>
     ensures { Keeps (IsPage (outcome_of (verdict_of written.now.tables (named_rows certificate.now)))) page.new result }
@@ -49,12 +49,12 @@ fn report_on(
 /// Makes the page on a certificate for tables, with the outcome of its verdict. No clause says what stands in the page:
 /// it is tested.
 #[derive(Clone, Copy)]
-pub struct Report<'a> {
+pub struct Report<'n, 'h> {
     /// What the page shows beside them.
-    pub shown: Shown<'a>,
+    pub shown: Shown<'n, 'h>,
 }
 
-impl<'a> Tell<(WrittenTables, Certificate)> for Report<'a> {
+impl<'n, 'h> Tell<(WrittenTables, Certificate)> for Report<'n, 'h> {
     ghost answers = { λ _ known. IsPage (outcome_of (verdict_of known.0.tables (named_rows known.1))) };
 
     fn tell(
@@ -109,7 +109,7 @@ pub fn run_report<T: Source, C: Source, K: Sink>(
 pub fn run_report_of<T: Source, C: Source, K: Sink>(
     alloc: Global,
     drift: Option<u16>,
-    of: Option<PageOf<'_>>,
+    of: Option<PageOf<'_, '_>>,
     tables: &mut T,
     certificate: &mut C,
     sink: &mut K,

@@ -6,33 +6,33 @@ use std::alloc::{AllocError, Global};
 
 /// A text that is read for a page.
 #[derive(Clone, Copy)]
-pub struct TextOf<'a> {
+pub struct TextOf<'n, 'h> {
     /// Its name.
-    pub name: &'a str,
+    pub name: &'n str,
     /// Its digest, which its source makes while it is read.
-    pub hashing: &'a Hashing,
+    pub hashing: &'h Hashing,
 }
 
 /// What a page is of.
 #[derive(Clone, Copy)]
-pub struct PageOf<'a> {
+pub struct PageOf<'n, 'h> {
     /// The tables.
-    pub tables: TextOf<'a>,
+    pub tables: TextOf<'n, 'h>,
     /// The certificate, where one is given.
-    pub certificate: Option<TextOf<'a>>,
+    pub certificate: Option<TextOf<'n, 'h>>,
     /// The version of the program.
-    pub version: &'a str,
+    pub version: &'n str,
     /// The sum of the logic that it was proved by.
-    pub logic: &'a str,
+    pub logic: &'n str,
 }
 
 /// What a page shows beside a certificate and its verdict.
 #[derive(Clone, Copy)]
-pub struct Shown<'a> {
+pub struct Shown<'n, 'h> {
     /// The drift of clocks, in millionths, on which it has a section.
     pub drift: Option<u16>,
     /// What it is of, where it says that.
-    pub of: Option<PageOf<'a>>,
+    pub of: Option<PageOf<'n, 'h>>,
 }
 
 /// The digits of the digests of the texts that a page is of.
@@ -42,7 +42,7 @@ pub(crate) struct Digits {
     certificate: String,
 }
 
-impl<'a> PageOf<'a> {
+impl<'n, 'h> PageOf<'n, 'h> {
     /// The digits of the digests, when both texts were read.
     pub(crate) fn digits(&self, alloc: Global) -> Result<Digits, AllocError> {
         let tables = self.tables.hashing.end(alloc)?;
@@ -58,7 +58,7 @@ impl<'a> PageOf<'a> {
 }
 
 /// A text with its digest.
-fn named<'a>(text: TextOf<'a>, digest: &'a str) -> NamedText<'a> {
+fn named<'a>(text: TextOf<'a, 'a>, digest: &'a str) -> NamedText<'a> {
     NamedText {
         name: text.name,
         digest,
@@ -66,7 +66,7 @@ fn named<'a>(text: TextOf<'a>, digest: &'a str) -> NamedText<'a> {
 }
 
 /// What a page says that it is of, with these digests.
-pub(crate) fn identity_of<'a>(of: PageOf<'a>, digits: &'a Digits) -> Identity<'a> {
+pub(crate) fn identity_of<'a>(of: PageOf<'a, 'a>, digits: &'a Digits) -> Identity<'a> {
     let certificate = match of.certificate {
         Some(text) => Some(named(text, digits.certificate.as_str())),
         None => None,

@@ -19,7 +19,7 @@ use std::alloc::{AllocError, Global};
 fn report_least(
     alloc: Global,
     written: &WrittenTables,
-    shown: Shown<'_>,
+    shown: Shown<'_, '_>,
     page: &mut Page,
 ) -> Result<Outcome, AllocError>
     ensures { Keeps (AnswersRows written.now.tables) page.new result }
@@ -33,12 +33,12 @@ fn report_least(
 /// Makes the page on the least certificate for tables; where none is accepted, that on what was found, in which the line
 /// stands of what is first in the way of every certificate. No clause says what else stands in a page: it is tested.
 #[derive(Clone, Copy)]
-pub struct ReportLeast<'a> {
+pub struct ReportLeast<'n, 'h> {
     /// What the page shows beside them.
-    pub shown: Shown<'a>,
+    pub shown: Shown<'n, 'h>,
 }
 
-impl<'a> Tell<WrittenTables> for ReportLeast<'a> {
+impl<'n, 'h> Tell<WrittenTables> for ReportLeast<'n, 'h> {
     ghost answers = { λ _ known. AnswersRows known.tables };
 
     fn tell(
@@ -85,7 +85,7 @@ pub fn run_report_least<T: Source, K: Sink>(
 pub fn run_report_least_of<T: Source, K: Sink>(
     alloc: Global,
     drift: Option<u16>,
-    of: Option<PageOf<'_>>,
+    of: Option<PageOf<'_, '_>>,
     tables: &mut T,
     sink: &mut K,
 ) -> Exit

@@ -73,7 +73,7 @@ fn identified_page(
     certificate: &Certificate,
     fault: Option<CheckFault>,
     drift: Option<u16>,
-    of: PageOf<'_>,
+    of: PageOf<'_, '_>,
 ) -> Result<String, AllocError>
     requires { fault ≡ verdict_of written.now.tables (named_rows certificate.now) }
 {
@@ -88,7 +88,7 @@ fn page_text(
     written: &WrittenTables,
     certificate: &Certificate,
     fault: Option<CheckFault>,
-    shown: Shown<'_>,
+    shown: Shown<'_, '_>,
 ) -> Result<String, AllocError>
     requires { fault ≡ verdict_of written.now.tables (named_rows certificate.now) }
 {
@@ -108,7 +108,7 @@ pub fn keep_page(
     written: &WrittenTables,
     certificate: &Certificate,
     fault: Option<CheckFault>,
-    shown: Shown<'_>,
+    shown: Shown<'_, '_>,
     page: &mut Page,
 ) -> Result<Outcome, AllocError>
     requires { fault ≡ verdict_of written.now.tables (named_rows certificate.now) }

@@ -46,14 +46,14 @@ fn back_text(
 }
 
 /// The page up to the line, that says what it is of.
-fn identified_front(alloc: Global, of: PageOf<'_>) -> Result<String, AllocError> {
+fn identified_front(alloc: Global, of: PageOf<'_, '_>) -> Result<String, AllocError> {
     let digits = of.digits(alloc)?;
     let identity = identity_of(of, &digits);
     sought_front(alloc, Some(&identity))
 }
 
 /// The page up to the line, with what it is of where that is given.
-fn front_text(alloc: Global, of: Option<PageOf<'_>>) -> Result<String, AllocError> {
+fn front_text(alloc: Global, of: Option<PageOf<'_, '_>>) -> Result<String, AllocError> {
     match of {
         None => sought_front(alloc, None),
         Some(of) => identified_front(alloc, of),
@@ -65,7 +65,7 @@ fn keep_front(
     alloc: Global,
     tables: &Tables,
     fault: FindFault,
-    of: Option<PageOf<'_>>,
+    of: Option<PageOf<'_, '_>>,
     page: &mut Page,
 ) -> Result<(), AllocError>
     requires { StandsInTheWay tables.now fault }
@@ -84,7 +84,7 @@ fn keep_found(
     written: &WrittenTables,
     found: &Certificate,
     fault: FindFault,
-    shown: Shown<'_>,
+    shown: Shown<'_, '_>,
     page: &mut Page,
 ) -> Result<(), AllocError>
     requires stands { StandsInTheWay written.now.tables fault }
@@ -106,7 +106,7 @@ pub(crate) fn keep_sought(
     alloc: Global,
     written: &WrittenTables,
     fault: FindFault,
-    shown: Shown<'_>,
+    shown: Shown<'_, '_>,
     page: &mut Page,
 ) -> Result<Outcome, AllocError>
     requires none { fault ≢ FindFault.Memory → NoneAccepted written.now.tables }

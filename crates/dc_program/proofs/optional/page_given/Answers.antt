@@ -8,8 +8,8 @@ use Rattle.dc_program.proofs.optional.page_given.Goals as goal
 pub returns-in-Ok-clause-carries : goal.returns-in-Ok-clause-carries
 returns-in-Ok-clause-carries g c = λ input.
     let sink = g.K.Sink.state c.args.sink.now in
-    let sink' = g.K.Sink.state c.run_report.new.sink in
-    let failed = (g.W.File.Source.state c.run_report.new.tables).failed + (g.W.File.Source.state c.run_report.new.certificate).failed in
+    let sink' = g.K.Sink.state c.run_report_of.new.sink in
+    let failed = (g.W.File.Source.state c.run_report_of.new.tables.source).failed + (g.W.File.Source.state c.run_report_of.new.certificate.source).failed in
     ran (Report c.args.tables (Some c.args.certificate) c.args.drift) _ _ _ _ _ input input failed c.in-Ok.ensures.opened refl
-    (two_texts (λ rows claims n. ReportsPage rows claims sink.contents sink'.contents n failed sink.failed sink'.failed c.run_report.result) (g.W.File.Source.state c.in-Ok.tables) (g.W.File.Source.state c.in-Ok.certificate) _ _ c.in-Ok.ensures.first c.in-Ok.ensures.second c.run_report.ensures.reports)
-    (of_two (λ n. Reported Any sink.contents sink'.contents n failed sink.failed sink'.failed c.run_report.result) (g.W.File.Source.state c.in-Ok.tables) (g.W.File.Source.state c.in-Ok.certificate) _ _ c.in-Ok.ensures.first c.in-Ok.ensures.second c.run_report.ensures.reported)
+    (two_texts (λ rows claims n. ReportsPage rows claims sink.contents sink'.contents n failed sink.failed sink'.failed c.run_report_of.result) (g.W.File.Source.state c.in-Ok.rows) (g.W.File.Source.state c.in-Ok.claims) _ _ c.in-Ok.ensures.first c.in-Ok.ensures.second c.run_report_of.ensures.reports)
+    (of_two (λ n. Reported Any sink.contents sink'.contents n failed sink.failed sink'.failed c.run_report_of.result) (g.W.File.Source.state c.in-Ok.rows) (g.W.File.Source.state c.in-Ok.claims) _ _ c.in-Ok.ensures.first c.in-Ok.ensures.second c.run_report_of.ensures.reported)
