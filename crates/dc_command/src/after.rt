@@ -149,10 +149,13 @@ Exit status:
 /// Behind the options of `design`.
 pub(crate) const AFTER_DESIGN: &str = "Example: dc429 design inputs.csv outputs.csv > tables.toml
 
-Columns of inputs: bus, speed, label, equipment, format, min, max, and where
-there is something to say sdi, jitter, police, queue, router, name. Columns of
-outputs: output, speed, label, equipment, sources, min, max, and likewise sdi,
-max_age, timeout, name, format. A time's title has its unit, as in \"Min ms\".
+Columns of inputs: bus, speed, label, equipment, format, min, max; and where
+there is something to say sdi (else any), jitter (0), police (no), queue and
+router (worked out), name (<bus>-<label>). Columns of outputs: output, speed,
+label, equipment, sources (names, parted by blanks, or one each in Source 1 to
+Source 8), min, max; and likewise sdi (else 0), max_age (else no limit),
+timeout, name, format. A time's title has its unit, as in \"Min ms\". A label
+that leaves at another rate than it comes has an equipment code of its own.
 
 A file named - is standard input, which only one of the two sheets can be; one
 of that name is ./-. Where no --tick is said, the first of eight that does is
