@@ -80,7 +80,7 @@ fn write_streams(document: &Document, plan: &Plan, bus: &Bus, is_second: bool, l
 /// Writes the buses with their streams.
 pub(crate) fn write_buses(document: &Document, plan: &Plan, is_second: bool, lines: &mut Lines) {
     for (number, bus) in document.buses.iter().enumerate() {
-        if let Some(own) = plan.buses.get(number) {
+        if let Some(own) = plan.visits.buses.get(number) {
             write_head(bus, own, is_second, lines);
             write_streams(document, plan, bus, is_second, lines);
         }
@@ -98,10 +98,10 @@ fn write_router(document: &Document, plan: &Plan, router: &RouterPlan, lines: &m
             Fact::Number(router.most),
         ],
     );
-    for place in router.visits.first..router.visits.end {
-        let number = plan.visits.get(place).copied().unwrap_or(0);
+    for place in router.turns.first..router.turns.end {
+        let number = plan.visits.turns.get(place).copied().unwrap_or(0);
         if let Some(bus) = document.buses.get(number) {
-            let is_first = place == router.visits.first;
+            let is_first = place == router.turns.first;
             lines.say(
                 if is_first { "\"{}\"" } else { ", \"{}\"" },
                 &[Fact::Name(bus.name)],
@@ -113,7 +113,7 @@ fn write_router(document: &Document, plan: &Plan, router: &RouterPlan, lines: &m
 
 /// Writes the routers.
 pub(crate) fn write_routers(document: &Document, plan: &Plan, lines: &mut Lines) {
-    for router in &plan.routers {
+    for router in &plan.visits.routers {
         write_router(document, plan, router, lines);
     }
 }

@@ -58,11 +58,11 @@ fn say_gaps(
     document: &Document,
     plan: &Plan,
     label: &Label,
-    own: &LabelPlan,
-    output: &OutputPlan,
+    least_age: u64,
+    gaps: Gaps,
+    within: u64,
     lines: &mut Lines,
 ) {
-    let gaps = gaps_of(&plan.offsets, own.offsets, output.frame);
     let Some(parameter) = document.parameter(label.parameter) else {
         return;
     };
@@ -72,7 +72,7 @@ fn say_gaps(
             Fact::Number(label.row),
             Fact::Number(gaps.least),
             Fact::Number(gaps.most),
-            Fact::Number(output.within),
+            Fact::Number(within),
             Fact::Number(up(parameter.min, plan.tick).saturating_add(1)),
         ],
     );
@@ -80,8 +80,8 @@ fn say_gaps(
         "{}; at most {} {} old",
         &[
             Fact::Number(part(parameter.max, plan.tick).saturating_sub(1)),
-            Fact::Number(own.least_age),
-            ticks_word(own.least_age),
+            Fact::Number(least_age),
+            ticks_word(least_age),
         ],
     );
 }
@@ -103,7 +103,7 @@ fn say_sources(document: &Document, label: &Label, lines: &mut Lines) {
 /// Says the offsets of a label.
 fn say_offsets(plan: &Plan, span: Span, lines: &mut Lines) {
     for place in span.first..span.end {
-        let offset = plan.offsets.get(place).copied().unwrap_or(0);
+        let offset = plan.frames.offsets.get(place).copied().unwrap_or(0);
         let is_first = place == span.first;
         lines.say(
             if is_first { "{}" } else { ", {}" },
@@ -113,7 +113,14 @@ fn say_offsets(plan: &Plan, span: Span, lines: &mut Lines) {
 }
 
 /// Writes the keys of a label.
-fn write_keys(document: &Document, plan: &Plan, label: &Label, own: &LabelPlan, lines: &mut Lines) {
+fn write_keys(
+    document: &Document,
+    plan: &Plan,
+    label: &Label,
+    own: &LabelPlan,
+    span: Span,
+    lines: &mut Lines,
+) {
     lines.say(
         "[[output.label]]\nname = \"{}\"\nlabel = \"{}\"\nequipment = \"{}\"\nsdi = {}\nsources = [",
         &[
@@ -128,7 +135,7 @@ fn write_keys(document: &Document, plan: &Plan, label: &Label, own: &LabelPlan, 
         "]\nstale = {}\nage = {}\noffsets = [",
         &[Fact::Number(own.stale), Fact::Number(own.age)],
     );
-    say_offsets(plan, own.offsets, lines);
+    say_offsets(plan, span, lines);
     lines.line("]", &[]);
 }
 
@@ -145,9 +152,21 @@ fn write_labels(
         let Some(label) = document.labels.get(number) else {
             continue;
         };
-        if let Some(numbers) = plan.labels.get(number) {
-            say_gaps(document, plan, label, numbers, own, lines);
-            write_keys(document, plan, label, numbers, lines);
+        let Some(numbers) = plan.labels.get(place) else {
+            continue;
+        };
+        if let Some(span) = plan.frames.labels.get(place) {
+            let gaps = gaps_of(&plan.frames.offsets, *span, own.frame);
+            say_gaps(
+                document,
+                plan,
+                label,
+                numbers.least_age,
+                gaps,
+                own.within,
+                lines,
+            );
+            write_keys(document, plan, label, numbers, *span, lines);
         }
     }
 }
@@ -155,7 +174,7 @@ fn write_labels(
 /// Writes the outputs with their labels.
 pub(crate) fn write_outputs(document: &Document, plan: &Plan, lines: &mut Lines) {
     for (number, output) in document.outputs.iter().enumerate() {
-        if let Some(own) = plan.outputs.get(number) {
+        if let Some(own) = plan.frames.outputs.get(number) {
             write_head(output, own, lines);
             write_labels(document, plan, output, own, lines);
         }

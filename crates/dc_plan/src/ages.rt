@@ -1,10 +1,19 @@
 //! Stage 4: stale times and ages of labels.
-use crate::delays::age_of;
-use crate::knobs::Knobs;
-use crate::numbers::{part, share_of, whole_of};
-use crate::obstacles::Obstacles;
-use crate::planned::{BusPlan, LabelPlan, Pace};
-use dc_design_rows::{Document, Fact, Label, Output, Span};
+use dc_design_rows::{Document, Fact, Label, Output};
+use dc_plan_ticks::{Knobs, Obstacles, Pace, age_of, part, share_of, whole_of};
+use dc_plan_visits::BusPlan;
+use std::alloc::AllocError;
+
+/// A label.
+#[derive(Clone, Copy)]
+pub struct LabelPlan {
+    /// So many ticks after it was routed a word is fresh.
+    pub stale: u64,
+    /// The limit on the age of its data, in ticks.
+    pub age: u64,
+    /// The least limit that holds, in ticks.
+    pub least_age: u64,
+}
 
 /// How late the sources of a label may be.
 #[derive(Clone, Copy)]
@@ -113,7 +122,6 @@ fn aged(label: &Label, late: &Late, knobs: &Knobs, obstacles: &mut Obstacles) ->
         stale,
         age,
         least_age,
-        offsets: Span { first: 0, end: 0 },
     };
     let left = share_of(age, knobs.share);
     if label.max_age.is_some() && least_age > left {
@@ -122,25 +130,23 @@ fn aged(label: &Label, late: &Late, knobs: &Knobs, obstacles: &mut Obstacles) ->
     plan
 }
 
-/// The stale times and the ages of the labels of an output.
+/// Adds the stale times and the ages of the labels of an output, or tells those whose times are too short.
 pub(crate) fn age_all(
     document: &Document,
     output: &Output,
     buses: &[BusPlan],
     paces: &[Pace],
     knobs: &Knobs,
-    plans: &mut [LabelPlan],
+    plans: &mut Vec<LabelPlan>,
     obstacles: &mut Obstacles,
-) {
+) -> Result<(), AllocError> {
     for place in output.labels.first..output.labels.end {
         let number = document.on_output.get(place).copied().unwrap_or(0);
         let Some(label) = document.labels.get(number) else {
             continue;
         };
         let late = late_of(document, buses, paces, label);
-        let plan = aged(label, &late, knobs, obstacles);
-        if let Some(slot) = plans.get_mut(number) {
-            *slot = plan;
-        }
+        plans.push(aged(label, &late, knobs, obstacles))?;
     }
+    Ok(())
 }

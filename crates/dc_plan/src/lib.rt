@@ -3,29 +3,10 @@
 #![tactic(auto)]
 
 mod ages;
-mod arrivals;
-mod board;
-mod buses;
-mod busy;
-mod choices;
-mod counts;
-mod delays;
-mod filling;
-mod frames;
-mod knobs;
-mod numbers;
-mod obstacles;
-mod outputs;
-mod planned;
-mod rounds;
-mod routers;
 mod stages;
-mod streams;
-mod whys;
-mod windows;
 
-pub use knobs::Knobs;
-pub use numbers::{part, up};
-pub use obstacles::{Obstacles, Unplanned};
-pub use planned::{BusPlan, LabelPlan, OutputPlan, Pace, Plan, RouterPlan};
-pub use stages::make_plan;
+pub use ages::LabelPlan;
+pub use dc_plan_frames::{Frames, OutputPlan};
+pub use dc_plan_ticks::{Knobs, Obstacles, Pace, part, up};
+pub use dc_plan_visits::{BusPlan, RouterPlan, Visits};
+pub use stages::{Plan, Unplanned, make_plan};

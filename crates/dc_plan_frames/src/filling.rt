@@ -1,9 +1,9 @@
 //! A frame that is filled with the entries of labels.
 use crate::board::Board;
 use crate::counts::Rhythm;
-use crate::numbers::part;
 use crate::windows::{Window, Windows};
 use dc_design_rows::Span;
+use dc_plan_ticks::part;
 use std::alloc::{AllocError, Global};
 
 /// So many entries of a label, with gaps of its window.

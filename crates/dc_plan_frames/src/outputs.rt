@@ -1,11 +1,10 @@
-//! Stage 4: the frame and the offsets of an output.
+//! The frame of an output, and its filling.
 use crate::choices::choose;
 use crate::counts::{Kind, Loads, Rhythm};
 use crate::filling::{Filling, fill_frame};
 use crate::frames::list_frames;
-use crate::knobs::Knobs;
-use crate::windows::{Spacing, Windows};
-use dc_design_rows::{Document, Output};
+use crate::windows::{Scene, Spacing, Windows};
+use dc_plan_ticks::Knobs;
 use std::alloc::{AllocError, Global};
 
 /// So many frames are filled, each in so many orders.
@@ -30,19 +29,11 @@ static EFFORTS: [Effort; 2] = [
 /// The mean gap of a label lies so many sixteenths of its window below the greatest: the middle first.
 static SHARES: [u64; 5] = [8, 6, 4, 2, 0];
 
+/// So many frames are looked at for one spacing.
+const MOST_FRAMES: usize = 1_024;
+
 /// An even rhythm first, then any, then the shortest frame.
 static KINDS: [Kind; 3] = [Kind::Even, Kind::Any, Kind::Short];
-
-/// An output that is looked at.
-#[derive(Clone, Copy)]
-pub(crate) struct Scene<'a> {
-    pub(crate) alloc: Global,
-    pub(crate) document: &'a Document,
-    pub(crate) output: &'a Output,
-    pub(crate) knobs: &'a Knobs,
-    /// So many ticks lie between two sends at least.
-    pub(crate) gap: u64,
-}
 
 /// Who found no place last.
 #[derive(Clone, Copy)]
@@ -193,18 +184,18 @@ fn fill_spacing(
     effort: &Effort,
     search: &mut Search,
 ) -> Result<Option<u64>, AllocError> {
-    let windows = Windows::of(
-        scene.alloc,
-        scene.document,
-        scene.output,
-        scene.knobs,
-        spacing,
-    )?;
+    let windows = Windows::of(scene, spacing)?;
     if windows.is_some_empty() {
         return Ok(None);
     }
     let mut frames = Vec::new(scene.alloc);
-    list_frames(&windows, spacing, scene.knobs.share, &mut frames)?;
+    list_frames(
+        &windows,
+        spacing,
+        scene.knobs.share,
+        MOST_FRAMES,
+        &mut frames,
+    )?;
     let attempt = Attempt {
         alloc: scene.alloc,
         windows: &windows,

@@ -1,13 +1,11 @@
 //! Stage 3: how often each bus is visited.
 use crate::arrivals::Arrivals;
 use crate::busy::{ANY, Busy, LONGEST, Service, least_window};
-use crate::knobs::Knobs;
-use crate::numbers::{part, share_of, whole_of};
-use crate::obstacles::Obstacles;
-use crate::planned::{BusPlan, Pace};
+use crate::visits::{BusPlan, Visits};
 use dc_bound::GREATEST_QUEUE;
 use dc_design_rows::{Bus, Document, Fact};
 use dc_document::{MOST_STEPS, input_spacing};
+use dc_plan_ticks::{Knobs, Obstacles, Pace, part, share_of, whole_of};
 use std::alloc::{AllocError, Global};
 
 /// The most steps in a tick.
@@ -221,14 +219,19 @@ fn plan_bus(
     }
 }
 
-/// The plan of each bus.
-pub(crate) fn plan_buses(
+/// Adds the plan of each bus, in the order of the buses, by how its streams come and how late it may be, both in ticks; or
+/// tells why none serves.
+///
+/// # Errors
+///
+/// Memory was refused.
+pub fn plan_buses(
     alloc: Global,
     document: &Document,
     paces: &[Pace],
     wanted: &[u64],
     knobs: &Knobs,
-    plans: &mut Vec<BusPlan>,
+    visits: &mut Visits,
     obstacles: &mut Obstacles,
 ) -> Result<(), AllocError> {
     for (number, bus) in document.buses.iter().enumerate() {
@@ -239,7 +242,7 @@ pub(crate) fn plan_buses(
         };
         let load = load_of(document, bus, paces, knobs);
         if let Some(plan) = plan_bus(bus, &arrivals, &most, load, knobs, obstacles) {
-            plans.push(plan)?;
+            visits.buses.push(plan)?;
         }
     }
     Ok(())

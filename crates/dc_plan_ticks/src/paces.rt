@@ -2,9 +2,19 @@
 use crate::knobs::Knobs;
 use crate::numbers::{part, up};
 use crate::obstacles::Obstacles;
-use crate::planned::Pace;
 use dc_design_rows::{Document, Fact, Parameter, Stream};
 use std::alloc::AllocError;
+
+/// How a stream comes, in ticks.
+#[derive(Clone, Copy)]
+pub struct Pace {
+    /// The least interval between two words.
+    pub least: u64,
+    /// The greatest interval between two words.
+    pub most: u64,
+    /// How late of their rhythm its words may come.
+    pub jitter: u64,
+}
 
 /// How a stream of this parameter comes.
 fn pace_of(parameter: &Parameter, stream: &Stream, tick: u64) -> Pace {
@@ -48,8 +58,13 @@ fn tell_all_short(
     }
 }
 
-/// How each stream comes.
-pub(crate) fn pace_all(
+/// Adds how each stream comes, in the order of the streams, or tells those whose words may follow one another in less than
+/// a tick.
+///
+/// # Errors
+///
+/// Memory was refused.
+pub fn pace_all(
     document: &Document,
     knobs: &Knobs,
     paces: &mut Vec<Pace>,

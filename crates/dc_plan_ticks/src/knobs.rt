@@ -44,7 +44,7 @@ impl Knobs {
     }
 
     /// What is used where so much is left, in percent.
-    pub(crate) fn used(&self) -> u64 {
+    pub fn used(&self) -> u64 {
         100u64.saturating_sub(self.leave)
     }
 }

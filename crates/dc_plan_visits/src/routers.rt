@@ -1,9 +1,9 @@
 //! The routers: one for each bus, or for each name of the column.
-use crate::obstacles::Obstacles;
-use crate::planned::{BusPlan, Plan, RouterPlan};
-use crate::rounds::{Round, round_for, shortest_within};
+use crate::rounds::{round_for, shortest_within};
+use crate::visits::{BusPlan, RouterPlan, Visits};
 use dc_design_rows::{Bus, Document, Fact, Letters, Span};
 use dc_document::{MOST_STEPS, MOST_VISITS, NAME_LIMIT};
+use dc_plan_ticks::Obstacles;
 use std::alloc::{AllocError, Global};
 
 /// Whether this name stands among some.
@@ -119,11 +119,11 @@ fn plan_router(
     buses: &[BusPlan],
     name: Letters,
     group: &[usize],
-    visits: &mut Vec<usize>,
+    turns: &mut Vec<usize>,
     obstacles: &mut Obstacles,
 ) -> Result<Option<RouterPlan>, AllocError> {
-    let first = visits.len();
-    let Some(round) = round_for(buses, group, visits)? else {
+    let first = turns.len();
+    let Some(round) = round_for(buses, group, turns)? else {
         tell_full(name, group.len(), shortest_within(buses, group), obstacles);
         return Ok(None);
     };
@@ -132,18 +132,23 @@ fn plan_router(
         steps: round.steps,
         within: round.within,
         most: round.most,
-        visits: Span {
+        turns: Span {
             first,
-            end: visits.len(),
+            end: turns.len(),
         },
     }))
 }
 
-/// Adds the routers to a plan; the first one whose buses want too much is told.
-pub(crate) fn plan_routers(
+/// Adds the routers of buses whose visits are planned, one for each bus or for each name of the column; the first one whose
+/// buses want too much is told.
+///
+/// # Errors
+///
+/// Memory was refused.
+pub fn plan_routers(
     alloc: Global,
     document: &Document,
-    plan: &mut Plan,
+    visits: &mut Visits,
     obstacles: &mut Obstacles,
 ) -> Result<(), AllocError> {
     let mut names = Vec::new(alloc);
@@ -155,8 +160,8 @@ pub(crate) fn plan_routers(
         }
         let mut group = Vec::new(alloc);
         list_buses(&names, name, &mut group)?;
-        match plan_router(&plan.buses, *name, &group, &mut plan.visits, obstacles)? {
-            Some(router) => plan.routers.push(router)?,
+        match plan_router(&visits.buses, *name, &group, &mut visits.turns, obstacles)? {
+            Some(router) => visits.routers.push(router)?,
             None => return Ok(()),
         }
     }

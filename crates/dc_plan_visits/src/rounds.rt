@@ -1,7 +1,7 @@
 //! The visits of a router in turn.
-use crate::numbers::up;
-use crate::planned::BusPlan;
+use crate::visits::BusPlan;
 use dc_document::{MOST_STEPS, MOST_VISITS};
+use dc_plan_ticks::up;
 use std::alloc::AllocError;
 
 /// The most steps in a tick.
@@ -64,13 +64,13 @@ fn deal(
     buses: &[BusPlan],
     group: &[usize],
     rounds: u64,
-    visits: &mut Vec<usize>,
+    turns: &mut Vec<usize>,
 ) -> Result<(), AllocError> {
     for turn in 0..VISITS {
         for number in group {
             if let Some(bus) = buses.get(*number) {
                 if turn < up(bus.steps, rounds) {
-                    visits.push(*number)?;
+                    turns.push(*number)?;
                 }
             }
         }
@@ -78,14 +78,14 @@ fn deal(
     Ok(())
 }
 
-/// The round of a router that visits these buses, whose visits are added to the others; nothing where they have no room.
+/// The round of a router that visits these buses, whose turns are added to the others; nothing where they have no room.
 pub(crate) fn round_for(
     buses: &[BusPlan],
     group: &[usize],
-    visits: &mut Vec<usize>,
+    turns: &mut Vec<usize>,
 ) -> Result<Option<Round>, AllocError> {
     if let [number] = group {
-        visits.push(*number)?;
+        turns.push(*number)?;
         return Ok(match buses.get(*number) {
             Some(bus) => Some(round_of(bus.steps, bus.within)),
             None => None,
@@ -97,6 +97,6 @@ pub(crate) fn round_for(
     if steps > MOST || count > VISITS {
         return Ok(None);
     }
-    deal(buses, group, rounds, visits)?;
+    deal(buses, group, rounds, turns)?;
     Ok(Some(round_of(steps, shortest_within(buses, group))))
 }

@@ -1,15 +1,12 @@
 //! Frames in which the least numbers of entries have room.
 use crate::counts::{LABEL_ENTRIES, Loads, fits};
-use crate::numbers::{part, up};
 use crate::windows::{Group, Spacing, Windows};
 use dc_bound::LONGEST_FRAME;
+use dc_plan_ticks::{part, up};
 use std::alloc::AllocError;
 
 /// The longest frame, in ticks.
 pub(crate) const LONGEST: u64 = LONGEST_FRAME as u64;
-
-/// So many frames are looked at for one spacing.
-const MOST_FRAMES: usize = 1_024;
 
 /// The least number of entries of all labels; nothing where a label has none that are whole.
 fn least_entries(frame: u64, groups: &[Group]) -> Option<u64> {
@@ -32,32 +29,22 @@ fn is_valid(frame: u64, groups: &[Group], spacing: &Spacing, most: u64) -> bool 
     }
 }
 
-/// The first frames, in units, in which the least numbers of entries have room.
+/// Adds the first so many frames, in units, in which the least numbers of entries have room.
 pub(crate) fn list_frames(
     windows: &Windows,
     spacing: &Spacing,
     most: u64,
+    count: usize,
     frames: &mut Vec<u64>,
 ) -> Result<(), AllocError> {
     let last = part(LONGEST, spacing.unit).min(windows.fastest.saturating_mul(LABEL_ENTRIES));
     for frame in windows.slowest..last.saturating_add(1) {
         if is_valid(frame, &windows.groups, spacing, most) {
             frames.push(frame)?;
-            if frames.len() == MOST_FRAMES {
+            if frames.len() >= count {
                 return Ok(());
             }
         }
     }
     Ok(())
-}
-
-/// Whether there is any such frame.
-pub(crate) fn is_any(windows: &Windows, spacing: &Spacing, most: u64) -> bool {
-    let last = part(LONGEST, spacing.unit).min(windows.fastest.saturating_mul(LABEL_ENTRIES));
-    for frame in windows.slowest..last.saturating_add(1) {
-        if is_valid(frame, &windows.groups, spacing, most) {
-            return true;
-        }
-    }
-    false
 }

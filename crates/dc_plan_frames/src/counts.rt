@@ -1,7 +1,7 @@
 //! How many entries labels have in a frame.
-use crate::numbers::{part, up};
 use crate::windows::{Group, Spacing, Window, Windows};
 use dc_document::MOST_OFFSETS;
+use dc_plan_ticks::{part, up};
 
 /// The most entries of a label.
 pub(crate) const LABEL_ENTRIES: u64 = MOST_OFFSETS as u64;

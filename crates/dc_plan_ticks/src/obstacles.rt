@@ -13,15 +13,6 @@ pub struct Obstacles {
     pub lines: Lines,
 }
 
-/// Why there is no plan.
-#[derive(Drop)]
-pub enum Unplanned {
-    /// Something stands in the way.
-    Obstacles(Obstacles),
-    /// Memory was refused.
-    NoMemory,
-}
-
 impl Obstacles {
     /// Nothing in the way so far.
     pub fn new(alloc: Global, tick: u64) -> Obstacles {

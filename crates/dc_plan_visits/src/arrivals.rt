@@ -1,9 +1,7 @@
 //! How many words come to a bus at most in so many ticks.
-use crate::knobs::Knobs;
-use crate::numbers::{part, up};
-use crate::planned::Pace;
 use dc_design_rows::{Bus, Document};
 use dc_document::input_spacing;
+use dc_plan_ticks::{Knobs, Pace, part, up};
 use std::alloc::{AllocError, Global};
 
 /// So many streams that come alike.

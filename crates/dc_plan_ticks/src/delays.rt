@@ -2,7 +2,7 @@
 use crate::knobs::Knobs;
 use crate::numbers::{part, share_of, up, whole_of};
 use crate::obstacles::Obstacles;
-use crate::planned::Pace;
+use crate::paces::Pace;
 use dc_design_rows::{Document, Fact, Label, Letters};
 use std::alloc::AllocError;
 
@@ -18,8 +18,8 @@ struct Slowest {
     name: Letters,
 }
 
-/// The age that a label may have, in ticks.
-pub(crate) fn age_of(max_age: u64, tick: u64) -> u64 {
+/// The age that a label may have in ticks, by the microseconds that its data may be old and those of a tick.
+pub fn age_of(max_age: u64, tick: u64) -> u64 {
     part(max_age, tick).saturating_sub(1)
 }
 
@@ -114,8 +114,13 @@ fn limit_by(
     limit(document, label, spare, wanted);
 }
 
-/// How late each bus may be, by the ages of the labels.
-pub(crate) fn limit_all(
+/// Adds how late each bus may be in ticks, at least 1, in the order of the buses, or tells the labels whose sources come too
+/// seldom for their ages.
+///
+/// # Errors
+///
+/// Memory was refused.
+pub fn limit_all(
     document: &Document,
     paces: &[Pace],
     knobs: &Knobs,

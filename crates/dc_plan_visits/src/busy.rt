@@ -1,6 +1,6 @@
 //! The least window that closes.
 use crate::arrivals::Arrivals;
-use crate::numbers::{part, up};
+use dc_plan_ticks::{part, up};
 
 /// The longest window.
 pub(crate) const LONGEST: u64 = 100_000;

@@ -15,11 +15,11 @@ pub fn part(dividend: u64, divisor: u64) -> u64 {
 }
 
 /// So many hundredths of a number, rounded down.
-pub(crate) fn share_of(number: u64, percent: u64) -> u64 {
+pub fn share_of(number: u64, percent: u64) -> u64 {
     number.saturating_mul(percent) / 100
 }
 
 /// What a number is so many hundredths of, rounded up.
-pub(crate) fn whole_of(number: u64, percent: u64) -> u64 {
+pub fn whole_of(number: u64, percent: u64) -> u64 {
     up(number.saturating_mul(100), percent)
 }

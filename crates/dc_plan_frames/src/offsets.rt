@@ -1,0 +1,120 @@
+//! Stage 4: the frame and the offsets of an output.
+use crate::filling::Filling;
+use crate::frames::list_frames;
+use crate::outputs::{Filled, Search, fill_output, spacing_at};
+use crate::planned::{Frames, OutputPlan};
+use crate::whys::{is_window_told, tell_no_frame, tell_no_place};
+use crate::windows::{Scene, Spacing, Windows};
+use dc_design_rows::{Document, Output, Span};
+use dc_document::output_gap;
+use dc_plan_ticks::{Knobs, Obstacles, part, up};
+use std::alloc::{AllocError, Global};
+
+/// Adds the offsets of a label in ascending order.
+fn add_offsets(
+    filling: &Filling,
+    span: Span,
+    filled: &Filled,
+    offsets: &mut Vec<u64>,
+) -> Result<(), AllocError> {
+    for is_first in [true, false] {
+        for place in span.first..span.end {
+            let spot = filling.spots.get(place).copied().unwrap_or(0);
+            let is_behind = spot >= filled.frame;
+            if is_behind == is_first {
+                let tick = if is_behind {
+                    spot.saturating_sub(filled.frame)
+                } else {
+                    spot
+                };
+                offsets.push(tick.saturating_mul(filled.spacing.unit))?;
+            }
+        }
+    }
+    Ok(())
+}
+
+/// Adds an output whose frame was filled.
+fn keep_output(
+    scene: &Scene<'_>,
+    filling: &Filling,
+    filled: &Filled,
+    frames: &mut Frames,
+) -> Result<(), AllocError> {
+    for span in &filling.spans {
+        let first = frames.offsets.len();
+        add_offsets(filling, *span, filled, &mut frames.offsets)?;
+        let end = frames.offsets.len();
+        frames.labels.push(Span { first, end })?;
+    }
+    let frame = filled.frame.saturating_mul(filled.spacing.unit);
+    let entries = filling.spots.len() as u64;
+    let used = entries.saturating_mul(scene.gap).saturating_mul(100);
+    frames.outputs.push(OutputPlan {
+        within: filled.spacing.within,
+        frame,
+        entries,
+        load: part(used, frame),
+    })?;
+    Ok(())
+}
+
+/// Whether some frame has room for the least numbers of entries; where none has, that is told.
+fn has_frame(scene: &Scene<'_>, obstacles: &mut Obstacles) -> Result<bool, AllocError> {
+    if is_window_told(scene, obstacles) {
+        return Ok(false);
+    }
+    let Some(dense) = spacing_at(scene.gap, 2) else {
+        return Ok(false);
+    };
+    let spacing = Spacing { unit: 1, ..dense };
+    let windows = Windows::of(scene, &spacing)?;
+    let mut frames = Vec::new(scene.alloc);
+    list_frames(&windows, &spacing, scene.knobs.share, 1, &mut frames)?;
+    if frames.is_empty() {
+        tell_no_frame(scene, &windows, obstacles);
+    }
+    Ok(!frames.is_empty())
+}
+
+/// Adds the frame of an output, or tells what stands in its way. Where something stands in the way already, only what no
+/// search could mend is looked for.
+///
+/// # Errors
+///
+/// Memory was refused.
+pub fn plan_output(
+    alloc: Global,
+    document: &Document,
+    output: &Output,
+    knobs: &Knobs,
+    frames: &mut Frames,
+    obstacles: &mut Obstacles,
+) -> Result<(), AllocError> {
+    let spacing_us = u64::from(output_gap(1, output.speed));
+    let scene = Scene {
+        alloc,
+        document,
+        output,
+        knobs,
+        gap: up(spacing_us, knobs.tick),
+    };
+    let is_plain = obstacles.is_any();
+    if !has_frame(&scene, obstacles)? || is_plain {
+        return Ok(());
+    }
+    let mut search = Search {
+        filling: Filling {
+            spots: Vec::new(alloc),
+            spans: Vec::new(alloc),
+        },
+        lost: None,
+    };
+    match fill_output(&scene, &mut search)? {
+        Some(filled) => keep_output(&scene, &search.filling, &filled, frames),
+        None => {
+            tell_no_place(&scene, search.lost, obstacles);
+            Ok(())
+        }
+    }
+}
