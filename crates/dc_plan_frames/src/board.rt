@@ -9,12 +9,22 @@ pub(crate) struct Board {
 }
 
 impl Board {
-    /// A frame of so many places, all free.
-    pub(crate) fn new(alloc: Global, frame: u64) -> Result<Board, AllocError> {
-        Ok(Board {
-            places: vec![in alloc; false; frame as usize]?,
-            frame,
-        })
+    /// A frame of no places.
+    pub(crate) fn new(alloc: Global) -> Board {
+        Board {
+            places: Vec::new(alloc),
+            frame: 0,
+        }
+    }
+
+    /// Takes a frame of so many places.
+    pub(crate) fn resize(&mut self, frame: u64) -> Result<(), AllocError> {
+        self.frame = frame;
+        self.places.truncate(0);
+        for _ in 0..frame {
+            self.places.push(false)?;
+        }
+        Ok(())
     }
 
     /// Frees all places.

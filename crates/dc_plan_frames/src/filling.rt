@@ -22,7 +22,7 @@ struct Start {
 
 /// A frame that is being filled: its places, what its labels need, in which order they look, and where.
 #[derive(Drop)]
-struct Trial {
+pub(crate) struct Trial {
     board: Board,
     needs: Vec<Need>,
     order: Vec<usize>,
@@ -36,6 +36,18 @@ pub(crate) struct Filling {
     pub(crate) spots: Vec<u64>,
     /// Where those of each label stand.
     pub(crate) spans: Vec<Span>,
+}
+
+impl Trial {
+    /// A frame of no places.
+    pub(crate) fn new(alloc: Global) -> Trial {
+        Trial {
+            board: Board::new(alloc),
+            needs: Vec::new(alloc),
+            order: Vec::new(alloc),
+            starts: Vec::new(alloc),
+        }
+    }
 }
 
 /// The free place for the next entry of a label that is nearest to an even rhythm.
@@ -170,7 +182,10 @@ fn place(
 
 /// Whether a label comes before another one: the narrow windows first.
 fn is_before(windows: &[Window], one: usize, other: usize) -> bool {
-    let (Some(left), Some(right)) = (windows.get(one), windows.get(other)) else {
+    let Some(left) = windows.get(one) else {
+        return one < other;
+    };
+    let Some(right) = windows.get(other) else {
         return one < other;
     };
     if left.width() != right.width() {
@@ -182,8 +197,9 @@ fn is_before(windows: &[Window], one: usize, other: usize) -> bool {
     one < other
 }
 
-/// The labels in the order in which they are placed first.
-pub(crate) fn order_labels(windows: &[Window], order: &mut Vec<usize>) -> Result<(), AllocError> {
+/// Lists the labels in the order in which they are placed first.
+fn order_labels(windows: &[Window], order: &mut Vec<usize>) -> Result<(), AllocError> {
+    order.truncate(0);
     for label in 0..windows.len() {
         let mut carried = label;
         for other in order.iter_mut() {
@@ -211,13 +227,14 @@ fn bring_forward(order: &mut [usize], label: usize) {
     }
 }
 
-/// How many entries each label has in a frame.
+/// Lists how many entries each label has in a frame.
 fn list_needs(
     rhythm: &Rhythm,
     frame: u64,
     windows: &[Window],
     needs: &mut Vec<Need>,
 ) -> Result<(), AllocError> {
+    needs.truncate(0);
     let Some(base) = rhythm.base(frame) else {
         return Ok(());
     };
@@ -269,7 +286,7 @@ fn fill_orders(
 /// Fills a frame in so many orders: who found no place comes first in the next one. What is left is who found none in
 /// the last one.
 pub(crate) fn fill_frame(
-    alloc: Global,
+    trial: &mut Trial,
     frame: u64,
     windows: &Windows,
     rhythm: &Rhythm,
@@ -277,13 +294,8 @@ pub(crate) fn fill_frame(
     orders: usize,
     filling: &mut Filling,
 ) -> Result<Option<usize>, AllocError> {
-    let mut trial = Trial {
-        board: Board::new(alloc, frame)?,
-        needs: Vec::new(alloc),
-        order: Vec::new(alloc),
-        starts: Vec::new(alloc),
-    };
+    trial.board.resize(frame)?;
     list_needs(rhythm, frame, &windows.of_labels, &mut trial.needs)?;
     order_labels(&windows.of_labels, &mut trial.order)?;
-    fill_orders(&mut trial, apart, orders, filling)
+    fill_orders(trial, apart, orders, filling)
 }

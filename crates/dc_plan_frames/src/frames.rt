@@ -29,7 +29,7 @@ fn is_valid(frame: u64, groups: &[Group], spacing: &Spacing, most: u64) -> bool 
     }
 }
 
-/// Adds the first so many frames, in units, in which the least numbers of entries have room.
+/// Lists the first so many frames, in units, in which the least numbers of entries have room.
 pub(crate) fn list_frames(
     windows: &Windows,
     spacing: &Spacing,
@@ -37,6 +37,7 @@ pub(crate) fn list_frames(
     count: usize,
     frames: &mut Vec<u64>,
 ) -> Result<(), AllocError> {
+    frames.truncate(0);
     let last = part(LONGEST, spacing.unit).min(windows.fastest.saturating_mul(LABEL_ENTRIES));
     for frame in windows.slowest..last.saturating_add(1) {
         if is_valid(frame, &windows.groups, spacing, most) {

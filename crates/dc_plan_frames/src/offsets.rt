@@ -1,13 +1,12 @@
 //! Stage 4: the frame and the offsets of an output.
-use crate::filling::Filling;
+use crate::filling::{Filling, Trial};
 use crate::frames::list_frames;
-use crate::outputs::{Filled, Search, fill_output, spacing_at};
+use crate::outputs::{Filled, Room, Search, fill_output, spacing_at};
 use crate::planned::{Frames, OutputPlan};
-use crate::whys::{is_window_told, tell_no_frame, tell_no_place};
+use crate::whys::{tell_no_frame, tell_no_place};
 use crate::windows::{Scene, Spacing, Windows};
 use dc_design_rows::{Document, Output, Span};
-use dc_document::output_gap;
-use dc_plan_ticks::{Knobs, Obstacles, part, up};
+use dc_plan_ticks::{Knobs, Obstacles, gap_of, is_window_told, part};
 use std::alloc::{AllocError, Global};
 
 /// Adds the offsets of a label in ascending order.
@@ -60,21 +59,46 @@ fn keep_output(
 }
 
 /// Whether some frame has room for the least numbers of entries; where none has, that is told.
-fn has_frame(scene: &Scene<'_>, obstacles: &mut Obstacles) -> Result<bool, AllocError> {
-    if is_window_told(scene, obstacles) {
+fn has_frame(
+    scene: &Scene<'_>,
+    room: &mut Room,
+    obstacles: &mut Obstacles,
+) -> Result<bool, AllocError> {
+    if is_window_told(scene.document, scene.output, scene.knobs, obstacles) {
         return Ok(false);
     }
     let Some(dense) = spacing_at(scene.gap, 2) else {
         return Ok(false);
     };
     let spacing = Spacing { unit: 1, ..dense };
-    let windows = Windows::of(scene, &spacing)?;
-    let mut frames = Vec::new(scene.alloc);
-    list_frames(&windows, &spacing, scene.knobs.share, 1, &mut frames)?;
-    if frames.is_empty() {
-        tell_no_frame(scene, &windows, obstacles);
+    room.windows.fill(scene, &spacing)?;
+    let share = scene.knobs.share;
+    list_frames(&room.windows, &spacing, share, 1, &mut room.frames)?;
+    if room.frames.is_empty() {
+        tell_no_frame(scene, &room.windows, obstacles);
     }
-    Ok(!frames.is_empty())
+    Ok(!room.frames.is_empty())
+}
+
+/// Adds the frame of an output that is looked at, or tells what stands in its way.
+fn seek(
+    scene: &Scene<'_>,
+    room: &mut Room,
+    search: &mut Search,
+    frames: &mut Frames,
+    obstacles: &mut Obstacles,
+) -> Result<(), AllocError> {
+    let is_plain = obstacles.is_any();
+    if !has_frame(scene, room, obstacles)? || is_plain {
+        return Ok(());
+    }
+    match fill_output(scene, room, search)? {
+        Some(filled) => keep_output(scene, &search.filling, &filled, frames),
+        None => {
+            tell_no_place(scene, search.lost, obstacles);
+            Ok(())
+        }
+    }
 }
 
 /// Adds the frame of an output, or tells what stands in its way. Where something stands in the way already, only what no
@@ -91,30 +115,24 @@ pub fn plan_output(
     frames: &mut Frames,
     obstacles: &mut Obstacles,
 ) -> Result<(), AllocError> {
-    let spacing_us = u64::from(output_gap(1, output.speed));
     let scene = Scene {
-        alloc,
         document,
         output,
         knobs,
-        gap: up(spacing_us, knobs.tick),
+        gap: gap_of(output, knobs),
     };
-    let is_plain = obstacles.is_any();
-    if !has_frame(&scene, obstacles)? || is_plain {
-        return Ok(());
-    }
+    let mut room = Room {
+        windows: Windows::new(alloc),
+        frames: Vec::new(alloc),
+    };
     let mut search = Search {
+        choices: Vec::new(alloc),
+        trial: Trial::new(alloc),
         filling: Filling {
             spots: Vec::new(alloc),
             spans: Vec::new(alloc),
         },
         lost: None,
     };
-    match fill_output(&scene, &mut search)? {
-        Some(filled) => keep_output(&scene, &search.filling, &filled, frames),
-        None => {
-            tell_no_place(&scene, search.lost, obstacles);
-            Ok(())
-        }
-    }
+    seek(&scene, &mut room, &mut search, frames, obstacles)
 }

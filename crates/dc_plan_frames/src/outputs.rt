@@ -1,11 +1,11 @@
 //! The frame of an output, and its filling.
-use crate::choices::choose;
+use crate::choices::{Choice, choose};
 use crate::counts::{Kind, Loads, Rhythm};
-use crate::filling::{Filling, fill_frame};
+use crate::filling::{Filling, Trial, fill_frame};
 use crate::frames::list_frames;
 use crate::windows::{Scene, Spacing, Windows};
 use dc_plan_ticks::Knobs;
-use std::alloc::{AllocError, Global};
+use std::alloc::AllocError;
 
 /// So many frames are filled, each in so many orders.
 #[derive(Clone, Copy)]
@@ -44,9 +44,18 @@ pub(crate) struct Lost {
     pub(crate) frame: u64,
 }
 
-/// What was found, and who found no place before.
+/// What is known of an output for one spacing: its windows, and the frames in which the least numbers of entries have room.
+#[derive(Drop)]
+pub(crate) struct Room {
+    pub(crate) windows: Windows,
+    pub(crate) frames: Vec<u64>,
+}
+
+/// A search for a frame: the frames that are chosen, the one that is filled, what was found, and who found no place before.
 #[derive(Drop)]
 pub(crate) struct Search {
+    pub(crate) choices: Vec<Choice>,
+    pub(crate) trial: Trial,
     pub(crate) filling: Filling,
     pub(crate) lost: Option<Lost>,
 }
@@ -63,9 +72,7 @@ pub(crate) struct Filled {
 /// What is tried for one spacing.
 #[derive(Clone, Copy)]
 struct Attempt<'a> {
-    alloc: Global,
-    windows: &'a Windows,
-    frames: &'a [u64],
+    room: &'a Room,
     spacing: &'a Spacing,
     effort: &'a Effort,
 }
@@ -112,22 +119,23 @@ fn fill_choices(
     rhythm: &Rhythm,
     search: &mut Search,
 ) -> Result<Option<u64>, AllocError> {
-    let mut choices = Vec::new(attempt.alloc);
-    let groups = &attempt.windows.groups;
     choose(
-        attempt.frames,
-        groups,
+        &attempt.room.frames,
+        &attempt.room.windows.groups,
         attempt.spacing,
         loads,
         rhythm,
         attempt.effort.frames,
-        &mut choices,
+        &mut search.choices,
     )?;
-    for choice in &choices {
+    for number in 0..search.choices.len() {
+        let Some(choice) = search.choices.get(number).copied() else {
+            return Ok(None);
+        };
         let lost = fill_frame(
-            attempt.alloc,
+            &mut search.trial,
             choice.frame,
-            attempt.windows,
+            &attempt.room.windows,
             rhythm,
             attempt.spacing.apart(),
             attempt.effort.orders,
@@ -152,7 +160,7 @@ fn fill_rhythms(
 ) -> Result<Option<u64>, AllocError> {
     for share in &SHARES {
         for kind in &KINDS {
-            let rhythm = Rhythm::of(*kind, *share, attempt.windows);
+            let rhythm = Rhythm::of(*kind, *share, &attempt.room.windows);
             if let Some(frame) = fill_choices(attempt, loads, &rhythm, search)? {
                 return Ok(Some(frame));
             }
@@ -182,24 +190,22 @@ fn fill_spacing(
     scene: &Scene<'_>,
     spacing: &Spacing,
     effort: &Effort,
+    room: &mut Room,
     search: &mut Search,
 ) -> Result<Option<u64>, AllocError> {
-    let windows = Windows::of(scene, spacing)?;
-    if windows.is_some_empty() {
+    room.windows.fill(scene, spacing)?;
+    if room.windows.is_some_empty() {
         return Ok(None);
     }
-    let mut frames = Vec::new(scene.alloc);
     list_frames(
-        &windows,
+        &room.windows,
         spacing,
         scene.knobs.share,
         MOST_FRAMES,
-        &mut frames,
+        &mut room.frames,
     )?;
     let attempt = Attempt {
-        alloc: scene.alloc,
-        windows: &windows,
-        frames: &frames,
+        room,
         spacing,
         effort,
     };
@@ -209,12 +215,13 @@ fn fill_spacing(
 /// Fills frames, each spacing in turn, with little effort and then with more.
 pub(crate) fn fill_output(
     scene: &Scene<'_>,
+    room: &mut Room,
     search: &mut Search,
 ) -> Result<Option<Filled>, AllocError> {
     for effort in &EFFORTS {
         for number in 0..4usize {
             if let Some(spacing) = spacing_at(scene.gap, number) {
-                if let Some(frame) = fill_spacing(scene, &spacing, effort, search)? {
+                if let Some(frame) = fill_spacing(scene, &spacing, effort, room, search)? {
                     return Ok(Some(Filled { frame, spacing }));
                 }
             }

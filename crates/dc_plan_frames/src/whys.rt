@@ -17,20 +17,6 @@ fn label_at(scene: &Scene<'_>, number: usize) -> Option<Label> {
     scene.document.labels.get(label).copied()
 }
 
-/// How many labels an output has.
-fn label_count(scene: &Scene<'_>) -> u64 {
-    let labels = scene.output.labels;
-    labels.end.saturating_sub(labels.first) as u64
-}
-
-/// What helps an output of low speed.
-fn speed_word(scene: &Scene<'_>, word: &'static str) -> Fact {
-    Fact::Word(match scene.output.speed {
-        Speed::Low => word,
-        Speed::High => "",
-    })
-}
-
 /// Begins a line on an output.
 fn begin(scene: &Scene<'_>, obstacles: &mut Obstacles) {
     obstacles.lines.begin("");
@@ -49,65 +35,15 @@ fn say_label(scene: &Scene<'_>, number: usize, obstacles: &mut Obstacles) {
     }
 }
 
-/// Tells a label whose gaps leave nothing beside the waiting of its sends.
-fn tell_window(scene: &Scene<'_>, label: &Label, min: u64, max: u64, obstacles: &mut Obstacles) {
-    let (tick, gap) = (scene.knobs.tick, scene.gap);
-    let low = up(min, tick).saturating_add(1);
-    let high = part(max, tick);
-    let wanted = low.saturating_add(gap.saturating_mul(2)).saturating_add(1);
-    obstacles.lines.begin("");
-    obstacles.lines.say(
-        "outputs row {} column max: {} to {} us are {} to {} ticks of {} us, ",
-        &[
-            Fact::Number(label.row),
-            Fact::Number(min),
-            Fact::Number(max),
-            Fact::Number(low),
-            Fact::Less(high, 1),
-            Fact::Number(tick),
-        ],
-    );
-    obstacles.lines.line(
-        "and a send that waits up to {} leaves gaps of {} to {}: none (T12, C08, C09); a max of {} us{}{}",
-        &[
-            Fact::Number(gap),
-            Fact::Number(low.saturating_add(gap)),
-            Fact::Less(high, gap.saturating_add(1)),
-            Fact::Number(wanted.saturating_mul(tick)),
-            speed_word(scene, ", or high speed"),
-            Fact::Word(scene.knobs.shorter),
-        ],
-    );
-}
-
-/// Tells the first label whose gaps leave nothing beside the waiting of its sends; whether there is one.
-pub(crate) fn is_window_told(scene: &Scene<'_>, obstacles: &mut Obstacles) -> bool {
-    let (tick, gap) = (scene.knobs.tick, scene.gap);
-    for number in 0..label_count(scene) {
-        let Some(label) = label_at(scene, number as usize) else {
-            continue;
-        };
-        let Some(parameter) = scene.document.parameter(label.parameter) else {
-            continue;
-        };
-        let low = up(parameter.min, tick).saturating_add(1);
-        let wanted = low.saturating_add(gap.saturating_mul(2)).saturating_add(1);
-        if wanted > part(parameter.max, tick) {
-            tell_window(scene, &label, parameter.min, parameter.max, obstacles);
-            return true;
-        }
-    }
-    false
-}
-
 /// Tells that the labels of an output want more of the wire than there is.
 fn tell_wire(scene: &Scene<'_>, words: u64, obstacles: &mut Obstacles) {
     let share = scene.knobs.share;
+    let labels = scene.output.labels;
     begin(scene, obstacles);
     obstacles.lines.say(
         "its {} labels want {} % of the sends, {} in 1000 ticks, and {} are there{} (F1, T24); ",
         &[
-            Fact::Number(label_count(scene)),
+            Fact::Number(labels.end.saturating_sub(labels.first) as u64),
             Fact::Number(up(words.saturating_mul(scene.gap), WORD / 100)),
             Fact::Number(up(words, WORD / 1_000)),
             Fact::Number(part(share.saturating_mul(10), scene.gap)),
@@ -121,7 +57,10 @@ fn tell_wire(scene: &Scene<'_>, words: u64, obstacles: &mut Obstacles) {
     obstacles.lines.line(
         "longer intervals, {}{}or another output for some{}",
         &[
-            speed_word(scene, "high speed, "),
+            Fact::Word(match scene.output.speed {
+                Speed::Low => "high speed, ",
+                Speed::High => "",
+            }),
             Fact::Word(if scene.knobs.is_hard {
                 "less headroom, "
             } else {

@@ -1,5 +1,5 @@
-//! What the rows of a document come to in ticks of one length: how streams come, and how late their buses may be for the
-//! ages of labels. What is asked of a plan beside the rows, and what stands in its way.
+//! What the rows of a document come to in ticks of one length: how streams come, how late their buses may be for the ages
+//! of labels, and how far apart sends lie. What is asked of a plan beside the rows, and what stands in its way.
 #![tactic(auto)]
 
 mod delays;
@@ -7,9 +7,11 @@ mod knobs;
 mod numbers;
 mod obstacles;
 mod paces;
+mod sends;
 
 pub use delays::{age_of, limit_all};
 pub use knobs::Knobs;
 pub use numbers::{part, share_of, up, whole_of};
 pub use obstacles::Obstacles;
 pub use paces::{Pace, pace_all};
+pub use sends::{gap_of, is_window_told};

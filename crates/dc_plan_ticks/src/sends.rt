@@ -1,0 +1,86 @@
+//! How far apart the sends of an output lie, and which labels that leaves no gap.
+use crate::knobs::Knobs;
+use crate::numbers::{part, up};
+use crate::obstacles::Obstacles;
+use dc_design_rows::{Document, Fact, Label, Output};
+use dc_document::{Speed, output_gap};
+
+/// So many ticks lie between two sends of an output at least.
+pub fn gap_of(output: &Output, knobs: &Knobs) -> u64 {
+    let spacing_us = u64::from(output_gap(1, output.speed));
+    up(spacing_us, knobs.tick)
+}
+
+/// Tells a label whose gaps leave nothing beside the waiting of its sends.
+fn tell_window(
+    output: &Output,
+    label: &Label,
+    min: u64,
+    max: u64,
+    knobs: &Knobs,
+    obstacles: &mut Obstacles,
+) {
+    let (tick, gap) = (knobs.tick, gap_of(output, knobs));
+    let low = up(min, tick).saturating_add(1);
+    let high = part(max, tick);
+    let wanted = low.saturating_add(gap.saturating_mul(2)).saturating_add(1);
+    obstacles.lines.begin("");
+    obstacles.lines.say(
+        "outputs row {} column max: {} to {} us are {} to {} ticks of {} us, ",
+        &[
+            Fact::Number(label.row),
+            Fact::Number(min),
+            Fact::Number(max),
+            Fact::Number(low),
+            Fact::Less(high, 1),
+            Fact::Number(tick),
+        ],
+    );
+    obstacles.lines.line(
+        "and a send that waits up to {} leaves gaps of {} to {}: none (T12, C08, C09); a max of {} us{}{}",
+        &[
+            Fact::Number(gap),
+            Fact::Number(low.saturating_add(gap)),
+            Fact::Less(high, gap.saturating_add(1)),
+            Fact::Number(wanted.saturating_mul(tick)),
+            Fact::Word(match output.speed {
+                Speed::Low => ", or high speed",
+                Speed::High => "",
+            }),
+            Fact::Word(knobs.shorter),
+        ],
+    );
+}
+
+/// Tells the first label of an output whose gaps leave nothing beside the waiting of its sends; whether there is one.
+pub fn is_window_told(
+    document: &Document,
+    output: &Output,
+    knobs: &Knobs,
+    obstacles: &mut Obstacles,
+) -> bool {
+    let gap = gap_of(output, knobs);
+    for place in output.labels.first..output.labels.end {
+        let number = document.on_output.get(place).copied().unwrap_or(0);
+        let Some(label) = document.labels.get(number) else {
+            continue;
+        };
+        let Some(parameter) = document.parameter(label.parameter) else {
+            continue;
+        };
+        let low = up(parameter.min, knobs.tick).saturating_add(1);
+        let wanted = low.saturating_add(gap.saturating_mul(2)).saturating_add(1);
+        if wanted > part(parameter.max, knobs.tick) {
+            tell_window(
+                output,
+                label,
+                parameter.min,
+                parameter.max,
+                knobs,
+                obstacles,
+            );
+            return true;
+        }
+    }
+    false
+}
