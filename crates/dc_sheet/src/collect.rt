@@ -395,14 +395,16 @@ fn tell_reversed(
     row: u32,
     asked: Asked<'_>,
 ) -> Result<(), AllocError> {
-    let min = time_of(line, asked, Column::Min);
-    let max = time_of(line, asked, Column::Max);
-    if let (Some(min_us), Some(max_us)) = (min, max) {
-        if min_us > max_us {
-            let kind = FaultKind::Reversed { min_us, max_us };
-            let sheet = asked.sheet;
-            faults.push(Fault { sheet, row, kind })?;
-        }
+    let Some(min_us) = time_of(line, asked, Column::Min) else {
+        return Ok(());
+    };
+    let Some(max_us) = time_of(line, asked, Column::Max) else {
+        return Ok(());
+    };
+    if min_us > max_us {
+        let kind = FaultKind::Reversed { min_us, max_us };
+        let sheet = asked.sheet;
+        return faults.push(Fault { sheet, row, kind });
     }
     Ok(())
 }

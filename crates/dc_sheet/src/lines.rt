@@ -1,8 +1,9 @@
 //! The lines that tell the faults of the sheets.
 
-use crate::fault::{Fault, FaultKind, MOST_FAULTS, Sheet, SheetError};
+use crate::fault::{Fault, FaultKind, Faults, MOST_FAULTS, Sheet, SheetError};
 use dc_cell::{CellFault, Column, Inputs, Outputs, Shown};
-use std::alloc::{AllocError, Global};
+use dc_tell::{Explanation, Value};
+use std::alloc::Global;
 
 /// What is said of a cell that is not read.
 fn cell_words(sheet: Sheet, column: Column, fault: CellFault) -> &'static str {
@@ -34,126 +35,144 @@ fn cell_words(sheet: Sheet, column: Column, fault: CellFault) -> &'static str {
 }
 
 /// What is said besides of an empty cell, where merged cells may be the reason.
-fn fill_words(column: Column, shown: Shown) -> &'static str {
+fn fill_words(column: Column) -> &'static str {
     match column {
         Column::Bus | Column::Output | Column::Speed => {
-            if shown.is_empty() {
-                "; merged cells export empty ones: fill them down"
-            } else {
-                ""
-            }
+            "; merged cells export empty ones: fill them down"
         }
         _ => "",
     }
 }
 
+/// Writes what stands in a cell or a title.
+fn tell_shown(lines: &mut Explanation, shown: &Shown) {
+    lines.add("\"");
+    lines.put(Value::Text(shown.as_str()));
+    lines.add("\": ");
+}
+
 /// Writes of a cell that is not read what stands there and why it is not.
 fn tell_cell(
-    line: &mut String,
+    lines: &mut Explanation,
     sheet: Sheet,
     column: Column,
-    shown: Shown,
+    shown: &Shown,
     fault: CellFault,
-) -> Result<(), AllocError> {
-    let title = column.name();
+) {
     let words = cell_words(sheet, column, fault);
-    let fill = fill_words(column, shown);
     if shown.is_empty() {
-        return write!(line, " column {title}: empty: {words}{fill}");
+        lines.add("empty: ");
+        lines.add(words);
+        lines.add(fill_words(column));
+    } else {
+        tell_shown(lines, shown);
+        lines.add(words);
     }
-    let text = shown.as_str();
-    write!(line, " column {title}: \"{text}\": {words}")
 }
 
 /// Writes how the title of a column is wanted.
-fn tell_wanted(line: &mut String, column: Column) -> Result<(), AllocError> {
-    let title = column.name();
-    if column.is_time() {
-        return write!(line, "wanted as {title}_us or {title}_ms");
-    }
-    write!(line, "wanted as {title}")
+fn tell_wanted(lines: &mut Explanation, column: Column) {
+    let title = Value::Text(column.name());
+    let sentence = if column.is_time() {
+        "wanted as {}_us or {}_ms"
+    } else {
+        "wanted as {}"
+    };
+    lines.say(sentence, &[title, title]);
 }
 
-/// Writes which title is absent.
-fn tell_absent(line: &mut String, column: Column) -> Result<(), AllocError> {
-    let title = column.name();
-    write!(line, " column {title}: absent, ")?;
-    tell_wanted(line, column)
-}
-
-/// Writes by which title a column seems to be meant.
-fn tell_meant(line: &mut String, column: Column, shown: Shown) -> Result<(), AllocError> {
-    let title = column.name();
-    let text = shown.as_str();
-    write!(line, " column {title}: \"{text}\": ")?;
-    tell_wanted(line, column)
+/// Writes of which column the rest of the line is.
+fn tell_title(lines: &mut Explanation, column: Column) {
+    lines.say(" column {}: ", &[Value::Text(column.name())]);
 }
 
 /// Writes what is wrong in a row.
-fn tell_kind(line: &mut String, sheet: Sheet, kind: FaultKind) -> Result<(), AllocError> {
+fn tell_kind(lines: &mut Explanation, sheet: Sheet, kind: &FaultKind) {
     match kind {
-        FaultKind::NoHeader => {
-            let wanted = sheet.wanted();
-            write!(line, ": no header; columns wanted: {wanted}")
-        }
+        FaultKind::NoHeader => lines.say(
+            ": no header; columns wanted: {}",
+            &[Value::Text(sheet.wanted())],
+        ),
         FaultKind::Twice(column) => {
-            let title = column.name();
-            write!(line, " column {title}: stands twice")
+            tell_title(lines, *column);
+            lines.add("stands twice");
         }
-        FaultKind::Absent(column) => tell_absent(line, column),
-        FaultKind::Meant { column, shown } => tell_meant(line, column, shown),
-        FaultKind::Past { cells, columns } => write!(
-            line,
-            ": {cells} cells, but {columns} columns; a cell that holds the separator stands in double quotes"
+        FaultKind::Absent(column) => {
+            tell_title(lines, *column);
+            lines.add("absent, ");
+            tell_wanted(lines, *column);
+        }
+        FaultKind::Meant { column, shown } => {
+            tell_title(lines, *column);
+            tell_shown(lines, shown);
+            tell_wanted(lines, *column);
+        }
+        FaultKind::Past { cells, columns } => lines.say(
+            ": {} cells, but {} columns; a cell that holds the separator stands in double quotes",
+            &[Value::Number(*cells as u64), Value::Number(*columns as u64)],
         ),
         FaultKind::Cell {
             column,
             shown,
             fault,
-        } => tell_cell(line, sheet, column, shown, fault),
-        FaultKind::Reversed { min_us, max_us } => write!(
-            line,
-            " column min: {min_us} us is over the greatest interval {max_us} us"
+        } => {
+            tell_title(lines, *column);
+            tell_cell(lines, sheet, *column, shown, *fault);
+        }
+        FaultKind::Reversed { min_us, max_us } => lines.say(
+            " column min: {} us is over the greatest interval {} us",
+            &[
+                Value::Number(u64::from(*min_us)),
+                Value::Number(u64::from(*max_us)),
+            ],
         ),
     }
 }
 
 /// Writes the line of a fault.
-fn tell_fault(lines: &mut String, fault: &Fault) -> Result<(), AllocError> {
-    let name = fault.sheet.name();
-    let row = fault.row;
-    write!(lines, "unreadable {name} row {row}")?;
-    tell_kind(lines, fault.sheet, fault.kind)?;
-    lines.push_str("\n")
+fn tell_fault(lines: &mut Explanation, fault: &Fault) {
+    lines.say(
+        "unreadable {} row {}",
+        &[
+            Value::Text(fault.sheet.name()),
+            Value::Number(u64::from(fault.row)),
+        ],
+    );
+    tell_kind(lines, fault.sheet, &fault.kind);
+    lines.end_line();
+}
+
+/// Writes the first so many of some faults; so many were not told.
+fn tell_first(lines: &mut Explanation, faults: &Faults, free: usize) -> usize {
+    let kept = faults.kept();
+    for fault in kept.iter().take(free) {
+        tell_fault(lines, fault);
+    }
+    kept.len()
+        .saturating_sub(free)
+        .saturating_add(faults.more())
+}
+
+/// Writes what is wrong with the text of a sheet.
+fn tell_text(lines: &mut Explanation, sheet: Sheet, words: &'static str) {
+    lines.say(
+        "unreadable {}: {}",
+        &[Value::Text(sheet.name()), Value::Text(words)],
+    );
+    lines.end_line();
 }
 
 /// Writes the lines of the faults of one sheet, while there are fewer than [`MOST_FAULTS`]; so many were not told.
-fn tell_sheet(lines: &mut String, error: &SheetError, told: usize) -> Result<usize, AllocError> {
+fn tell_sheet(lines: &mut Explanation, error: &SheetError, told: usize) -> usize {
     match error {
-        SheetError::TooLong(sheet) => {
-            let name = sheet.name();
-            write!(lines, "unreadable {name}: over 1048576 bytes\n")?;
-            Ok(0)
-        }
-        SheetError::Utf16(sheet) => {
-            let name = sheet.name();
-            write!(lines, "unreadable {name}: UTF-16; export it as CSV UTF-8\n")?;
-            Ok(0)
-        }
         SheetError::Faults(faults) => {
-            let kept = faults.kept();
-            let free = MOST_FAULTS.saturating_sub(told);
-            for fault in kept.iter().take(free) {
-                tell_fault(lines, fault)?;
-            }
-            Ok(
-                kept.len()
-                    .saturating_sub(free)
-                    .saturating_add(faults.more()),
-            )
+            return tell_first(lines, faults, MOST_FAULTS.saturating_sub(told));
         }
-        SheetError::Memory => Err(AllocError),
+        SheetError::TooLong(sheet) => tell_text(lines, *sheet, "over 1048576 bytes"),
+        SheetError::Utf16(sheet) => tell_text(lines, *sheet, "UTF-16; export it as CSV UTF-8"),
+        SheetError::Memory => lines.lose(),
     }
+    0
 }
 
 /// How many lines were told of a sheet by itself.
@@ -165,27 +184,6 @@ fn told_of(inputs: &Result<Inputs, SheetError>) -> usize {
     }
 }
 
-/// Writes the lines of both sheets.
-fn tell_sheets(
-    lines: &mut String,
-    inputs: &Result<Inputs, SheetError>,
-    outputs: &Result<Outputs, SheetError>,
-) -> Result<(), AllocError> {
-    let before = match inputs {
-        Ok(_) => 0,
-        Err(error) => tell_sheet(lines, error, 0)?,
-    };
-    let behind = match outputs {
-        Ok(_) => 0,
-        Err(error) => tell_sheet(lines, error, told_of(inputs))?,
-    };
-    let more = before.saturating_add(behind);
-    if more > 0 {
-        write!(lines, "and {more} more\n")?;
-    }
-    Ok(())
-}
-
 /// The lines that tell the faults of both sheets, those of the inputs first: at most [`MOST_FAULTS`], and how many more
 /// there are. `None` where memory is out.
 pub fn fault_lines(
@@ -193,9 +191,16 @@ pub fn fault_lines(
     inputs: &Result<Inputs, SheetError>,
     outputs: &Result<Outputs, SheetError>,
 ) -> Option<String> {
-    let mut lines = String::new(alloc);
-    match tell_sheets(&mut lines, inputs, outputs) {
-        Ok(()) => Some(lines),
-        Err(_) => None,
+    let mut lines = Explanation::new(alloc);
+    let mut more = 0usize;
+    if let Err(error) = inputs {
+        more = tell_sheet(&mut lines, error, 0);
     }
+    if let Err(error) = outputs {
+        more = more.saturating_add(tell_sheet(&mut lines, error, told_of(inputs)));
+    }
+    if more > 0 {
+        lines.say("and {} more", &[Value::Number(more as u64)]);
+    }
+    lines.finish()
 }
