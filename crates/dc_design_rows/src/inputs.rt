@@ -135,9 +135,12 @@ fn settle_router(bus: &mut Bus, row: &InputRow, faults: &mut Lines) {
 
 /// Whether two SDIs have a word in common; `None` is any.
 fn overlap(one: Option<u64>, other: Option<u64>) -> bool {
-    match (one, other) {
-        (Some(one), Some(other)) => one == other,
-        _ => true,
+    let Some(one) = one else {
+        return true;
+    };
+    match other {
+        Some(other) => one == other,
+        None => true,
     }
 }
 
