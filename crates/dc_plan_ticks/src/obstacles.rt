@@ -28,16 +28,16 @@ impl Obstacles {
         self.lines.count() > 0
     }
 
-    /// A refusal of tables that were printed, in these words, as an obstacle of the last stage.
-    pub fn judged(alloc: Global, tick: u32, words: &str) -> Obstacles {
+    /// A refusal of tables that were printed, as an obstacle of the last stage: a sentence, in which each `{}` is a hole
+    /// for the next of these facts.
+    pub fn judged(alloc: Global, tick: u32, sentence: &str, facts: &[Fact]) -> Obstacles {
         let mut obstacles = Obstacles::new(alloc, u64::from(tick));
         obstacles.stage = 4;
         obstacles.lines.begin("");
         obstacles
             .lines
             .say("tick {}: ", &[Fact::Number(u64::from(tick))]);
-        obstacles.lines.text(words);
-        obstacles.lines.end();
+        obstacles.lines.line(sentence, facts);
         obstacles
     }
 }

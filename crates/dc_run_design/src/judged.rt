@@ -1,6 +1,5 @@
 //! A text of tables is judged as it is to be written.
-ghost use Rattle.std.specs.Prelude.{◌≤◌, IfOk};
-ghost use Rattle.arrayvec.specs.ArrayVec.{array_vec_len};
+ghost use Rattle.std.specs.Prelude.{IfOk};
 ghost use Rattle.dc_cert.specs.NamedRows.{named_rows};
 ghost use Rattle.dc_build.specs.Reported.{AreWrittenBy};
 ghost use Rattle.dc_check.specs.Certified.{KeepsItsClaims};
@@ -12,10 +11,11 @@ ghost use Rattle.dc_run_design.specs.Design.{IsCertified};
 use dc_build::{WrittenTables, read_written};
 use dc_cell::{Inputs, Outputs};
 use dc_cert::Certificate;
+use dc_check::Condition;
 use dc_check::laws::accepted_certificates_keep_their_claims;
-use dc_document::BuildError;
+use dc_design_rows::{Fact, Letters};
+use dc_document::{BuildError, TableFault};
 use dc_find::{FindFault, Queue, find};
-use dc_print::{Text, append, append_number, print_table_fault};
 use dc_rows_kept::{Unkept, keeps_rows};
 use dc_tables::Tables;
 use std::alloc::Global;
@@ -29,76 +29,113 @@ pub(crate) struct Wanted<'a> {
     pub(crate) outputs: &'a Outputs,
 }
 
+/// What a judge says: a sentence, in which each `{}` is a hole for the next of these facts.
+#[derive(Clone, Copy)]
+pub(crate) struct Said {
+    pub(crate) sentence: &'static str,
+    pub(crate) first: Fact,
+    pub(crate) second: Fact,
+    pub(crate) third: Fact,
+}
+
 /// Why a text of tables does not pass.
-#[derive(Drop)]
+#[derive(Clone, Copy)]
 pub(crate) enum Unfit {
-    /// A judge refuses it, in these words.
-    Told(Text),
+    /// It is none of tables.
+    Unread(TableFault),
+    /// A judge refuses it, and says this.
+    Told(Said),
     /// Memory was refused.
     NoMemory,
 }
 
-/// Puts the name of what a queue is of at the end.
-fn append_queue(text: &mut Text, tables: &Tables, queue: Queue)
-    requires { array_vec_len text.old ≤ 60 }
-{
+impl Said {
+    /// A sentence with up to two holes.
+    pub(crate) fn new(sentence: &'static str, first: Fact, second: Fact) -> Said {
+        Said {
+            sentence,
+            first,
+            second,
+            third: Fact::Word(""),
+        }
+    }
+}
+
+/// That no window of a queue closes, or that it is too short.
+fn queue_said(tables: &Tables, code: Fact, queue: Queue) -> Said {
     match queue {
         Queue::Input(bus) if bus < tables.bus_count() => {
-            append(text, b"input ");
-            append(text, tables.bus_name(bus).text());
+            let name = Letters::of(tables.bus_name(bus).text());
+            Said::new("refused {} input {}", code, Fact::Name(name))
         }
         Queue::Output(output) if output < tables.output_count() => {
-            append(text, b"output ");
-            append(text, tables.output_name(output).text());
+            let name = Letters::of(tables.output_name(output).text());
+            Said::new("refused {} output {}", code, Fact::Name(name))
         }
-        _ => {}
+        _ => Said::new("refused {} ", code, Fact::Word("")),
+    }
+}
+
+/// That a label breaks a condition.
+fn label_said(tables: &Tables, code: Fact, label: usize, condition: Condition) -> Said {
+    if label >= tables.label_count() {
+        return Said::new("refused {} ", code, Fact::Word(""));
+    }
+    let name = Letters::of(tables.label_name(label).text());
+    Said {
+        sentence: "refused {} label {} {}",
+        first: code,
+        second: Fact::Name(name),
+        third: Fact::Word(condition.code()),
     }
 }
 
 /// What stands in the way of every certificate.
 fn obstacle_of(tables: &Tables, fault: FindFault) -> Unfit {
-    let mut text = Text::new();
     let Some(obstacle) = fault.obstacle() else {
         return Unfit::NoMemory;
     };
-    append(&mut text, b"refused ");
-    append(&mut text, obstacle.code().as_bytes());
-    append(&mut text, b" ");
+    let code = Fact::Word(obstacle.code());
     match fault {
-        FindFault::WindowNeverCloses(queue) => append_queue(&mut text, tables, queue),
-        FindFault::QueueTooShort(bus) => append_queue(&mut text, tables, Queue::Input(bus)),
-        FindFault::LabelRule(label, condition) if label < tables.label_count() => {
-            append(&mut text, b"label ");
-            append(&mut text, tables.label_name(label).text());
-            append(&mut text, b" ");
-            append(&mut text, condition.code().as_bytes());
+        FindFault::WindowNeverCloses(queue) => Unfit::Told(queue_said(tables, code, queue)),
+        FindFault::QueueTooShort(bus) => Unfit::Told(queue_said(tables, code, Queue::Input(bus))),
+        FindFault::LabelRule(label, condition) => {
+            Unfit::Told(label_said(tables, code, label, condition))
         }
-        _ => {}
+        FindFault::Memory => Unfit::NoMemory,
     }
-    Unfit::Told(text)
+}
+
+/// That tables do not keep a row of this sheet.
+fn row_said(sheet: &'static str, row: u32) -> Said {
+    let number = Fact::Number(u64::from(row));
+    Said::new(
+        "the tables do not keep {} row {}",
+        Fact::Word(sheet),
+        number,
+    )
+}
+
+/// That tables have not as many parts as this sheet has rows.
+fn count_said(sheet: &'static str) -> Said {
+    let sentence = "the tables do not keep the count of {}";
+    Said::new(sentence, Fact::Word(sheet), Fact::Word(""))
 }
 
 /// What is not kept, by the numbers at the margins of the sheets.
-fn unkept_of(wanted: &Wanted<'_>, unkept: Unkept) -> Unfit {
-    let mut text = Text::new();
-    append(&mut text, b"the tables do not keep ");
+fn unkept_of(wanted: &Wanted<'_>, unkept: Unkept) -> Said {
     match unkept {
-        Unkept::StreamCount => append(&mut text, b"the count of inputs"),
-        Unkept::LabelCount => append(&mut text, b"the count of outputs"),
-        Unkept::Input(place) => {
-            append(&mut text, b"inputs row ");
-            if place < wanted.inputs.rows.len() {
-                append_number(&mut text, u64::from(wanted.inputs.rows[place].row));
-            }
-        }
-        Unkept::Output(place) => {
-            append(&mut text, b"outputs row ");
-            if place < wanted.outputs.rows.len() {
-                append_number(&mut text, u64::from(wanted.outputs.rows[place].row));
-            }
-        }
+        Unkept::StreamCount => count_said("inputs"),
+        Unkept::LabelCount => count_said("outputs"),
+        Unkept::Input(place) => match wanted.inputs.rows.get(place) {
+            Some(row) => row_said("inputs", row.row),
+            None => count_said("inputs"),
+        },
+        Unkept::Output(place) => match wanted.outputs.rows.get(place) {
+            Some(row) => row_said("outputs", row.row),
+            None => count_said("outputs"),
+        },
     }
-    Unfit::Told(text)
 }
 
 /// The tables that a text says, beside their document.
@@ -107,11 +144,7 @@ fn read_back(alloc: Global, text: &[u8]) -> Result<WrittenTables, Unfit>
 {
     match read_written(alloc, text) {
         Ok(written) => Ok(written),
-        Err(BuildError::Refused(fault)) => {
-            let mut line = Text::new();
-            print_table_fault(&mut line, fault);
-            Err(Unfit::Told(line))
-        }
+        Err(BuildError::Refused(fault)) => Err(Unfit::Unread(fault)),
         Err(BuildError::Memory(_)) => Err(Unfit::NoMemory),
     }
 }
@@ -143,15 +176,15 @@ fn certify_written(
             Ok(certificate) => Ok(certificate),
             Err(unfit) => Err(unfit),
         },
-        Err(unkept) => Err(unkept_of(wanted, unkept)),
+        Err(unkept) => Err(Unfit::Told(unkept_of(wanted, unkept))),
     }
 }
 
 /// The least certificate for the tables that a text says, which keep both sheets.
 ///
 /// # Errors
-/// `Told` where the text is none of tables, no certificate is accepted for them, or they do not keep a row: in the words of who
-/// judges that.
+/// `Unread` where the text is none of tables, `Told` where they do not keep a row or no certificate is accepted for them: in the
+/// words of who judges that.
 pub(crate) fn certify(alloc: Global, wanted: &Wanted<'_>, text: &[u8]) -> Result<Certificate, Unfit>
     ensures { IfOk result (λ c. IsCertified wanted.now.inputs.now.rows.items wanted.now.outputs.now.rows.items text.now (named_rows c)) }
 {

@@ -5,12 +5,12 @@ ghost use Rattle.dc_cert.specs.NamedRows.{named_rows};
 ghost use Rattle.dc_cert.specs.Printing.{claims_text};
 ghost use Rattle.dc_run_design.specs.Design.{AreDesigned, Designs, IsCertified};
 
-use crate::judged::{Unfit, Wanted, certify};
+use crate::judged::{Said, Unfit, Wanted, certify};
 use dc_answer::{Outcome, Page};
 use dc_cert::{Certificate, cert_text};
 use dc_design::{Furthest, Obstacles, Unread, Untabled, Wish, draft, ticks_of};
-use dc_design_rows::{Document, Undocumented};
-use dc_print::Text;
+use dc_design_rows::{Document, Fact, Undocumented};
+use dc_print::{Text, print_table_fault};
 use std::alloc::{AllocError, Global};
 use std::str::from_utf8;
 
@@ -84,7 +84,7 @@ fn keep_both(
     ensures certificate { IfOk result (λ _. certificate.new.items ≡ claims_text (named_rows claims.now)) }
 {
     let Some(line) = line_of(text) else {
-        return Err(Unfit::Told(Text::new()));
+        return Err(Unfit::Told(Said::new("", Fact::Word(""), Fact::Word(""))));
     };
     if page.keep(line).is_err() {
         return Err(Unfit::NoMemory);
@@ -114,9 +114,21 @@ fn try_text(
     }
 }
 
-/// What a judge says of a text with ticks of this length, as one more obstacle.
-fn obstacles_of(alloc: Global, tick_us: u32, words: &Text) -> Obstacles {
-    Obstacles::judged(alloc, tick_us, from_utf8(words.as_slice()).unwrap_or(""))
+/// What a judge says of a text with ticks of this length, as one more obstacle; nothing where memory was refused.
+fn obstacles_of(alloc: Global, tick_us: u32, unfit: &Unfit) -> Option<Obstacles> {
+    match unfit {
+        Unfit::Unread(fault) => {
+            let mut line = Text::new();
+            print_table_fault(&mut line, *fault);
+            let words = from_utf8(line.as_slice()).unwrap_or("");
+            Some(Obstacles::judged(alloc, tick_us, words, &[]))
+        }
+        Unfit::Told(said) => {
+            let facts = [said.first, said.second, said.third];
+            Some(Obstacles::judged(alloc, tick_us, said.sentence, &facts))
+        }
+        Unfit::NoMemory => None,
+    }
 }
 
 /// Tries ticks of this length: whether they gave tables that pass, which are kept with their certificate.
@@ -138,11 +150,13 @@ fn try_tick(
     match draft(alloc, task.document, task.wish, tick_us, &unread) {
         Ok(text) => match try_text(alloc, &task.wanted, text.as_bytes(), page, certificate) {
             Ok(()) => Ok(true),
-            Err(Unfit::Told(words)) => {
-                furthest.add(obstacles_of(alloc, tick_us, &words));
-                Ok(false)
-            }
-            Err(Unfit::NoMemory) => Err(AllocError),
+            Err(unfit) => match obstacles_of(alloc, tick_us, &unfit) {
+                Some(obstacles) => {
+                    furthest.add(obstacles);
+                    Ok(false)
+                }
+                None => Err(AllocError),
+            },
         },
         Err(Untabled::Obstacles(obstacles)) => {
             furthest.add(obstacles);
