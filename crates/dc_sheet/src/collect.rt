@@ -54,7 +54,7 @@ static OUTPUT_COLUMNS: [Column; 12] = [
 const WANTED: usize = 7;
 
 /// A title that is read.
-#[derive(Clone, Copy, Debug)]
+#[derive(Clone, Copy)]
 pub(crate) struct ReadTitle {
     place: usize,
     column: Column,

@@ -10,7 +10,7 @@ use dc_cell::{Column, TimeUnit, is_title, key_of, unit_of};
 use std::alloc::{AllocError, Global};
 
 /// The column of a time.
-#[derive(Clone, Copy, Debug, PartialEq)]
+#[derive(Clone, Copy)]
 pub(crate) struct TimePlace {
     /// Where it stands.
     pub(crate) place: Option<usize>,
@@ -19,7 +19,7 @@ pub(crate) struct TimePlace {
 }
 
 /// Where the columns of the inputs stand.
-#[derive(Clone, Copy, Debug, PartialEq)]
+#[derive(Clone, Copy)]
 pub(crate) struct InputPlaces {
     pub(crate) bus: Option<usize>,
     pub(crate) speed: Option<usize>,
@@ -37,7 +37,7 @@ pub(crate) struct InputPlaces {
 }
 
 /// Where the columns of the outputs stand, but those of the sources.
-#[derive(Clone, Copy, Debug, PartialEq)]
+#[derive(Clone, Copy)]
 pub(crate) struct OutputPlaces {
     pub(crate) output: Option<usize>,
     pub(crate) speed: Option<usize>,
