@@ -3,7 +3,7 @@ use crate::tables::write_tables;
 use dc_cell::UnreadTitle;
 use dc_design_rows::{Document, Fact, Lines};
 use dc_document::TEXT_LIMIT;
-use dc_plan::{Knobs, Obstacles, Unplanned, make_plan};
+use dc_plan::{Knobs, Obstacles, Plan, Unplanned, make_plan};
 use std::alloc::{AllocError, Global};
 
 /// The lengths of a tick that are tried in microseconds, in their order: what is usual, then shorter ones, which lose
@@ -46,7 +46,7 @@ pub fn ticks_of(wish: &Wish) -> &[u32] {
 }
 
 /// That a text is too long to be read.
-fn too_long(alloc: Global, tick: u64, length: usize) -> Obstacles {
+fn too_long(alloc: Global, tick: u64, length: usize) -> Untabled {
     let mut obstacles = Obstacles::new(alloc, tick);
     obstacles.stage = 4;
     obstacles.lines.begin("");
@@ -54,7 +54,7 @@ fn too_long(alloc: Global, tick: u64, length: usize) -> Obstacles {
         "the tables take {} bytes, at most {} (T01); shorter names",
         &[Fact::Number(length as u64), Fact::Number(TEXT_LIMIT as u64)],
     );
-    obstacles
+    Untabled::Obstacles(obstacles)
 }
 
 /// What is asked of a plan with ticks of this length.
@@ -66,6 +66,24 @@ fn knobs_of(wish: &Wish, tick_us: u32) -> Knobs {
     Knobs::new(u64::from(tick_us), headroom, wish.tick_us.is_some())
 }
 
+/// The text of tables with these numbers.
+fn text_of(
+    alloc: Global,
+    document: &Document,
+    plan: &Plan,
+    unread: &Unread<'_>,
+) -> Result<String, Untabled> {
+    let mut lines = Lines::new(alloc);
+    if write_tables(alloc, document, plan, unread, &mut lines).is_err() {
+        return Err(Untabled::NoMemory);
+    }
+    match lines.finish() {
+        Some(text) if text.len() > TEXT_LIMIT => Err(too_long(alloc, plan.tick, text.len())),
+        Some(text) => Ok(text),
+        None => Err(Untabled::NoMemory),
+    }
+}
+
 /// The text of tables for a document with ticks of this length, or what stands in the way. What holds of the text is for
 /// its judges to say.
 pub fn draft(
@@ -75,21 +93,9 @@ pub fn draft(
     tick_us: u32,
     unread: &Unread<'_>,
 ) -> Result<String, Untabled> {
-    let plan = match make_plan(alloc, document, &knobs_of(&wish, tick_us)) {
-        Ok(plan) => plan,
-        Err(Unplanned::NoMemory) => return Err(Untabled::NoMemory),
-        Err(Unplanned::Obstacles(obstacles)) => return Err(Untabled::Obstacles(obstacles)),
-    };
-    let mut lines = Lines::new(alloc);
-    if write_tables(alloc, document, &plan, unread, &mut lines).is_err() {
-        return Err(Untabled::NoMemory);
+    match make_plan(alloc, document, &knobs_of(&wish, tick_us)) {
+        Ok(plan) => text_of(alloc, document, &plan, unread),
+        Err(Unplanned::NoMemory) => Err(Untabled::NoMemory),
+        Err(Unplanned::Obstacles(obstacles)) => Err(Untabled::Obstacles(obstacles)),
     }
-    let Some(text) = lines.finish() else {
-        return Err(Untabled::NoMemory);
-    };
-    let length = text.len();
-    if length > TEXT_LIMIT {
-        return Err(Untabled::Obstacles(too_long(alloc, u64::from(tick_us), length)));
-    }
-    Ok(text)
 }

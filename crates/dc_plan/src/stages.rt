@@ -53,20 +53,16 @@ fn plan_outputs(
     Ok(())
 }
 
-/// Goes through the stages until one has something in the way.
-fn go_through(
+/// How late the buses may be, and their visits.
+fn plan_visits(
     alloc: Global,
     document: &Document,
     knobs: &Knobs,
     plan: &mut Plan,
     obstacles: &mut Obstacles,
 ) -> Result<(), AllocError> {
-    pace_all(document, knobs, &mut plan.paces, obstacles)?;
-    if obstacles.is_any() {
-        return Ok(());
-    }
-    obstacles.stage = 2;
     let mut wanted = Vec::new(alloc);
+    obstacles.stage = 2;
     limit_all(document, &plan.paces, knobs, &mut wanted, obstacles)?;
     if obstacles.is_any() {
         return Ok(());
@@ -80,7 +76,22 @@ fn go_through(
         knobs,
         &mut plan.visits,
         obstacles,
-    )?;
+    )
+}
+
+/// Goes through the stages until one has something in the way.
+fn go_through(
+    alloc: Global,
+    document: &Document,
+    knobs: &Knobs,
+    plan: &mut Plan,
+    obstacles: &mut Obstacles,
+) -> Result<(), AllocError> {
+    pace_all(document, knobs, &mut plan.paces, obstacles)?;
+    if obstacles.is_any() {
+        return Ok(());
+    }
+    plan_visits(alloc, document, knobs, plan, obstacles)?;
     if obstacles.is_any() {
         return Ok(());
     }

@@ -86,8 +86,9 @@ fn is_first(names: &[Letters], number: usize, name: &Letters) -> bool {
     true
 }
 
-/// The buses of a router.
+/// Lists the buses of a router.
 fn list_buses(names: &[Letters], name: &Letters, group: &mut Vec<usize>) -> Result<(), AllocError> {
+    group.truncate(0);
     for (number, own) in names.iter().enumerate() {
         if own == name {
             group.push(number)?;
@@ -139,6 +140,26 @@ fn plan_router(
     }))
 }
 
+/// Adds the router of each name; the first one whose buses want too much is told.
+fn add_routers(
+    names: &[Letters],
+    group: &mut Vec<usize>,
+    visits: &mut Visits,
+    obstacles: &mut Obstacles,
+) -> Result<(), AllocError> {
+    for (number, name) in names.iter().enumerate() {
+        if !is_first(names, number, name) {
+            continue;
+        }
+        list_buses(names, name, group)?;
+        match plan_router(&visits.buses, *name, group, &mut visits.turns, obstacles)? {
+            Some(router) => visits.routers.push(router)?,
+            None => return Ok(()),
+        }
+    }
+    Ok(())
+}
+
 /// Adds the routers of buses whose visits are planned, one for each bus or for each name of the column; the first one whose
 /// buses want too much is told.
 ///
@@ -153,17 +174,7 @@ pub fn plan_routers(
 ) -> Result<(), AllocError> {
     let mut names = Vec::new(alloc);
     let mut taken = Vec::new(alloc);
+    let mut group = Vec::new(alloc);
     name_all(document, &mut names, &mut taken)?;
-    for (number, name) in names.iter().enumerate() {
-        if !is_first(&names, number, name) {
-            continue;
-        }
-        let mut group = Vec::new(alloc);
-        list_buses(&names, name, &mut group)?;
-        match plan_router(&visits.buses, *name, &group, &mut visits.turns, obstacles)? {
-            Some(router) => visits.routers.push(router)?,
-            None => return Ok(()),
-        }
-    }
-    Ok(())
+    add_routers(&names, &mut group, visits, obstacles)
 }
