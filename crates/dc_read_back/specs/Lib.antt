@@ -1,0 +1,2 @@
+-- What `observe` prints of numbers, and that it is read back.
+pub mod Printed
