@@ -1,5 +1,5 @@
 #!/usr/bin/env python3
-"""Tests that each edit of must-fail/ and of edits/ still applies, in a second and with no proof.
+"""Tests that each edit of must-fail/, of edits/ and of docs/trials/wrong-plans/ still applies, in a second and with no proof.
 
 usage: scripts/edits_apply.py [CRATE..]
 
@@ -17,6 +17,7 @@ from pathlib import Path
 TOP = os.path.dirname(os.path.dirname(os.path.abspath(__file__)))
 MOST = 8
 TRIED = "tried.tsv"
+PLANS = "docs/trials/wrong-plans"
 NAME = re.compile(r"[A-Za-z0-9_-][A-Za-z0-9_.-]*\.edit")
 
 
@@ -75,11 +76,13 @@ def main(wanted):
     crates = [it for it in names_in(f"{TOP}/crates") if os.path.isdir(f"{TOP}/crates/{it}/src")]
     reported, tried = [], 0
     reported += [f"there is no crate {it}" for it in wanted if it not in crates]
-    reported += [f"edits/{it}: there is no crate of this name" for it in names_in(f"{TOP}/edits") if it not in crates + [TRIED] and not wanted]
+    for place in ("edits", PLANS):
+        reported += [f"{place}/{it}: there is no crate of this name" for it in names_in(f"{TOP}/{place}") if it not in crates + [TRIED] and not wanted]
     for crate in [it for it in crates if it in wanted or not wanted]:
         folder = f"{TOP}/crates/{crate}"
         places = {f"crates/{crate}/must-fail": f"{folder}/must-fail", f"edits/{crate}": f"{TOP}/edits/{crate}"}
         gate, outside = (names_in(it) for it in places.values())
+        places[f"{PLANS}/{crate}"] = f"{TOP}/{PLANS}/{crate}"
         if len(gate) > MOST:
             reported.append(f"crates/{crate}/must-fail: {len(gate)} edits, and the gate is to try at most {MOST}")
         reported += [f"edits/{crate}/{it}: it stands in must-fail/ too" for it in outside if it in gate]
