@@ -5,7 +5,7 @@ usage: scripts/sheets.py FOLDER [COUNT] [SEED]     writes FOLDER/000-inputs.csv,
 
 Each draw takes a source of chance, a Random of the standard library, and says the same for the same one. Times of rows are in
 microseconds. Their intervals agree where tables have one for several rows, so that no row contradicts another; whether tables can
-keep them is another matter, and for about a third none can.
+keep them is another matter, and for about half none can (docs/design.md).
 """
 import sys
 from pathlib import Path
