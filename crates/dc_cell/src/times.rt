@@ -33,7 +33,7 @@ impl TimeUnit {
 }
 
 /// A number as a cell writes it.
-#[derive(Clone, Copy)]
+#[derive(Clone, Copy, Debug, PartialEq, Eq)]
 pub struct Decimal {
     /// What its digits write before the mark.
     pub whole: u64,
