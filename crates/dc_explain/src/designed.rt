@@ -28,12 +28,30 @@ fn cells_of<'a>(alloc: Global, sheet: &'a [u8]) -> Names<'a> {
     cells
 }
 
+/// Whether a cell may be the name of a stream that is not there: not its bus, which stands in front, nor a bus that is like
+/// that.
+fn may_name(cell: &str, name: &str) -> bool {
+    !name.starts_with(cell) && (cell.contains('-') || !name.contains('-'))
+}
+
+/// The cells that may be the name of a stream that is not there.
+fn names_like<'a>(alloc: Global, name: &str, cells: &[&'a str]) -> Names<'a> {
+    let mut names = Names::new(alloc);
+    for cell in cells.iter() {
+        if may_name(cell, name) {
+            names.add(cell);
+        }
+    }
+    names
+}
+
 /// Writes which cell of the inputs a stream may be meant by that is not there, where one is like it.
-fn tell_like(out: &mut Explanation, line: &str, cells: &[&str]) {
+fn tell_like(alloc: Global, out: &mut Explanation, line: &str, cells: &[&str]) {
     let Some(name) = missing_in(line) else {
         return;
     };
-    if let Some((like, _)) = out.nearest(name, cells) {
+    let names = names_like(alloc, name, cells);
+    if let Some((like, _)) = out.nearest(name, names.as_slice()) {
         let like = [Text(like)];
         out.help(
             "there is `{}` in the inputs: write it so, if it is meant",
@@ -58,7 +76,7 @@ pub(crate) fn repeat_lines(alloc: Global, ran: &Ran<'_>) -> Option<String> {
             out.end_line();
             out.add(line);
         }
-        tell_like(&mut out, line, cells.as_slice());
+        tell_like(alloc, &mut out, line, cells.as_slice());
     }
     out.finish()
 }
