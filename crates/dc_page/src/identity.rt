@@ -41,7 +41,7 @@ pub fn push_identity(html: &mut Html, identity: &Identity<'_>) {
         Some(certificate) => push_text(html, "Certificate", certificate),
         None => {
             html.add(
-                "<p>Certificate: the least one, which the program found for these tables</p>\n",
+                "<p>Certificate: none given; where one is accepted, the least one is shown</p>\n",
             )
         }
     }
