@@ -128,10 +128,10 @@ class Queue:
             self.changed.notify_all()
 
 
-def side_by_side(crates, jobs, commands, one, tops=()):
+def side_by_side(crates, jobs, commands, one, tops=(), last=len):
     """Calls `one` with the top of a workspace and a crate for each crate once all below it are well, in so many workspaces at once, and
-    answers those for which it said yes. The first workspaces are those that are given, the others copies of the sources: what one has
-    proved `rt` takes over in another in a second or two."""
+    answers what `last` says to those for which it said yes. The first workspaces are those that are given, the others copies of the
+    sources: what one has proved `rt` takes over in another in a second or two, while it stands. They are taken away behind `last`."""
     queue = Queue(crates)
     signal.signal(signal.SIGTERM, lambda *_: sys.exit(143))
     with tempfile.TemporaryDirectory(prefix="dc429-lanes-") as room:
@@ -156,4 +156,4 @@ def side_by_side(crates, jobs, commands, one, tops=()):
                 # (an interrupt ends the commands that run)
                 commands.stop()
                 raise
-    return queue.well
+        return last(queue.well)
