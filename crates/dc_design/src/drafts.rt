@@ -17,6 +17,19 @@ pub struct Wish {
     pub tick_us: Option<u32>,
     /// So many percent of each queue, budget, wire and age are to be left free, where that is asked.
     pub headroom: Option<u32>,
+    /// Whether buses are to be visited by timeouts too.
+    pub is_prompt: bool,
+}
+
+impl Wish {
+    /// The same with buses that are visited by timeouts too.
+    pub fn promptly(&self) -> Wish {
+        Wish {
+            tick_us: self.tick_us,
+            headroom: self.headroom,
+            is_prompt: true,
+        }
+    }
 }
 
 /// The columns that are not read.
@@ -63,7 +76,12 @@ fn knobs_of(wish: &Wish, tick_us: u32) -> Knobs {
         Some(percent) => Some(u64::from(percent)),
         None => None,
     };
-    Knobs::new(u64::from(tick_us), headroom, wish.tick_us.is_some())
+    Knobs::new(
+        u64::from(tick_us),
+        headroom,
+        wish.tick_us.is_some(),
+        wish.is_prompt,
+    )
 }
 
 /// The text of tables with these numbers.

@@ -9,6 +9,8 @@ use std::alloc::Global;
 pub struct Furthest {
     kept: Obstacles,
     alloc: Global,
+    /// Whether some tick did not keep a timeout.
+    is_late: bool,
 }
 
 /// Whether one came further than another: a later stage, then fewer lines, then shorter ticks.
@@ -28,11 +30,29 @@ impl Furthest {
     pub fn new(alloc: Global) -> Furthest {
         let mut kept = Obstacles::new(alloc, 0);
         kept.stage = 0;
-        Furthest { kept, alloc }
+        Furthest {
+            kept,
+            alloc,
+            is_late: false,
+        }
+    }
+
+    /// Whether some tick did not keep a timeout, so that all are worth a try with buses that are visited by timeouts too.
+    /// Then what is kept so far is told no more.
+    pub fn starts_anew(&mut self) -> bool {
+        if self.is_late {
+            *self = Furthest::new(self.alloc);
+            true
+        } else {
+            false
+        }
     }
 
     /// Keeps what stood in the way, where it came further than what is kept.
     pub fn add(&mut self, obstacles: Obstacles) {
+        if obstacles.is_late {
+            self.is_late = true;
+        }
         if is_further(&obstacles, &self.kept) {
             self.kept = obstacles;
         }
@@ -65,7 +85,7 @@ impl Furthest {
     /// The lines of a refusal; nothing where memory was refused.
     pub fn refusal(self, wish: &Wish) -> Option<String> {
         let mut text = self.heading(wish)?;
-        let Furthest { kept, alloc: _ } = self;
+        let Furthest { kept, .. } = self;
         let Obstacles { lines, .. } = kept;
         let told = lines.finish()?;
         if text.push_str(told.as_str()).is_err() {

@@ -1,6 +1,6 @@
 //! Stage 4: stale times and ages of labels.
-use dc_design_rows::{Document, Fact, Label, Output};
-use dc_plan_ticks::{Knobs, Obstacles, Pace, age_of, part, share_of, whole_of};
+use dc_design_rows::{Document, Label, Output};
+use dc_plan_ticks::{Knobs, Obstacles, Pace, age_of, part, share_of};
 use dc_plan_visits::BusPlan;
 use std::alloc::AllocError;
 
@@ -47,90 +47,45 @@ fn late_of(document: &Document, buses: &[BusPlan], paces: &[Pace], label: &Label
     late
 }
 
-/// Tells that a live source may be silent for longer than a label waits.
-fn tell_timeout(
+/// After how many ticks a source of a label is given up, where so many are left for the age of its data: at its timeout, or
+/// sooner where the age asks for that. Where the sources are later than that, buses are to be visited by timeouts too.
+fn stale_of(
     label: &Label,
-    timeout: u64,
-    silence: u64,
-    knobs: &Knobs,
-    obstacles: &mut Obstacles,
-) {
-    obstacles.lines.begin("");
-    obstacles.lines.line(
-        "outputs row {} column timeout: {} us are {} ticks, but a live source may be silent for {} (C12); a timeout of {} us{}",
-        &[
-            Fact::Number(label.row),
-            Fact::Number(timeout),
-            Fact::Number(part(timeout, knobs.tick)),
-            Fact::Number(silence),
-            Fact::Number(silence.saturating_mul(knobs.tick)),
-            Fact::Word(knobs.shorter),
-        ],
-    );
-}
-
-/// Tells that a source is given up too late for the age of a label.
-fn tell_old(
-    label: &Label,
-    plan: &LabelPlan,
-    delay: u64,
+    late: &Late,
     left: u64,
     knobs: &Knobs,
     obstacles: &mut Obstacles,
-) {
-    let ticks = whole_of(plan.least_age, knobs.share).saturating_add(1);
-    obstacles.lines.begin("");
-    obstacles.lines.say(
-        "outputs row {} column timeout: a source is given up after {} ticks, and with a delay of {} its data are {} ticks old, ",
-        &[
-            Fact::Number(label.row),
-            Fact::Number(plan.stale),
-            Fact::Number(delay),
-            Fact::Number(plan.least_age),
-        ],
-    );
-    obstacles.lines.line(
-        "{} are left by max_age (C11); a lesser timeout, or a max_age of {} us",
-        &[
-            Fact::Number(left),
-            Fact::Number(ticks.saturating_mul(knobs.tick)),
-        ],
-    );
-}
-
-/// After how many ticks a source of a label is given up.
-fn stale_of(label: &Label, silence: u64, knobs: &Knobs, obstacles: &mut Obstacles) -> u64 {
+) -> u64 {
     let Some(timeout) = label.timeout else {
-        return silence;
+        return late.silence;
     };
     let ticks = part(timeout, knobs.tick);
-    if ticks < silence {
-        tell_timeout(label, timeout, silence, knobs, obstacles);
+    let stale = ticks.min(left.saturating_sub(late.delay));
+    if !knobs.is_prompt && (stale < ticks || ticks < late.silence) {
+        obstacles.is_late = true;
     }
-    ticks.max(silence)
+    stale
 }
 
 /// The stale time and the ages of a label.
 fn aged(label: &Label, late: &Late, knobs: &Knobs, obstacles: &mut Obstacles) -> LabelPlan {
-    let stale = stale_of(label, late.silence, knobs, obstacles);
+    let left = match label.max_age {
+        Some(max_age) => share_of(age_of(max_age, knobs.tick), knobs.share),
+        None => u64::MAX,
+    };
+    let stale = stale_of(label, late, left, knobs, obstacles);
     let least_age = stale.saturating_add(late.delay);
-    let age = match label.max_age {
-        Some(max_age) => age_of(max_age, knobs.tick),
-        None => least_age,
-    };
-    let plan = LabelPlan {
+    LabelPlan {
         stale,
-        age,
+        age: match label.max_age {
+            Some(max_age) => age_of(max_age, knobs.tick),
+            None => least_age,
+        },
         least_age,
-    };
-    let left = share_of(age, knobs.share);
-    if label.max_age.is_some() && least_age > left {
-        tell_old(label, &plan, late.delay, left, knobs, obstacles);
     }
-    plan
 }
 
-/// Adds the stale times and the ages of the labels of an output, or tells those whose times are too short.
+/// Adds the stale times and the ages of the labels of an output, or notes that a timeout is not kept.
 pub(crate) fn age_all(
     document: &Document,
     output: &Output,

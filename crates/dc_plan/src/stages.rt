@@ -30,7 +30,7 @@ pub enum Unplanned {
     NoMemory,
 }
 
-/// The outputs with their labels.
+/// The outputs with their labels; no frames where a timeout is not kept.
 fn plan_outputs(
     alloc: Global,
     document: &Document,
@@ -48,6 +48,11 @@ fn plan_outputs(
             &mut plan.labels,
             obstacles,
         )?;
+    }
+    if obstacles.is_late {
+        return Ok(());
+    }
+    for output in &document.outputs {
         plan_output(alloc, document, output, knobs, &mut plan.frames, obstacles)?;
     }
     Ok(())

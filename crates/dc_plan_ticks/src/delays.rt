@@ -79,22 +79,26 @@ fn tell_age(
     );
 }
 
+/// Lets a bus be no later than this, or than 1.
+fn limit_bus(bus: usize, spare: u64, wanted: &mut Vec<u64>) {
+    if let Some(most) = wanted.get_mut(bus) {
+        let least = spare.min(*most).max(1);
+        *most = least;
+    }
+}
+
 /// Lets the buses of the sources of a label be no later than this.
 fn limit(document: &Document, label: &Label, spare: u64, wanted: &mut Vec<u64>) {
     for place in label.sources.first..label.sources.end {
         let number = document.sources.get(place).copied().unwrap_or(0);
-        let Some(stream) = document.streams.get(number) else {
-            continue;
-        };
-        if let Some(most) = wanted.get_mut(stream.bus) {
-            let least = spare.min(*most).max(1);
-            *most = least;
+        if let Some(stream) = document.streams.get(number) {
+            limit_bus(stream.bus, spare, wanted);
         }
     }
 }
 
 /// How late the buses of a label's sources may be, by its age.
-fn limit_by(
+fn limit_by_age(
     document: &Document,
     paces: &[Pace],
     label: &Label,
@@ -114,8 +118,66 @@ fn limit_by(
     limit(document, label, spare, wanted);
 }
 
+/// Tells that the words of a source lie too far apart for the timeout of a label.
+fn tell_timeout(
+    label: &Label,
+    timeout: u64,
+    slowest: &Slowest,
+    knobs: &Knobs,
+    obstacles: &mut Obstacles,
+) {
+    obstacles.lines.begin("");
+    obstacles.lines.say(
+        "outputs row {} column timeout: {} us are {} ticks of {} us, but words of {} may lie {} apart, ",
+        &[
+            Fact::Number(label.row),
+            Fact::Number(timeout),
+            Fact::Number(part(timeout, knobs.tick)),
+            Fact::Number(knobs.tick),
+            Fact::Name(slowest.name),
+            Fact::Number(slowest.most),
+        ],
+    );
+    obstacles.lines.line(
+        "and its bus takes one more (C12); a timeout of {} us, or a quicker {}{}",
+        &[
+            Fact::Number(slowest.most.saturating_add(1).saturating_mul(knobs.tick)),
+            Fact::Name(slowest.name),
+            Fact::Word(knobs.shorter),
+        ],
+    );
+}
+
+/// How late the buses of a label's sources may be, by its timeout: each by what the intervals of its own source leave.
+fn limit_by_timeout(
+    document: &Document,
+    paces: &[Pace],
+    label: &Label,
+    knobs: &Knobs,
+    wanted: &mut Vec<u64>,
+    obstacles: &mut Obstacles,
+) {
+    let Some(timeout) = label.timeout else {
+        return;
+    };
+    let ticks = part(timeout, knobs.tick);
+    let slowest = slowest_of(document, paces, label);
+    if ticks <= slowest.most {
+        tell_timeout(label, timeout, &slowest, knobs, obstacles);
+    }
+    for place in label.sources.first..label.sources.end {
+        let number = document.sources.get(place).copied().unwrap_or(0);
+        let Some(stream) = document.streams.get(number) else {
+            continue;
+        };
+        if let Some(pace) = paces.get(number) {
+            limit_bus(stream.bus, ticks.saturating_sub(pace.most), wanted);
+        }
+    }
+}
+
 /// Adds how late each bus may be in ticks, at least 1, in the order of the buses, or tells the labels whose sources come too
-/// seldom for their ages.
+/// seldom for their ages or timeouts.
 ///
 /// # Errors
 ///
@@ -132,7 +194,10 @@ pub fn limit_all(
     }
     for number in &document.on_output {
         if let Some(label) = document.labels.get(*number) {
-            limit_by(document, paces, label, knobs, wanted, obstacles);
+            limit_by_age(document, paces, label, knobs, wanted, obstacles);
+            if knobs.is_prompt {
+                limit_by_timeout(document, paces, label, knobs, wanted, obstacles);
+            }
         }
     }
     Ok(())

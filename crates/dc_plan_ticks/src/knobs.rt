@@ -16,12 +16,14 @@ pub struct Knobs {
     pub share: u64,
     /// What helps beside, where only this tick is tried.
     pub shorter: &'static str,
+    /// Whether buses are visited by timeouts too, and no source is kept for longer than its label's age lets it.
+    pub is_prompt: bool,
 }
 
 impl Knobs {
     /// For ticks of this length, with so many percent to be left free where that is asked; `is_only` where no other
-    /// tick is tried.
-    pub fn new(tick: u64, headroom: Option<u64>, is_only: bool) -> Knobs {
+    /// tick is tried, `is_prompt` where timeouts are to be kept that are not kept by the way.
+    pub fn new(tick: u64, headroom: Option<u64>, is_only: bool, is_prompt: bool) -> Knobs {
         let (leave, is_hard) = match headroom {
             Some(percent) => (percent.min(90), true),
             None => (SOFT, false),
@@ -40,6 +42,7 @@ impl Knobs {
             } else {
                 ""
             },
+            is_prompt,
         }
     }
 

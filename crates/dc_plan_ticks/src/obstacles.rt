@@ -11,6 +11,8 @@ pub struct Obstacles {
     pub stage: u64,
     /// A line for each, the first of them.
     pub lines: Lines,
+    /// Whether a timeout is not kept, which it may be where buses are visited by timeouts too. It has no line.
+    pub is_late: bool,
 }
 
 impl Obstacles {
@@ -20,12 +22,13 @@ impl Obstacles {
             tick,
             stage: 1,
             lines: Lines::new(alloc),
+            is_late: false,
         }
     }
 
     /// Whether something is.
     pub fn is_any(&self) -> bool {
-        self.lines.count() > 0
+        self.is_late || self.lines.count() > 0
     }
 
     /// A refusal of tables that were printed, as an obstacle of the last stage: a sentence, in which each `{}` is a hole

@@ -137,7 +137,11 @@ fn tell_none(
         return tell_room(bus, arrivals, &best, most.backlog, knobs, obstacles);
     }
     obstacles.lines.line(
-        "{} ticks are the least delay, {} are left by the ages (C06, C11); fewer streams, less jitter, or a greater age{}",
+        if knobs.is_prompt {
+            "{} ticks are the least delay, {} are left by the ages and timeouts (C06, C11, C12); fewer streams, less jitter, or greater ages and timeouts{}"
+        } else {
+            "{} ticks are the least delay, {} are left by the ages (C06, C11); fewer streams, less jitter, or a greater age{}"
+        },
         &[
             Fact::Number(best.delay),
             Fact::Number(most.delay),

@@ -31,6 +31,7 @@ impl Plan {
         Wish {
             tick_us: self.tick.map(u32::from),
             headroom: self.headroom.map(u32::from),
+            is_prompt: false,
         }
     }
 }
@@ -185,6 +186,32 @@ fn try_ticks(
     Ok(false)
 }
 
+/// Tries ticks in their order, and all of them once more with buses that are visited by timeouts too, where some did not keep a
+/// timeout: whether some gave tables that pass, which are kept with their certificate.
+fn try_all(
+    alloc: Global,
+    task: &Task<'_>,
+    furthest: &mut Furthest,
+    page: &mut Page,
+    certificate: &mut Vec<u8>,
+) -> Result<bool, AllocError>
+    ensures { IfOk result (λ passed. passed ≡ true
+        → AreDesigned task.now.wanted.inputs.now.rows.items task.now.wanted.outputs.now.rows.items (page.new ++ 10 ∷ []) certificate.new.items) }
+{
+    if try_ticks(alloc, task, furthest, page, certificate)? {
+        return Ok(true);
+    }
+    if !furthest.starts_anew() {
+        return Ok(false);
+    }
+    let prompt = Task {
+        wish: task.wish.promptly(),
+        wanted: task.wanted,
+        document: task.document,
+    };
+    try_ticks(alloc, &prompt, furthest, page, certificate)
+}
+
 /// Keeps the lines of what came furthest.
 fn refuse(furthest: Furthest, wish: &Wish, page: &mut Page) -> Result<(), AllocError> {
     match furthest.refusal(wish) {
@@ -203,7 +230,7 @@ fn design_task(
     ensures { Designs task.now.wanted.inputs.now.rows.items task.now.wanted.outputs.now.rows.items page.new certificate.new.items result }
 {
     let mut furthest = Furthest::new(alloc);
-    if try_ticks(alloc, task, &mut furthest, page, certificate)? {
+    if try_all(alloc, task, &mut furthest, page, certificate)? {
         return Ok(Outcome::Done);
     }
     match refuse(furthest, &task.wish, page) {
