@@ -1,38 +1,15 @@
 //! Names and parameters that no table has.
-use crate::related::{agree, member, parameter_of, visitor};
+use crate::related::{agree, alike, lister, member, parameter_of};
 use dc_explain_text::{Fact, Refused};
 use dc_tell::{Kind, Names, Span, Value, called, unquoted};
 
 /// How many other tables with the same fault are named.
 const NAMED: usize = 4;
 
-/// The first parameter of the label of the table with the fault.
-fn parameter_of_label(refused: &Refused<'_>) -> Option<usize> {
-    for (row, it) in refused.layout.rows.iter().enumerate() {
-        if it.kind != Kind::Parameter {
-            continue;
-        }
-        if agree(refused, refused.row, row, "label") {
-            return Some(row);
-        }
-    }
-    None
-}
-
 /// Whether a stream or a label names a parameter.
 fn is_named(refused: &Refused<'_>, parameter: usize) -> bool {
-    for (row, it) in refused.layout.rows.iter().enumerate() {
-        if it.kind != Kind::Stream && it.kind != Kind::Label {
-            continue;
-        }
-        if !agree(refused, row, parameter, "label") {
-            continue;
-        }
-        if agree(refused, row, parameter, "equipment") {
-            return true;
-        }
-    }
-    false
+    alike(refused, Kind::Stream, parameter, "label", "equipment").is_some()
+        || alike(refused, Kind::Label, parameter, "label", "equipment").is_some()
 }
 
 /// The first parameter that no stream and no label names.
@@ -80,14 +57,10 @@ pub(crate) fn tell_orphans(refused: &mut Refused<'_>, sentence: &'static str) {
 /// Tells of a parameter that is not there.
 pub(crate) fn tell_no_parameter(refused: &mut Refused<'_>) {
     let row = refused.row;
-    let alike = parameter_of_label(refused);
-    let other = alike.unwrap_or(row);
+    let own = alike(refused, Kind::Parameter, row, "label", "");
+    let other = own.unwrap_or(row);
     let unnamed = unnamed_parameter(refused).unwrap_or(other);
-    let key = if alike.is_some() {
-        "equipment"
-    } else {
-        "label"
-    };
+    let key = if own.is_some() { "equipment" } else { "label" };
     refused.say(
         "{} has label {} and equipment code {}, and there is no such parameter{}\n{}help: this label has a parameter of equipment code \"{}\", in line {}: write that code here, if it is meant\n{}help: no parameter has this label: write another here, if another is meant, or this one in the parameter that is meant for it\n{}note: {} in line {} is named by no stream and no label: it may be the one that is meant\nhelp: or add a parameter, as `[[parameter]]` or as one more row of `parameter = [..]` where that is how they stand, with `label = \"{}\"`, `equipment = \"{}\"`, a `format` of \"bnr\", \"bcd\" or \"disc\", and `min_us` and `max_us`: the least and the greatest time between two of its words, in microseconds (1 to 60000000)",
         &[
@@ -95,10 +68,10 @@ pub(crate) fn tell_no_parameter(refused: &mut Refused<'_>) {
             Fact::At(row, "label"),
             Fact::At(row, "equipment"),
             Fact::Place(row, key),
-            Fact::If(alike.is_some()),
+            Fact::If(own.is_some()),
             Fact::At(other, "equipment"),
             Fact::Line(other, "equipment"),
-            Fact::If(alike.is_none()),
+            Fact::If(own.is_none()),
             Fact::If(unnamed != other),
             Fact::Row(unnamed),
             Fact::Line(unnamed, "label"),
@@ -112,17 +85,31 @@ pub(crate) fn tell_no_parameter(refused: &mut Refused<'_>) {
     );
 }
 
-/// Those of some names that may stand in the list at a key in the place of one that no table has: none that stands there
-/// already, and of buses those that no router visits.
-fn candidates<'a>(refused: &Refused<'a>, key: &str, kind: Kind, all: &[&'a str]) -> Names<'a> {
+/// Whether a table may stand in the list at a key in the place of one that is not there: it does not stand there already,
+/// and is a bus that no router visits, or a stream of the label and the format of that with the fault. No rule asks for
+/// the label; but by a stream of another one another signal would be sent.
+fn may_stand(refused: &Refused<'_>, key: &str, row: usize) -> bool {
+    let name = refused.layout.value(row, "name");
+    if member(refused, refused.row, key, name).is_some() {
+        return false;
+    }
+    if refused.kind(row) == Kind::Bus {
+        return lister(refused, Kind::Router, "visits", 0, name).is_none();
+    }
+    if !agree(refused, refused.row, row, "label") {
+        return false;
+    }
+    let own = parameter_of(refused, refused.row).unwrap_or(0);
+    let other = parameter_of(refused, row).unwrap_or(0);
+    agree(refused, own, other, "format")
+}
+
+/// The names of the tables of a kind that may stand in the list at a key in the place of one that is not there.
+fn candidates<'a>(refused: &Refused<'a>, key: &str, kind: Kind) -> Names<'a> {
     let mut names = Names::new(refused.alloc);
-    for name in all {
-        let bytes = name.as_bytes();
-        if member(refused, refused.row, key, bytes).is_some() {
-            continue;
-        }
-        if kind != Kind::Bus || visitor(refused, 0, bytes).is_none() {
-            names.add(*name);
+    for (row, it) in refused.layout.rows.iter().enumerate() {
+        if it.kind == kind && may_stand(refused, key, row) {
+            names.add(str::from_utf8(refused.layout.value(row, "name")).unwrap_or(""));
         }
     }
     names
@@ -162,22 +149,55 @@ fn meant<'a>(
     refused.out.nearest(text, names)
 }
 
-/// Writes that the table of this name may be meant.
+/// Writes that the table of this name may be meant. It may be renamed where no other list has its name.
 fn tell_meant(refused: &mut Refused<'_>, kind: Kind, name: &str, which: &'static str) {
-    if let Some(row) = refused.named(kind, name.as_bytes()) {
-        refused.say(
-            "\nhelp: there is {} {}, in line {}: write its name here, if it is meant, or rename it there",
-            &[Fact::Row(row), Fact::Word(which), Fact::Line(row, "name")],
-        );
-    }
+    let Some(row) = refused.named(kind, name.as_bytes()) else {
+        return;
+    };
+    let is_used = lister(refused, Kind::Label, "sources", 0, name.as_bytes()).is_some();
+    let is_own = agree(refused, refused.row, row, "equipment");
+    refused.say(
+        "\nhelp: there is {} {}, in line {}: write its name here, if it is meant{}\n{}note: its equipment code is {}, and that of {} is {}: by another code a label may have another meaning",
+        &[
+            Fact::Row(row),
+            Fact::Word(which),
+            Fact::Line(row, "name"),
+            Fact::Word(if kind == Kind::Stream && is_used {
+                ""
+            } else {
+                ", or rename it there"
+            }),
+            Fact::If(kind == Kind::Stream && !is_own),
+            Fact::At(row, "equipment"),
+            Fact::Row(refused.row),
+            Fact::At(refused.row, "equipment"),
+        ],
+    );
+}
+
+/// Writes that no table may stand in the place of one that is not there.
+fn tell_none(refused: &mut Refused<'_>, kind: Kind) {
+    let row = refused.row;
+    let own = parameter_of(refused, row).unwrap_or(0);
+    refused.say(
+        "\n{}help: there is no bus that no router visits: take the name out\n{}help: there is no other stream of label {} and format {}, as this label wants them: take the name out",
+        &[
+            Fact::If(kind == Kind::Bus),
+            Fact::If(kind == Kind::Stream),
+            Fact::At(row, "label"),
+            Fact::At(own, "format"),
+        ],
+    );
 }
 
 /// Writes which name may stand in the place of one that no table has.
 fn tell_names(refused: &mut Refused<'_>, key: &'static str, kind: Kind, name: Span) {
-    let all = refused.names(kind);
-    let names = candidates(refused, key, kind, all.as_slice());
+    let names = candidates(refused, key, kind);
     if names.is_lost() {
         return refused.out.lose();
+    }
+    if names.as_slice().is_empty() {
+        return tell_none(refused, kind);
     }
     let (what, _) = called(kind);
     let which = if kind == Kind::Bus {
@@ -189,16 +209,11 @@ fn tell_names(refused: &mut Refused<'_>, key: &'static str, kind: Kind, name: Sp
         tell_meant(refused, kind, like, which);
         return tell_meant(refused, kind, other, which);
     }
-    let is_none = names.as_slice().is_empty();
-    let sentence = if is_none {
-        "\nhelp: there is no {} {}: take the name out"
-    } else {
-        "\nhelp: write one of these, each a {} {}: "
-    };
-    refused.say(sentence, &[Fact::Word(what), Fact::Word(which)]);
-    if !is_none {
-        refused.out.put(Value::Names(names.as_slice()));
-    }
+    refused.say(
+        "\nhelp: write one of these, each a {} {}: ",
+        &[Fact::Word(what), Fact::Word(which)],
+    );
+    refused.out.put(Value::Names(names.as_slice()));
 }
 
 /// The first member of the list at a key of a table that no table of a kind has for its name.

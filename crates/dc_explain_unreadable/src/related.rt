@@ -18,17 +18,28 @@ pub(crate) fn agree(refused: &Refused<'_>, one: usize, other: usize, key: &str) 
     )
 }
 
-/// The parameter that a stream or a label names.
-pub fn parameter_of(refused: &Refused<'_>, row: usize) -> Option<usize> {
-    for (parameter, it) in refused.layout.rows.iter().enumerate() {
-        if it.kind != Kind::Parameter || !agree(refused, row, parameter, "label") {
+/// The first table of a kind that has the same as a table at two keys; at one alone where the other is empty.
+pub(crate) fn alike(
+    refused: &Refused<'_>,
+    kind: Kind,
+    row: usize,
+    key: &str,
+    further: &str,
+) -> Option<usize> {
+    for (other, it) in refused.layout.rows.iter().enumerate() {
+        if it.kind != kind || !agree(refused, row, other, key) {
             continue;
         }
-        if agree(refused, row, parameter, "equipment") {
-            return Some(parameter);
+        if further.is_empty() || agree(refused, row, other, further) {
+            return Some(other);
         }
     }
     None
+}
+
+/// The parameter that a stream or a label names.
+pub fn parameter_of(refused: &Refused<'_>, row: usize) -> Option<usize> {
+    alike(refused, Kind::Parameter, row, "label", "equipment")
 }
 
 /// The first member of the list at a key of a table that is this name.
@@ -41,13 +52,16 @@ pub(crate) fn member(refused: &Refused<'_>, row: usize, key: &str, name: &[u8]) 
     None
 }
 
-/// The first router from a table on that visits a bus of this name.
-pub(crate) fn visitor(refused: &Refused<'_>, from: usize, bus: &[u8]) -> Option<usize> {
+/// The first table of a kind, from a table on, that has this name in the list at a key.
+pub(crate) fn lister(
+    refused: &Refused<'_>,
+    kind: Kind,
+    key: &str,
+    from: usize,
+    name: &[u8],
+) -> Option<usize> {
     for (row, it) in refused.layout.rows.iter().enumerate() {
-        if row < from || it.kind != Kind::Router {
-            continue;
-        }
-        if member(refused, row, "visits", bus).is_some() {
+        if row >= from && it.kind == kind && member(refused, row, key, name).is_some() {
             return Some(row);
         }
     }

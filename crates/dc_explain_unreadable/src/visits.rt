@@ -1,5 +1,5 @@
 //! Which routers visit a bus, and which formats sources have.
-use crate::related::{agree, parameter_of, visitor};
+use crate::related::{agree, lister, parameter_of};
 use dc_explain_text::{Fact, Refused};
 use dc_tell::{Kind, Span, Value};
 
@@ -27,7 +27,7 @@ fn tell_unvisited_too(refused: &mut Refused<'_>) {
             continue;
         }
         let name = refused.layout.value(row, "name");
-        if visitor(refused, 0, name).is_none() {
+        if lister(refused, Kind::Router, "visits", 0, name).is_none() {
             refused.say(
                 "\nnote: {} in line {} is visited by no router either",
                 &[Fact::Row(row), Fact::Line(row, "name")],
@@ -70,11 +70,12 @@ fn tell_unvisited(refused: &mut Refused<'_>) {
 /// Tells of a bus that is in the visits of no router, or of two.
 pub(crate) fn tell_visits(refused: &mut Refused<'_>) {
     let name = refused.layout.value(refused.row, "name");
-    match visitor(refused, 0, name) {
+    match lister(refused, Kind::Router, "visits", 0, name) {
         None => tell_unvisited(refused),
         Some(one) => {
-            let other = visitor(refused, one.saturating_add(1), name).unwrap_or(one);
-            tell_both(refused, one, other);
+            let next = one.saturating_add(1);
+            let other = lister(refused, Kind::Router, "visits", next, name);
+            tell_both(refused, one, other.unwrap_or(one));
         }
     }
 }
