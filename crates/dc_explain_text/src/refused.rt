@@ -57,6 +57,20 @@ fn naming_of(kind: Kind) -> (&'static str, &'static str, &'static str) {
 }
 
 impl<'a> Refused<'a> {
+    /// Begins to tell by this code of the table of this kind and number; of the top, and false, where it has none such.
+    pub fn begin(&mut self, code: &str, kind: Kind, index: usize) -> bool {
+        let row = self.layout.row(kind, index);
+        self.row = row.unwrap_or(0);
+        self.out.begin(code);
+        row.is_some()
+    }
+
+    /// What is told; nothing where memory was refused.
+    pub fn finish(self) -> Option<String> {
+        let Refused { out, .. } = self;
+        out.finish()
+    }
+
     /// The kind of a table.
     pub fn kind(&self, row: usize) -> Kind {
         match self.layout.rows.get(row) {

@@ -76,10 +76,8 @@ pub fn explain_certificate(alloc: Global, file: File<'_>, fault: Fault) -> Optio
         return None;
     };
     let (kind, index) = object_at(fault.place);
-    let row = refused.layout.row(kind, index);
-    refused.row = row.unwrap_or(0);
-    refused.out.begin(fault.rule.code());
-    if row.is_none() || !tell(&mut refused, fault.rule) {
+    let is_there = refused.begin(fault.rule.code(), kind, index);
+    if !is_there || !tell(&mut refused, fault.rule) {
         tell_plainly(&mut refused, fault.rule.code());
     }
     if is_document {
@@ -88,8 +86,7 @@ pub fn explain_certificate(alloc: Global, file: File<'_>, fault: Fault) -> Optio
             &[],
         );
     }
-    let Refused { out, .. } = refused;
-    out.finish()
+    refused.finish()
 }
 
 /// Explains why a text gives no certificate; nothing where it gives one, or memory was refused.

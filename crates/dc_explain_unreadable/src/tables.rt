@@ -105,14 +105,11 @@ pub fn explain_tables(alloc: Global, file: File<'_>, fault: TableFault) -> Optio
     let Some(mut refused) = refused_of(alloc, file, Kind::Top, is_document) else {
         return None;
     };
-    let row = refused.layout.row(kind_of(fault.section), fault.index);
-    refused.row = row.unwrap_or(0);
-    refused.out.begin(fault.rule.code());
+    let _ = refused.begin(fault.rule.code(), kind_of(fault.section), fault.index);
     if !is_document {
         tell_no_document(&mut refused);
     } else if !tell(&mut refused, fault.rule) {
         tell_plainly(&mut refused, fault.rule);
     }
-    let Refused { out, .. } = refused;
-    out.finish()
+    refused.finish()
 }
