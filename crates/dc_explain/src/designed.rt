@@ -1,5 +1,4 @@
 //! What stands in the way of a design, and what is wrong with its sheets.
-use crate::output::whole_letters;
 use crate::ran::Ran;
 use dc_tell::Value::Text;
 use dc_tell::{Explanation, Names};
@@ -17,41 +16,33 @@ fn missing_in(line: &str) -> Option<&str> {
     }
 }
 
-/// The cells of a sheet, as far as they are parted by commas.
-fn cells_of<'a>(alloc: Global, sheet: &'a [u8]) -> Names<'a> {
-    let mut cells = Names::new(alloc);
-    for line in from_utf8(sheet).unwrap_or("").lines() {
-        for cell in line.split(',') {
-            cells.add(cell.trim());
-        }
-    }
-    cells
-}
-
 /// Whether a cell may be the name of a stream that is not there: not its bus, which stands in front, nor a bus that is like
 /// that.
 fn may_name(cell: &str, name: &str) -> bool {
     !name.starts_with(cell) && (cell.contains('-') || !name.contains('-'))
 }
 
-/// The cells that may be the name of a stream that is not there.
-fn names_like<'a>(alloc: Global, name: &str, cells: &[&'a str]) -> Names<'a> {
-    let mut names = Names::new(alloc);
-    for cell in cells.iter() {
-        if may_name(cell, name) {
-            names.add(cell);
+/// The cells of a sheet, as far as they are parted by commas, that may be the name of a stream that is not there.
+fn cells_like<'a>(alloc: Global, sheet: &'a [u8], name: &str) -> Names<'a> {
+    let mut cells = Names::new(alloc);
+    for line in from_utf8(sheet).unwrap_or("").lines() {
+        for cell in line.split(',') {
+            let cell = cell.trim();
+            if may_name(cell, name) {
+                cells.add(cell);
+            }
         }
     }
-    names
+    cells
 }
 
 /// Writes which cell of the inputs a stream may be meant by that is not there, where one is like it.
-fn tell_like(alloc: Global, out: &mut Explanation, line: &str, cells: &[&str]) {
-    let Some(name) = missing_in(line) else {
-        return;
-    };
-    let names = names_like(alloc, name, cells);
-    if let Some((like, _)) = out.nearest(name, names.as_slice()) {
+fn tell_like(alloc: Global, out: &mut Explanation, name: &str, sheet: &[u8]) {
+    let cells = cells_like(alloc, sheet, name);
+    if cells.is_lost() {
+        return out.lose();
+    }
+    if let Some((like, _)) = out.nearest(name, cells.as_slice()) {
         let like = [Text(like)];
         out.help(
             "there is `{}` in the inputs: write it so, if it is meant",
@@ -62,21 +53,16 @@ fn tell_like(alloc: Global, out: &mut Explanation, line: &str, cells: &[&str]) {
 
 /// Repeats the lines that were written, which say by rows and columns what to do and mostly go to a file, where they are
 /// not seen already, and tells which stream may be meant by one that is not there.
-pub(crate) fn repeat_lines(alloc: Global, ran: &Ran<'_>) -> Option<String> {
-    let Ok(text) = from_utf8(whole_letters(ran.output.text.as_slice())) else {
-        return None;
-    };
-    let cells = cells_of(alloc, ran.first.text.as_slice());
-    let mut out = Explanation::new(alloc);
-    if cells.is_lost() {
-        out.lose();
-    }
-    for line in text.lines() {
+pub(crate) fn repeat_lines(ran: &Ran<'_>) -> Option<String> {
+    let mut out = Explanation::new(ran.alloc);
+    for line in ran.said.lines() {
         if !ran.is_seen {
             out.end_line();
             out.add(line);
         }
-        tell_like(alloc, &mut out, line, cells.as_slice());
+        if let Some(name) = missing_in(line) {
+            tell_like(ran.alloc, &mut out, name, ran.first.text.as_slice());
+        }
     }
     out.finish()
 }

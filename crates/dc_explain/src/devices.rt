@@ -1,5 +1,6 @@
 //! What kept the program from its work.
-use crate::ran::{CERTIFICATE, Ran};
+use crate::ran::Ran;
+use crate::task::CERTIFICATE;
 use dc_keep::Kept;
 use dc_tell::Explanation;
 use dc_tell::Value::Text;
@@ -41,65 +42,62 @@ fn mend_of(kind: ErrorKind) -> &'static str {
     "see what the path leads to"
 }
 
-/// Tells what kept the program from its work, and what to do.
-fn explain_so(alloc: Global, what: &'static str, mend: &'static str) -> Option<String> {
-    let mut out = Explanation::new(alloc);
+/// Tells that a call on what has this name failed, why, and what was wanted of it.
+fn tell_cause(out: &mut Explanation, name: &str, wanted: &str, cause: &str, kind: ErrorKind) {
     out.begin("");
-    out.say("{}", &[Text(what)]);
-    out.help("{}", &[Text(mend)]);
-    out.finish()
-}
-
-/// Tells that a call on what has this name failed, and what was wanted of it.
-fn explain_cause(alloc: Global, name: &str, wanted: &str, error: Error) -> Option<String> {
-    let mut cause = String::new(alloc);
-    if write!(&mut cause, "{error}").is_err() {
-        return None;
-    }
-    let mut out = Explanation::new(alloc);
-    out.begin("");
-    out.put(Text(name));
-    out.say(": ", &[]);
-    out.put(Text(cause.as_str()));
+    out.say("{}: {}", &[Text(name), Text(cause)]);
     if !wanted.is_empty() {
         out.note("this was to be {}", &[Text(wanted)]);
     }
-    out.help("{}", &[Text(mend_of(error.kind()))]);
-    if wanted == CERTIFICATE && error.kind() == ErrorKind::NotFound {
+    out.help("{}", &[Text(mend_of(kind))]);
+    if wanted == CERTIFICATE && kind == ErrorKind::NotFound {
         out.help("or let `dc429 find TABLES > FILE` write one", &[]);
+    }
+}
+
+/// Explains that a call on what has this name failed, and what was wanted of it.
+fn explain_cause(alloc: Global, name: &str, wanted: &str, error: Error) -> Option<String> {
+    let mut out = Explanation::new(alloc);
+    match format!(in alloc; "{error}") {
+        Ok(cause) => tell_cause(&mut out, name, wanted, cause.as_str(), error.kind()),
+        Err(_) => out.lose(),
     }
     out.finish()
 }
 
 /// Explains that a call on a file or a device failed.
-fn explain_device(alloc: Global, ran: &Ran<'_>) -> Option<String> {
+fn explain_device(ran: &Ran<'_>) -> Option<String> {
+    let (names, wanted) = (ran.names, ran.task.wanted);
     let places: [(&str, &str, &Kept); 4] = [
-        (ran.names.0, ran.wanted.0, ran.first),
-        (ran.names.1, ran.wanted.1, ran.second),
+        (names.0, wanted.0, ran.first),
+        (names.1, wanted.1, ran.second),
         ("<stdin>", "", ran.input),
         ("<stdout>", "", ran.output),
     ];
     for (name, wanted, kept) in places.iter() {
         if let Some(error) = kept.cause {
-            return explain_cause(alloc, name, wanted, error);
+            return explain_cause(ran.alloc, name, wanted, error);
         }
     }
     None
 }
 
 /// Explains what kept the program from its work, by the word that it wrote.
-pub(crate) fn explain_failure(alloc: Global, ran: &Ran<'_>, word: &str) -> Option<String> {
-    match word {
-        "memory" => explain_so(
-            alloc,
+pub(crate) fn explain_failure(ran: &Ran<'_>, word: &str) -> Option<String> {
+    let (what, mend) = match word {
+        "memory" => (
             "memory was refused",
             "give the process more memory, as by `ulimit -v`",
         ),
-        "threads" => explain_so(
-            alloc,
+        "threads" => (
             "a thread could not be started",
             "fewer `--workers`, or none: the verdict is the same; or a higher limit of threads, as by `ulimit -u`",
         ),
-        _ => explain_device(alloc, ran),
-    }
+        _ => return explain_device(ran),
+    };
+    let mut out = Explanation::new(ran.alloc);
+    out.begin("");
+    out.say(what, &[]);
+    out.help(mend, &[]);
+    out.finish()
 }

@@ -1,86 +1,67 @@
 //! Lines of standard input: those that can't be read, and events that were refused.
 use crate::audits::tell_failing;
 use crate::capture::tell_captured;
-use crate::judged::{Asked, explain_by_tables};
+use crate::judged::explain_by_tables;
 use crate::lines::{Line, line_of};
-use crate::output::Answer;
-use crate::plain::explain_plainly;
+use crate::output::{last_number, word};
+use crate::plain::{explain_plainly, or_plainly};
 use crate::ran::Ran;
 use crate::steps::tell_step;
 use crate::trace::tell_event;
-use crate::words::{tell_long, tell_no_word, tell_unended, tell_unseen};
+use crate::words::{tell_no_word, tell_shape};
 use dc_codes::Kind;
 use dc_tables::Tables;
 use dc_tell::Explanation;
-use std::alloc::Global;
 
-/// Tells why `decode` could not read a line.
-fn tell_word(out: &mut Explanation, code: &str, line: Line<'_>) {
-    match code {
-        "E1" => tell_long(out, line, "word"),
-        "E6" => tell_unended(out, line),
-        _ if tell_unseen(out, line) => {}
-        _ => tell_no_word(out, line, 0),
-    }
-}
-
-/// What the code of a refused line is, as one of such a text.
-fn code_of<'a>(answer: Answer<'a>, kind: Kind) -> &'a str {
-    if kind == Kind::Audit {
-        answer.verb
-    } else {
-        answer.code
-    }
+/// The code of a refused line, as one of such a text.
+fn code_of<'a>(line: &'a str, kind: Kind) -> &'a str {
+    let number = if kind == Kind::Audit { 0usize } else { 1usize };
+    word(line, number)
 }
 
 /// Explains what is wrong at an event of a trace, by the tables.
 pub(crate) fn explain_event(
-    alloc: Global,
     ran: &Ran<'_>,
-    answer: Answer<'_>,
-    line: Line<'_>,
     kind: Kind,
+    line: Line<'_>,
     tables: &Tables,
 ) -> Option<String> {
-    let code = code_of(answer, kind);
-    let mut out = Explanation::new(alloc);
+    let code = code_of(ran.line, kind);
+    let mut out = Explanation::new(ran.alloc);
     out.begin(code);
-    match kind {
-        Kind::Trace => tell_event(alloc, &mut out, code, line, ran.order, tables),
-        Kind::Step => tell_step(&mut out, answer, line, ran.input, tables),
-        _ => tell_failing(&mut out, answer, line, ran.input, tables),
+    if kind == Kind::Trace {
+        tell_event(&mut out, ran, code, line, tables);
+    } else if kind == Kind::Step {
+        tell_step(&mut out, ran, line, tables);
+    } else {
+        tell_failing(&mut out, ran, line, tables);
     }
     out.finish()
 }
 
 /// Explains what is wrong at a line that is no event, by the code of its fault.
-fn explain_word(alloc: Global, code: &str, line: Line<'_>, kind: Kind) -> Option<String> {
-    let mut out = Explanation::new(alloc);
+fn explain_word(ran: &Ran<'_>, code: &str, line: Line<'_>, kind: Kind) -> Option<String> {
+    let mut out = Explanation::new(ran.alloc);
     out.begin(code);
-    if kind == Kind::Decoded {
-        tell_word(&mut out, code, line);
-    } else {
-        tell_captured(&mut out, code, line);
+    if !tell_shape(&mut out, code, line, "word") {
+        if kind == Kind::Decoded {
+            tell_no_word(&mut out, line, 0);
+        } else {
+            tell_captured(&mut out, code, line);
+        }
     }
     out.finish()
 }
 
 /// Explains what is wrong at a line of standard input, by what its code is a code of.
-pub(crate) fn explain_line(
-    alloc: Global,
-    ran: &Ran<'_>,
-    answer: Answer<'_>,
-    kind: Kind,
-) -> Option<String> {
-    let code = code_of(answer, kind);
-    let Some(line) = line_of(ran.input, answer.line().unwrap_or(0)) else {
-        return explain_plainly(alloc, kind, code);
+pub(crate) fn explain_line(ran: &Ran<'_>, kind: Kind) -> Option<String> {
+    let code = code_of(ran.line, kind);
+    let Some(line) = line_of(ran.input, last_number(ran.line)) else {
+        return explain_plainly(ran.alloc, kind, code);
     };
     if kind == Kind::Decoded || kind == Kind::Capture {
-        return explain_word(alloc, code, line, kind);
+        return explain_word(ran, code, line, kind);
     }
-    match explain_by_tables(alloc, ran, answer, Asked::Line(line, kind)) {
-        Some(told) => Some(told),
-        None => explain_plainly(alloc, kind, code),
-    }
+    let told = explain_by_tables(ran, kind, line);
+    or_plainly(told, ran.alloc, kind, code)
 }

@@ -23,6 +23,7 @@ mod sources;
 mod steps;
 mod system_rules;
 mod systems;
+mod task;
 mod trace;
 mod words;
 

@@ -1,6 +1,6 @@
 //! The lines of standard input.
 use dc_keep::Kept;
-use dc_tell::{Explanation, place_at};
+use dc_tell::{Explanation, Value, place_at};
 
 /// What standard input is called.
 pub(crate) const INPUT: &str = "<stdin>";
@@ -19,6 +19,22 @@ pub(crate) struct Line<'a> {
     pub(crate) tick: u64,
 }
 
+/// No line: of what is of none.
+pub(crate) const NO_LINE: Line<'static> = Line {
+    bytes: b"",
+    number: 0,
+    tick: 0,
+};
+
+/// How many holes a sentence has.
+fn holes_in(sentence: &str) -> usize {
+    let mut holes = 0usize;
+    for (piece, _) in sentence.split("{}").enumerate() {
+        holes = piece;
+    }
+    holes
+}
+
 impl<'a> Line<'a> {
     /// Writes where the line has what was told, behind so many of its bytes.
     pub(crate) fn show(self, out: &mut Explanation, offset: usize) {
@@ -28,6 +44,31 @@ impl<'a> Line<'a> {
             Err(_) => offset.saturating_add(1),
         };
         out.show("-->", INPUT, self.number, self.bytes, column);
+    }
+
+    /// Tells of the line: the first line of a sentence; where the line has what was told, behind so many of its bytes;
+    /// and the further lines of the sentence, each of what is to be done, or behind `note: ` of what is to be known. Each
+    /// `{}` is a hole for the next of these values.
+    pub(crate) fn tell(
+        self,
+        out: &mut Explanation,
+        offset: usize,
+        sentence: &str,
+        values: &[Value<'_>],
+    ) {
+        let mut next = 0usize;
+        for (number, piece) in sentence.split('\n').enumerate() {
+            let own = values.get(next..).unwrap_or(&[]);
+            if number == 0 {
+                out.say(piece, own);
+                self.show(out, offset);
+            } else if let Some((_, note)) = piece.split_once("note: ") {
+                out.note(note, own);
+            } else {
+                out.help(piece, own);
+            }
+            next = next.saturating_add(holes_in(piece));
+        }
     }
 }
 
@@ -68,55 +109,36 @@ fn is_event(line: &[u8], letter: &[u8], name: &[u8]) -> bool {
     line.starts_with(letter) && line.get(letter.len()..).unwrap_or(b"") == name
 }
 
-/// In which tick the last event of this letter and name before a line stands, where it was kept.
-pub(crate) fn last_before(kept: &Kept, line: Line<'_>, letter: &str, name: &str) -> Option<u64> {
-    let text = kept.text.as_slice();
-    let mut number = kept.before.lines.saturating_add(1);
-    let mut now = kept.before.ticks;
-    let mut last = None;
-    let mut from = 0usize;
-    for (at, byte) in text.iter().enumerate() {
-        if *byte != b'\n' || number >= line.number {
-            continue;
-        }
-        let bytes = text.get(from..at).unwrap_or(b"");
-        if is_event(bytes, letter.as_bytes(), name.as_bytes()) {
-            last = Some(now);
-        }
-        now = now.saturating_add(u64::from(bytes == TICK));
-        number = number.saturating_add(1);
-        from = at.saturating_add(1);
-    }
-    last
-}
+/// In which tick the last of some events stands, where one was kept, and how many stand from a tick on, where all of
+/// these were.
+type Events = (Option<u64>, Option<u64>);
 
-/// How many lines before a line are an event of this letter and name, from a tick on, where all of these were kept.
-pub(crate) fn events_since(
+/// The events of this letter and name before a line, and how many of them stand from a tick on.
+pub(crate) fn events_before(
     kept: &Kept,
     line: Line<'_>,
     tick: u64,
-    letter: &str,
-    name: &str,
-) -> Option<u64> {
+    letter: &[u8],
+    name: &[u8],
+) -> Events {
     let text = kept.text.as_slice();
     let mut number = kept.before.lines.saturating_add(1);
     let mut now = kept.before.ticks;
-    if number > 1 && now >= tick {
-        return None;
-    }
-    let mut count = 0u64;
-    let mut from = 0usize;
+    let is_whole = number <= 1 || now < tick;
+    let (mut last, mut count, mut from) = (None, 0u64, 0usize);
     for (at, byte) in text.iter().enumerate() {
         if *byte != b'\n' || number >= line.number {
             continue;
         }
         let bytes = text.get(from..at).unwrap_or(b"");
-        if now >= tick && is_event(bytes, letter.as_bytes(), name.as_bytes()) {
-            count = count.saturating_add(1);
+        if is_event(bytes, letter, name) {
+            last = Some(now);
+            count = count.saturating_add(u64::from(now >= tick));
         }
         now = now.saturating_add(u64::from(bytes == TICK));
         number = number.saturating_add(1);
         from = at.saturating_add(1);
     }
-    if now == line.tick { Some(count) } else { None }
+    let is_known = is_whole && now == line.tick;
+    (last, if is_known { Some(count) } else { None })
 }

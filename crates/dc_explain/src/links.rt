@@ -1,17 +1,17 @@
 //! Links that do not fit what they join: N14 to N19.
 use crate::ends::{concentrator_at, end_of};
 use crate::fits::tell_numbers;
-use crate::output::{Answer, index_in};
+use crate::output::{index_in, word};
 use crate::ran::Ran;
 use dc_codes::{Kind as Sort, meaning_of};
 use dc_explain_text::{Fact, Refused};
 use dc_explain_unreadable::refused_of;
 use dc_tell::Kind;
 use dc_tell::Value::Text;
-use std::alloc::Global;
 
 /// What is told of a link, by the code of its fault, before the name of a stream and behind it: the first has holes for
-/// its output and the concentrator of that, the last for its bus, the concentrator of that and the place.
+/// its output and the concentrator of that, the last for its bus, the concentrator of that and the place, and where its times
+/// do not fit by how much its latency varies, and for what that is too much.
 static TEXTS: [(&'static str, &'static str, &'static str); 6] = [
     (
         "N14",
@@ -36,12 +36,12 @@ static TEXTS: [(&'static str, &'static str, &'static str); 6] = [
     (
         "N18",
         "output `{}` of concentrator `{}` may bring words sooner than stream `",
-        "` of bus `{}` of concentrator `{}` lets them come{}",
+        "` of bus `{}` of concentrator `{}` lets them come{}\nnote: of this link `most_us` - `least_us` is {} microseconds\nnote: {}",
     ),
     (
         "N19",
         "output `{}` of concentrator `{}` may bring words later than stream `",
-        "` of bus `{}` of concentrator `{}` lets them come{}",
+        "` of bus `{}` of concentrator `{}` lets them come{}\nnote: of this link `most_us` - `least_us` is {} microseconds\nnote: {}",
     ),
 ];
 
@@ -55,20 +55,6 @@ fn texts_of(code: &str) -> (&'static str, &'static str) {
     ("", "")
 }
 
-/// Writes by how much the latency of a link varies, and for what that is too much.
-fn tell_variation(refused: &mut Refused<'_>, code: &str, means: &'static str) {
-    if code != "N18" && code != "N19" {
-        return;
-    }
-    let row = refused.row;
-    let most = refused.count(row, "most_us");
-    let varies = most.saturating_sub(refused.count(row, "least_us"));
-    refused.say(
-        "\nnote: of this link `most_us` - `least_us` is {} microseconds\nnote: {}",
-        &[Fact::Number(varies), Fact::Word(means)],
-    );
-}
-
 /// Writes where the tables of a concentrator stand.
 fn tell_tables(refused: &mut Refused<'_>, key: &str) {
     if let Some(own) = concentrator_at(refused, refused.row, key) {
@@ -80,11 +66,13 @@ fn tell_tables(refused: &mut Refused<'_>, key: &str) {
 }
 
 /// Tells which link does not fit, and why.
-fn tell_link(refused: &mut Refused<'_>, code: &str, stream: &str) {
+fn tell_link(refused: &mut Refused<'_>, code: &str, stream: &str, means: &'static str) {
     let row = refused.row;
     let (before, behind) = texts_of(code);
     let (sender, output) = end_of(refused, row, "from");
     let (receiver, bus) = end_of(refused, row, "to");
+    let most = refused.count(row, "most_us");
+    let varies = most.saturating_sub(refused.count(row, "least_us"));
     refused.say("{}: ", &[Fact::Row(row)]);
     refused.say(before, &[Fact::Piece(output), Fact::Piece(sender)]);
     refused.out.put(Text(stream));
@@ -94,32 +82,30 @@ fn tell_link(refused: &mut Refused<'_>, code: &str, stream: &str) {
             Fact::Piece(bus),
             Fact::Piece(receiver),
             Fact::Place(row, ""),
+            Fact::Number(varies),
+            Fact::Word(means),
         ],
     );
+    tell_tables(refused, "from");
+    tell_tables(refused, "to");
 }
 
 /// Explains a link that does not fit what it joins.
-pub(crate) fn explain_link(alloc: Global, ran: &Ran<'_>, answer: Answer<'_>) -> Option<String> {
+pub(crate) fn explain_link(ran: &Ran<'_>) -> Option<String> {
+    let code = word(ran.line, 1);
     let (file, _) = ran.files();
-    let Some(meaning) = meaning_of(Sort::Link, answer.code) else {
+    let Some(meaning) = meaning_of(Sort::Link, code) else {
         return None;
     };
-    let Some(mut refused) = refused_of(alloc, file, Kind::System, true) else {
+    let Some(mut refused) = refused_of(ran.alloc, file, Kind::System, true) else {
         return None;
     };
-    let place = answer.behind(2);
-    let row = refused.layout.row(Kind::Link, index_in(place.code));
-    refused.row = row.unwrap_or(0);
-    refused.out.begin(answer.code);
-    let stream = place.behind(3).verb;
-    tell_link(&mut refused, answer.code, stream);
-    tell_variation(&mut refused, answer.code, meaning.means);
-    tell_tables(&mut refused, "from");
-    tell_tables(&mut refused, "to");
-    let is_of_times = answer.code == "N18" || answer.code == "N19";
-    if !is_of_times || !tell_numbers(&mut refused, ran, answer.code, stream) {
+    let stream = word(ran.line, 5);
+    let _ = refused.begin(code, Kind::Link, index_in(word(ran.line, 3)));
+    tell_link(&mut refused, code, stream, meaning.means);
+    let is_of_times = code == "N18" || code == "N19";
+    if !is_of_times || !tell_numbers(&mut refused, ran, code, stream) {
         refused.out.help("{}", &[Text(meaning.mend)]);
     }
-    let Refused { out, .. } = refused;
-    out.finish()
+    refused.finish()
 }

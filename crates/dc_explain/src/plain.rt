@@ -15,3 +15,16 @@ pub(crate) fn explain_plainly(alloc: Global, kind: Kind, code: &str) -> Option<S
     out.help("{}", &[Text(meaning.mend)]);
     out.finish()
 }
+
+/// What was told, or where nothing was the code by what it means.
+pub(crate) fn or_plainly(
+    told: Option<String>,
+    alloc: Global,
+    kind: Kind,
+    code: &str,
+) -> Option<String> {
+    match told {
+        Some(told) => Some(told),
+        None => explain_plainly(alloc, kind, code),
+    }
+}

@@ -4,11 +4,12 @@ use crate::capture::explain_surveyed;
 use crate::designed::repeat_lines;
 use crate::devices::explain_failure;
 use crate::faults::explain_line;
-use crate::judged::{explain_refused, explain_unread};
+use crate::judged::explain_files;
 use crate::members::explain_member;
 use crate::network::explain_network;
-use crate::output::{Answer, answer_of};
+use crate::output::{answer_in, whole_letters, word};
 use crate::plain::explain_plainly;
+use crate::task::{Task, names_of, task_of};
 use dc_answer::Exit;
 use dc_codes::Kind;
 use dc_command::Order;
@@ -17,26 +18,15 @@ use dc_tell::File;
 use std::alloc::{AllocError, Global};
 use std::io::ErrorKind;
 
-/// What standard input is called as a file on the command line.
-const STANDARD_INPUT: &str = "-";
-
-/// What a certificate is called.
-pub(crate) const CERTIFICATE: &str = "the certificate";
-
-/// What two files are to be that are judged.
-pub(crate) const JUDGED: (&'static str, &'static str) = ("the tables", CERTIFICATE);
-
 /// A run that has ended, with what was kept of it.
 #[derive(Clone, Copy)]
 pub(crate) struct Ran<'a> {
-    /// What was asked.
-    pub(crate) order: Order<'a>,
-    /// What it ended with.
-    pub(crate) exit: Exit,
+    /// What gives memory.
+    pub(crate) alloc: Global,
+    /// What it was to do.
+    pub(crate) task: Task<'a>,
     /// The names of its files, in the order in which it opens them; an empty one where it has none.
     pub(crate) names: (&'a str, &'a str),
-    /// What these are to be.
-    pub(crate) wanted: (&'static str, &'static str),
     /// Its first file.
     pub(crate) first: &'a Kept,
     /// Its second file.
@@ -51,83 +41,15 @@ pub(crate) struct Ran<'a> {
     pub(crate) input: &'a Kept,
     /// What it wrote last.
     pub(crate) output: &'a Kept,
-    /// Whether that stands where it is explained.
+    /// The lines of that.
+    pub(crate) said: &'a str,
+    /// The line of these that says what ended it.
+    pub(crate) line: &'a str,
+    /// Whether what it wrote stands where it is explained.
     pub(crate) is_seen: bool,
 }
 
-/// The name of a file as it is told.
-pub(crate) fn told(name: &str) -> &str {
-    if name == STANDARD_INPUT {
-        "<stdin>"
-    } else {
-        name
-    }
-}
-
-/// The names of the files of an order, in the order in which it opens them; an empty one where it has none.
-fn names_of(order: Order<'_>) -> (&str, &str) {
-    match order {
-        Order::Decode(_) | Order::Explain { .. } => ("", ""),
-        Order::Network { system, .. } | Order::ReportNetwork { system } => (told(system), ""),
-        Order::Find { tables, .. }
-        | Order::Survey { tables }
-        | Order::Trace { tables, .. }
-        | Order::Replay { tables, .. } => (told(tables), ""),
-        Order::Report {
-            tables,
-            certificate,
-            ..
-        }
-        | Order::Margins {
-            tables,
-            certificate,
-            ..
-        } => (told(tables), told(certificate.unwrap_or(""))),
-        Order::Check {
-            tables,
-            certificate,
-            ..
-        }
-        | Order::Audit {
-            tables,
-            certificate,
-            ..
-        }
-        | Order::Observe {
-            tables,
-            certificate,
-        }
-        | Order::Bench {
-            tables,
-            certificate,
-            ..
-        } => (told(tables), told(certificate)),
-        Order::Design {
-            inputs,
-            outputs,
-            ..
-        } => (told(inputs), told(outputs)),
-    }
-}
-
-/// What the files of an order are to be.
-fn wanted_of(order: Order<'_>) -> (&'static str, &'static str) {
-    match order {
-        Order::Network { .. } | Order::ReportNetwork { .. } => ("the system", ""),
-        Order::Design { .. } => ("the sheet of inputs", "the sheet of outputs"),
-        _ => JUDGED,
-    }
-}
-
 impl<'a> Ran<'a> {
-    /// The text of the system of the network that it was to judge or to report on, as the command line names it.
-    pub(crate) fn system(&self) -> Option<&'a str> {
-        match self.order {
-            Order::Network { system, .. } | Order::ReportNetwork { system } => Some(system),
-            _ => None,
-        }
-    }
-
     /// Its files, as far as they were kept.
     pub(crate) fn files(&self) -> (File<'a>, File<'a>) {
         (
@@ -141,77 +63,65 @@ impl<'a> Ran<'a> {
             },
         )
     }
+}
 
-    /// Whether the reader of its output is gone.
-    fn is_unread(&self) -> bool {
-        match self.output.cause {
-            Some(error) => error.kind() == ErrorKind::BrokenPipe,
-            None => false,
+/// The lines that a run wrote last; nothing where nobody reads them, or where they are no text.
+fn said_in(output: &Kept) -> Option<&str> {
+    if let Some(error) = output.cause {
+        if error.kind() == ErrorKind::BrokenPipe {
+            return None;
         }
     }
+    match str::from_utf8(whole_letters(output.text.as_slice())) {
+        Ok(said) => Some(said),
+        Err(_) => None,
+    }
+}
+
+/// Explains what kept a run from its work.
+fn explain_failed(ran: &Ran<'_>) -> Option<String> {
+    if word(ran.line, 0) == "failed" {
+        return explain_failure(ran, word(ran.line, 1));
+    }
+    if word(ran.line, 0) == "at" && word(ran.line, 2) == "failed" {
+        return explain_member(ran);
+    }
+    explain_failure(ran, "device")
 }
 
 /// Explains a text that can't be read.
-fn explain_text(alloc: Global, ran: &Ran<'_>, answer: Answer<'_>) -> Option<String> {
-    if !answer.code.as_bytes().starts_with(b"E") {
-        return explain_unread(alloc, ran, answer);
+fn explain_text(ran: &Ran<'_>) -> Option<String> {
+    if word(ran.line, 1).as_bytes().starts_with(b"E") {
+        return explain_line(ran, ran.task.lines);
     }
-    let kind = match ran.order {
-        Order::Decode(_) => Kind::Decoded,
-        Order::Survey { .. } | Order::Trace { .. } => Kind::Capture,
-        _ => Kind::Trace,
-    };
-    explain_line(alloc, ran, answer, kind)
+    explain_files(ran)
 }
 
 /// Explains what was judged and refused.
-fn explain_judged(alloc: Global, ran: &Ran<'_>, answer: Answer<'_>) -> Option<String> {
-    if let Order::Survey { .. } = ran.order {
-        return explain_surveyed(alloc, ran);
+fn explain_judged(ran: &Ran<'_>) -> Option<String> {
+    if ran.task.is_survey {
+        return explain_surveyed(ran);
     }
-    match answer.code {
-        "spent" | "early" | "owed" => explain_line(alloc, ran, answer, Kind::Step),
-        "ticks" => explain_plainly(alloc, Kind::Step, answer.code),
-        "hub" => explain_plainly(alloc, Kind::Bench, answer.code),
-        _ => match answer.verb {
-            "budgets" | "sources" | "claim" => explain_line(alloc, ran, answer, Kind::Audit),
-            _ => explain_refused(alloc, ran, answer),
+    match word(ran.line, 1) {
+        "spent" | "early" | "owed" => explain_line(ran, Kind::Step),
+        "ticks" => explain_plainly(ran.alloc, Kind::Step, "ticks"),
+        "hub" => explain_plainly(ran.alloc, Kind::Bench, "hub"),
+        _ => match word(ran.line, 0) {
+            "budgets" | "sources" | "claim" => explain_line(ran, Kind::Audit),
+            _ => explain_files(ran),
         },
     }
 }
 
-/// Whether it was to design tables.
-fn is_design(ran: &Ran<'_>) -> bool {
-    matches!(ran.order, Order::Design { .. })
-}
-
-/// Whether it was to judge a network, or to report on one.
-fn is_network(ran: &Ran<'_>) -> bool {
-    ran.system().is_some()
-}
-
-/// Whether a line says that a file of a concentrator was not to be had.
-fn is_without_file(answer: Answer<'_>) -> bool {
-    answer.verb == "at" && answer.behind(2).verb == "failed"
-}
-
-/// What there is to say of the end of a run: nothing where all is well, or where nobody reads what it wrote.
-fn explain(alloc: Global, ran: &Ran<'_>) -> Option<String> {
-    if ran.is_unread() {
-        return None;
-    }
-    let Some(answer) = answer_of(ran.output.text.as_slice()) else {
-        return None;
-    };
-    match ran.exit {
-        Exit::Done => explain_empty(alloc, ran),
-        Exit::Failed if answer.verb == "failed" => explain_failure(alloc, ran, answer.code),
-        Exit::Failed if is_without_file(answer) => explain_member(alloc, ran, answer),
-        Exit::Failed => explain_failure(alloc, ran, "device"),
-        Exit::Unreadable | Exit::Refused if is_design(ran) => repeat_lines(alloc, ran),
-        Exit::Unreadable | Exit::Refused if is_network(ran) => explain_network(alloc, ran, answer),
-        Exit::Unreadable => explain_text(alloc, ran, answer),
-        Exit::Refused => explain_judged(alloc, ran, answer),
+/// What there is to say of the end of a run: nothing where all is well.
+fn explain(ran: &Ran<'_>, exit: Exit) -> Option<String> {
+    match exit {
+        Exit::Done => explain_empty(ran),
+        Exit::Failed => explain_failed(ran),
+        _ if ran.task.is_design => repeat_lines(ran),
+        _ if ran.task.system.is_some() => explain_network(ran),
+        Exit::Unreadable => explain_text(ran),
+        Exit::Refused => explain_judged(ran),
     }
 }
 
@@ -227,11 +137,12 @@ fn explain_behind(
     let input = notes.input.end(alloc)?;
     let output = notes.output.end(alloc)?;
     let earlier = notes.earlier();
+    let lines = said_in(&output);
+    let said = lines.unwrap_or("");
     let ran = Ran {
-        order,
-        exit,
+        alloc,
+        task: task_of(order),
         names: names_of(order),
-        wanted: wanted_of(order),
         first: files.0,
         second: files.1,
         named_first: named.0,
@@ -239,9 +150,15 @@ fn explain_behind(
         earlier: earlier.as_slice(),
         input: &input,
         output: &output,
+        said,
+        line: answer_in(said),
         is_seen: notes.progress.is_shared(),
     };
-    Ok(explain(alloc, &ran))
+    Ok(if lines.is_some() {
+        explain(&ran, exit)
+    } else {
+        None
+    })
 }
 
 /// What there is to say of the end of a run of which both files of the command line were kept.

@@ -1,5 +1,6 @@
 //! Words that sources may not bring.
 use crate::lines::{Line, TICK};
+use crate::ran::Ran;
 use crate::trace::field;
 use dc_document::Name;
 use dc_keep::Kept;
@@ -144,72 +145,58 @@ fn brought_before(kept: &Kept, line: Line<'_>, tables: &Tables, asked: &Asked) -
     brought
 }
 
-/// How far apart the words of a stream come.
-fn tell_rhythm(out: &mut Explanation, asked: &Asked) {
-    let apart = Ticks(asked.minimum, asked.tick_us);
-    out.say("its words come {} apart or more", &[apart]);
-    if asked.jitter > 0 {
-        out.say(", with a jitter of ", &[]);
-        out.put(Ticks(asked.jitter, asked.tick_us));
-    }
-}
-
-/// Tells that a stream sent too soon, by so many ticks.
+/// Tells that a stream sent too soon, by so many ticks; or, where that is none, that it did or its wire brought more than it
+/// carries, since the lines before were not kept so far back.
 fn tell_early(out: &mut Explanation, tick: u64, asked: &Asked, early: u64) {
     out.say(
-        "in tick {} a word of stream `{}` comes {} sooner than it may: ",
-        &[
-            Number(tick),
-            Text(asked.stream_name.as_str()),
-            Ticks(early, asked.tick_us),
-        ],
-    );
-    tell_rhythm(out, asked);
-}
-
-/// Tells that a wire brought more than it carries, by so many microseconds.
-fn tell_filled(out: &mut Explanation, tick: u64, asked: &Asked, over_us: u64) {
-    out.say(
-        "in tick {} comes one word more than the wire of bus `{}` carries: those before it fill it for {} microseconds behind the end of the tick",
-        &[Number(tick), Text(asked.bus_name.as_str()), Number(over_us)],
-    );
-}
-
-/// Tells that one of the two is so, where the lines before were not kept so far back.
-fn tell_either(out: &mut Explanation, tick: u64, asked: &Asked) {
-    out.say(
-        "in tick {} a word of stream `{}` comes sooner than it may: ",
+        "in tick {} a word of stream `{}` comes ",
         &[Number(tick), Text(asked.stream_name.as_str())],
     );
-    tell_rhythm(out, asked);
-    out.say(
-        "; or it is one word more than the wire of bus `{}` carries",
-        &[Text(asked.bus_name.as_str())],
-    );
+    if early > 0 {
+        out.put(Ticks(early, asked.tick_us));
+        out.add(" ");
+    }
+    out.add("sooner than it may: its words come ");
+    out.put(Ticks(asked.minimum, asked.tick_us));
+    out.add(" apart or more");
+    if asked.jitter > 0 {
+        out.add(", with a jitter of ");
+        out.put(Ticks(asked.jitter, asked.tick_us));
+    }
+    if early == 0 {
+        out.add("; or it is one word more than the wire of bus `");
+        out.put(Text(asked.bus_name.as_str()));
+        out.add("` carries");
+    }
 }
 
 /// Tells which stream or wire broke what is asked of it, by how much, and when it brought its last word, where the line
 /// is a word of one.
 pub(crate) fn tell_source(
     out: &mut Explanation,
+    ran: &Ran<'_>,
     line: Line<'_>,
-    kept: &Kept,
     tables: &Tables,
 ) -> bool {
     let Some(asked) = asked_of(line.bytes, tables) else {
         return false;
     };
-    let brought = brought_before(kept, line, tables, &asked);
+    let brought = brought_before(ran.input, line, tables, &asked);
     let may = line.tick.saturating_add(asked.jitter);
     let early = brought.next.saturating_sub(may);
     let end_us = line.tick.saturating_add(1).saturating_mul(asked.tick_us);
     let over_us = brought.filled_us.saturating_sub(end_us);
-    if early > 0 {
-        tell_early(out, line.tick, &asked, early);
-    } else if over_us > 0 {
-        tell_filled(out, line.tick, &asked, over_us);
+    if early == 0 && over_us > 0 {
+        out.say(
+            "in tick {} comes one word more than the wire of bus `{}` carries: those before it fill it for {} microseconds behind the end of the tick",
+            &[
+                Number(line.tick),
+                Text(asked.bus_name.as_str()),
+                Number(over_us),
+            ],
+        );
     } else {
-        tell_either(out, line.tick, &asked);
+        tell_early(out, line.tick, &asked, early);
     }
     line.show(out, 0);
     if let Some(last) = brought.last {

@@ -1,246 +1,249 @@
 //! Events that may not follow those before them.
-use crate::lines::{Line, events_since, last_before};
-use crate::output::Answer;
+use crate::lines::{Line, events_before};
+use crate::output::word;
+use crate::ran::Ran;
 use crate::trace::field;
 use dc_document::Name;
 use dc_keep::Kept;
-use dc_tables::{Output, Router, Tables};
+use dc_tables::Tables;
 use dc_tell::Explanation;
-use dc_tell::Value::{Number, Several, Text, Ticks};
-
-/// The router of this name, where the tables have one.
-fn router_of<'t>(tables: &'t Tables, name: &Name) -> Option<&'t Router> {
-    let Some(router) = tables.router_named(name) else {
-        return None;
-    };
-    if router >= tables.router_count() {
-        return None;
-    }
-    Some(tables.router(router))
-}
-
-/// The output of this name, where the tables have one.
-fn output_of<'t>(tables: &'t Tables, name: &Name) -> Option<&'t Output> {
-    let Some(output) = tables.output_named(name) else {
-        return None;
-    };
-    if output >= tables.output_count() {
-        return None;
-    }
-    Some(tables.output(output))
-}
-
-/// Tells of a router that made too many steps in a tick.
-fn tell_spent(out: &mut Explanation, line: Line<'_>, tables: &Tables, name: &Name) {
-    let Some(router) = router_of(tables, name) else {
-        return;
-    };
-    out.say(
-        "router `{}` has made {} in tick {} already, which is the `most` of one tick",
-        &[
-            Text(name.as_str()),
-            Several(u64::from(router.most), "step", "steps"),
-            Number(line.tick),
-        ],
-    );
-    line.show(out, 0);
-    out.help("put the step behind the next `T`", &[]);
-    out.help(
-        "or weaken a promise: write a greater `most` of router `{}` in the tables",
-        &[Text(name.as_str())],
-    );
-}
-
-/// Tells of an output that sent too soon.
-fn tell_early(out: &mut Explanation, line: Line<'_>, kept: &Kept, tables: &Tables, name: &Name) {
-    let Some(output) = output_of(tables, name) else {
-        return;
-    };
-    let gap = Ticks(u64::from(output.gap), u64::from(tables.tick_us()));
-    out.say(
-        "output `{}` sends in tick {}, less than {} after its last send",
-        &[Text(name.as_str()), Number(line.tick), gap],
-    );
-    line.show(out, 0);
-    if let Some(last) = last_before(kept, line, "S ", name.as_str()) {
-        let next = last.saturating_add(u64::from(output.gap));
-        out.note(
-            "its last send is of tick {}: it may send again in tick {}",
-            &[Number(last), Number(next)],
-        );
-    }
-    out.help("its wire takes one word in ", &[]);
-    out.put(gap);
-    out.say(": put the send behind more lines `T`", &[]);
-}
+use dc_tell::Value::{Number, Range, Several, Text, Ticks};
 
 /// A router or an output, and what it is to make.
 #[derive(Clone, Copy)]
 struct Actor {
     /// What it is called.
     kind: &'static str,
+    /// Its name.
+    name: Name,
     /// What begins a line of a trace that is a step of it.
     letter: &'static str,
     /// So many steps are made at least ..
     steps: u64,
     /// .. in each so many ticks.
     within: u64,
+    /// Of a router how many it makes in a tick at most, of an output how many ticks its sends lie apart at least.
+    limit: u64,
 }
 
-/// The router or the output of this name.
-fn actor_of(tables: &Tables, name: &Name) -> Option<Actor> {
-    if let Some(row) = router_of(tables, name) {
-        return Some(Actor {
-            kind: "router",
-            letter: "R ",
-            steps: u64::from(row.steps),
-            within: u64::from(row.within),
-        });
-    }
-    let Some(row) = output_of(tables, name) else {
+/// The router of this number, where the tables have one.
+fn router_at(tables: &Tables, number: usize) -> Option<Actor> {
+    if number >= tables.router_count() {
         return None;
-    };
+    }
+    let row = tables.router(number);
     Some(Actor {
-        kind: "output",
-        letter: "S ",
+        kind: "router",
+        name: *tables.router_name(number),
+        letter: "R ",
         steps: u64::from(row.steps),
         within: u64::from(row.within),
+        limit: u64::from(row.most),
     })
 }
 
-/// Tells which lines help, how many of them where that is known, and what else.
-fn tell_missing(out: &mut Explanation, actor: Actor, made: Option<u64>, name: &str) {
-    let missing = actor.steps.saturating_sub(made.unwrap_or(0));
-    let name = Text(name);
-    let count = if made.is_some() {
-        Several(missing, "line", "lines")
-    } else {
-        Text("lines")
+/// The output of this number, where the tables have one.
+fn output_at(tables: &Tables, number: usize) -> Option<Actor> {
+    if number >= tables.output_count() {
+        return None;
+    }
+    let row = tables.output(number);
+    Some(Actor {
+        kind: "output",
+        name: *tables.output_name(number),
+        letter: "S ",
+        steps: u64::from(row.steps),
+        within: u64::from(row.within),
+        limit: u64::from(row.gap),
+    })
+}
+
+/// The actor of this name that a step is refused with such a word of: a router, an output, or whichever there is.
+fn actor_of(tables: &Tables, code: &str, name: &[u8]) -> Option<Actor> {
+    let Some(name) = Name::new(name) else {
+        return None;
     };
-    out.help(
-        "put {} `{}{}` before this `T`, unless this is a recording: then the actor broke its pace",
-        &[count, Text(actor.letter), name],
+    let router = tables.router_named(&name);
+    let output = tables.output_named(&name);
+    match router {
+        Some(number) if code != "early" => router_at(tables, number),
+        _ if code == "spent" => None,
+        _ => output_at(tables, output.unwrap_or(usize::MAX)),
+    }
+}
+
+/// Tells of a router that made too many steps in a tick.
+fn tell_spent(out: &mut Explanation, line: Line<'_>, actor: &Actor) {
+    let name = Text(actor.name.as_str());
+    line.tell(
+        out,
+        0,
+        "router `{}` has made {} in tick {} already, which is the `most` of one tick\nput the step behind the next `T`\nor weaken a promise: write a greater `most` of router `{}` in the tables",
+        &[
+            name,
+            Several(actor.limit, "step", "steps"),
+            Number(line.tick),
+            name,
+        ],
     );
-    out.help(
-        "or weaken a promise: write smaller `steps` or a greater `within` of {} `{}` in the tables",
-        &[Text(actor.kind), name],
+}
+
+/// Tells of an output that sent too soon.
+fn tell_early(out: &mut Explanation, line: Line<'_>, kept: &Kept, actor: &Actor, tick_us: u64) {
+    let name = actor.name.as_str();
+    line.tell(
+        out,
+        0,
+        "output `{}` sends in tick {}, less than {} after its last send",
+        &[Text(name), Number(line.tick), Ticks(actor.limit, tick_us)],
     );
+    let (last, _) = events_before(kept, line, 0, b"S ", name.as_bytes());
+    if let Some(last) = last {
+        let next = last.saturating_add(actor.limit);
+        out.note(
+            "its last send is of tick {}: it may send again in tick {}",
+            &[Number(last), Number(next)],
+        );
+    }
+    out.help("its wire takes one word in ", &[]);
+    out.put(Ticks(actor.limit, tick_us));
+    out.add(": put the send behind more lines `T`");
 }
 
 /// In which tick those begin in which an actor owes its steps, where a line ends the last of them.
-fn first_tick(line: Line<'_>, actor: Actor) -> u64 {
+fn first_tick(line: Line<'_>, actor: &Actor) -> u64 {
     line.tick.saturating_add(1).saturating_sub(actor.within)
 }
 
+/// How many steps an actor has made of those that it owes where a line ends a tick, where that is known.
+fn made_by(line: Line<'_>, kept: &Kept, actor: &Actor) -> Option<u64> {
+    let (_, made) = events_before(
+        kept,
+        line,
+        first_tick(line, actor),
+        actor.letter.as_bytes(),
+        actor.name.as_str().as_bytes(),
+    );
+    made
+}
+
 /// Whether an actor owes steps where a line ends a tick, as far as that is known.
-fn is_owing(line: Line<'_>, kept: &Kept, tables: &Tables, name: &Name) -> bool {
-    let Some(actor) = actor_of(tables, name) else {
-        return false;
-    };
-    let first = first_tick(line, actor);
-    let made = events_since(kept, line, first, actor.letter, name.as_str());
-    line.tick >= actor.within.saturating_sub(1) && made.unwrap_or(actor.steps) < actor.steps
+fn is_owing(line: Line<'_>, kept: &Kept, actor: &Actor) -> bool {
+    let made = made_by(line, kept, actor).unwrap_or(actor.steps);
+    line.tick >= actor.within.saturating_sub(1) && made < actor.steps
 }
 
 /// The first router, or else the first output, that owes steps where a line ends a tick.
-fn owing_at(line: Line<'_>, kept: &Kept, tables: &Tables) -> Option<Name> {
-    for router in 0..tables.router_count() {
-        let name = *tables.router_name(router);
-        if is_owing(line, kept, tables, &name) {
-            return Some(name);
-        }
-    }
-    for output in 0..tables.output_count() {
-        let name = *tables.output_name(output);
-        if is_owing(line, kept, tables, &name) {
-            return Some(name);
+fn owing_at(line: Line<'_>, kept: &Kept, tables: &Tables) -> Option<Actor> {
+    let routers = tables.router_count();
+    for number in 0..routers.saturating_add(tables.output_count()) {
+        let found = if number < routers {
+            router_at(tables, number)
+        } else {
+            output_at(tables, number.saturating_sub(routers))
+        };
+        if let Some(actor) = found {
+            if is_owing(line, kept, &actor) {
+                return Some(actor);
+            }
         }
     }
     None
 }
 
-/// Tells how many steps an actor made, where that is known, and in which ticks it owes so many.
-fn tell_made(out: &mut Explanation, actor: Actor, made: Option<u64>, first: u64, last: u64) {
-    let owed = Several(actor.steps, "step", "steps");
-    match made {
-        Some(made) => out.say("{} of the {} that it owes", &[Number(made), owed]),
-        None => out.say("fewer than the {} that it owes", &[owed]),
-    }
-    let (ticks, begin) = if first == last {
-        (" in tick {}", last)
-    } else {
-        (" in ticks {} to {}", first)
-    };
-    out.say(ticks, &[Number(begin), Number(last)]);
-}
-
-/// Tells of a router or an output that made too few steps for the tick to end.
-fn tell_owed(out: &mut Explanation, line: Line<'_>, kept: &Kept, tables: &Tables, name: &Name) {
-    let Some(actor) = actor_of(tables, name) else {
-        return;
-    };
-    let text = name.as_str();
+/// Tells of a router or an output that made too few steps for the tick to end: how many, where that is known, in which
+/// ticks it owes so many, which lines help, and what else.
+fn tell_owed(out: &mut Explanation, line: Line<'_>, kept: &Kept, actor: &Actor, tick_us: u64) {
+    let (kind, name) = (Text(actor.kind), Text(actor.name.as_str()));
     let first = first_tick(line, actor);
-    let made = events_since(kept, line, first, actor.letter, text);
-    out.say(
-        "tick {} cannot end: {} `{}` has made ",
-        &[Number(line.tick), Text(actor.kind), Text(text)],
-    );
-    tell_made(out, actor, made, first, line.tick);
-    line.show(out, 0);
-    out.note(
-        "`steps` of {} `{}` is {}, in each `within` of {}",
+    let (made, missing) = match made_by(line, kept, actor) {
+        Some(made) => (
+            Several(made, "of", "of"),
+            Several(actor.steps.saturating_sub(made), "line", "lines"),
+        ),
+        None => (Text("fewer than"), Text("lines")),
+    };
+    line.tell(
+        out,
+        0,
+        "tick {} cannot end: {} `{}` has made {} the {} that it owes in {} {}\nnote: `steps` of {} `{}` is {}, in each `within` of {}\nput {} `{}{}` before this `T`, unless this is a recording: then the actor broke its pace\nor weaken a promise: write smaller `steps` or a greater `within` of {} `{}` in the tables",
         &[
-            Text(actor.kind),
-            Text(text),
+            Number(line.tick),
+            kind,
+            name,
+            made,
+            Several(actor.steps, "step", "steps"),
+            Text(if first == line.tick { "tick" } else { "ticks" }),
+            Range(first, line.tick),
+            kind,
+            name,
             Number(actor.steps),
-            Ticks(actor.within, u64::from(tables.tick_us())),
+            Ticks(actor.within, tick_us),
+            missing,
+            Text(actor.letter),
+            name,
+            kind,
+            name,
         ],
     );
-    tell_missing(out, actor, made, text);
+}
+
+/// Tells why an actor's step, or the end of a tick, may not follow the lines before it, by the word of its refusal.
+fn tell_actor(
+    out: &mut Explanation,
+    code: &str,
+    line: Line<'_>,
+    kept: &Kept,
+    actor: &Actor,
+    tick_us: u64,
+) {
+    match code {
+        "spent" => tell_spent(out, line, actor),
+        "early" => tell_early(out, line, kept, actor, tick_us),
+        _ => tell_owed(out, line, kept, actor, tick_us),
+    }
 }
 
 /// Tells which budget an event breaks; nothing where that is not known.
 pub(crate) fn tell_budget(
     out: &mut Explanation,
+    ran: &Ran<'_>,
     line: Line<'_>,
-    kept: &Kept,
     tables: &Tables,
 ) -> bool {
     let (kind, _) = field(line.bytes, 0);
     let (name, _) = field(line.bytes, 1);
-    if kind == b"T".as_slice() {
-        let Some(name) = owing_at(line, kept, tables) else {
-            return false;
-        };
-        tell_owed(out, line, kept, tables, &name);
-        return true;
-    }
-    let Some(name) = Name::new(name) else {
+    let (code, found) = match kind {
+        b"T" => ("owed", owing_at(line, ran.input, tables)),
+        b"R" => ("spent", actor_of(tables, "spent", name)),
+        _ => ("early", actor_of(tables, "early", name)),
+    };
+    let Some(actor) = found else {
         return false;
     };
-    if kind == b"R".as_slice() {
-        tell_spent(out, line, tables, &name);
-    } else {
-        tell_early(out, line, kept, tables, &name);
-    }
+    tell_actor(
+        out,
+        code,
+        line,
+        ran.input,
+        &actor,
+        u64::from(tables.tick_us()),
+    );
     true
 }
 
 /// Tells why an event may not follow those before it, by the word of its refusal and the name that it is about.
-pub(crate) fn tell_step(
-    out: &mut Explanation,
-    answer: Answer<'_>,
-    line: Line<'_>,
-    kept: &Kept,
-    tables: &Tables,
-) {
-    let Some(name) = Name::new(answer.name.as_bytes()) else {
-        return out.say("{}", &[Text(answer.code)]);
-    };
-    match answer.code {
-        "spent" => tell_spent(out, line, tables, &name),
-        "early" => tell_early(out, line, kept, tables, &name),
-        _ => tell_owed(out, line, kept, tables, &name),
+pub(crate) fn tell_step(out: &mut Explanation, ran: &Ran<'_>, line: Line<'_>, tables: &Tables) {
+    let (code, name) = (word(ran.line, 1), word(ran.line, 2));
+    match actor_of(tables, code, name.as_bytes()) {
+        Some(actor) => tell_actor(
+            out,
+            code,
+            line,
+            ran.input,
+            &actor,
+            u64::from(tables.tick_us()),
+        ),
+        None => out.say("{}", &[Text(code)]),
     }
 }

@@ -1,5 +1,5 @@
 //! Systems that can't be read.
-use crate::output::{Answer, index_in};
+use crate::output::{index_in, word};
 use crate::ran::Ran;
 use crate::rings::tell_ring;
 use crate::system_rules::{tell_no_concentrator, tell_reversed, tell_twin};
@@ -10,7 +10,6 @@ use dc_explain_text::{
 use dc_explain_unreadable::{refused_of, tell_count, tell_no_document};
 use dc_tell::Kind;
 use dc_tell::Value::Text;
-use std::alloc::Global;
 
 /// The kind of table that a word of the answer names.
 fn kind_named(word: &str) -> Kind {
@@ -63,23 +62,19 @@ fn tell_plainly(refused: &mut Refused<'_>, code: &str) {
 }
 
 /// Explains a system that can't be read.
-pub(crate) fn explain_system(alloc: Global, ran: &Ran<'_>, answer: Answer<'_>) -> Option<String> {
+pub(crate) fn explain_system(ran: &Ran<'_>) -> Option<String> {
+    let code = word(ran.line, 1);
     let (file, _) = ran.files();
-    let is_document = answer.code != "N01";
-    let Some(mut refused) = refused_of(alloc, file, Kind::System, is_document) else {
+    let is_document = code != "N01";
+    let Some(mut refused) = refused_of(ran.alloc, file, Kind::System, is_document) else {
         return None;
     };
-    let place = answer.behind(3);
-    let row = refused
-        .layout
-        .row(kind_named(place.verb), index_in(place.code));
-    refused.row = row.unwrap_or(0);
-    refused.out.begin(answer.code);
+    let kind = kind_named(word(ran.line, 3));
+    let _ = refused.begin(code, kind, index_in(word(ran.line, 4)));
     if !is_document {
         tell_no_document(&mut refused);
-    } else if !tell_shape(&mut refused, answer.code) && !tell_rule(&mut refused, answer.code) {
-        tell_plainly(&mut refused, answer.code);
+    } else if !tell_shape(&mut refused, code) && !tell_rule(&mut refused, code) {
+        tell_plainly(&mut refused, code);
     }
-    let Refused { out, .. } = refused;
-    out.finish()
+    refused.finish()
 }

@@ -1,14 +1,11 @@
 //! Lines that are no event of a trace.
 use crate::lines::Line;
-use crate::words::{tell_long, tell_no_word, tell_unended, tell_unseen};
-use dc_command::Order;
+use crate::ran::Ran;
+use crate::words::{tell_no_word, tell_shape};
 use dc_tables::Tables;
 use dc_tell::Value::{Bytes, Number, Several, Text};
 use dc_tell::{Explanation, Names, Value};
 use std::alloc::Global;
-
-/// How many events an audit reads that is not asked for a long run.
-const MOST_EVENTS: u64 = 100_000;
 
 /// How many bytes a trace may have.
 const USUAL_TRACE: u64 = 1_073_741_824;
@@ -51,62 +48,54 @@ fn fields_in(line: &[u8]) -> u64 {
 /// Tells that a line begins with no kind of event.
 fn tell_kind(out: &mut Explanation, line: Line<'_>) {
     let (kind, _) = field(line.bytes, 0);
-    if line.bytes.is_empty() {
-        out.say("the line is empty", &[]);
+    let sentence = if line.bytes.is_empty() {
+        "the line is empty\na line is `A <bus> <word>`, `R <router>`, `S <output>` or `T`, in upper case"
     } else if kind.starts_with(b"#") {
-        out.say("a trace has no comments", &[]);
+        "a trace has no comments\na line is `A <bus> <word>`, `R <router>`, `S <output>` or `T`, in upper case"
     } else {
-        out.say("`{}` is no kind of event", &[Bytes(kind)]);
-    }
-    line.show(out, 0);
-    out.help(
-        "a line is `A <bus> <word>`, `R <router>`, `S <output>` or `T`, in upper case",
-        &[],
-    );
+        "`{}` is no kind of event\na line is `A <bus> <word>`, `R <router>`, `S <output>` or `T`, in upper case"
+    };
+    line.tell(out, 0, sentence, &[Bytes(kind)]);
 }
 
-/// How a line of a kind is written, and what it is called.
-fn form(kind: &[u8]) -> (&'static str, &'static str) {
-    match kind {
-        b"A" => ("A <bus> <word>", "a word that comes"),
-        b"R" => ("R <router>", "a step of a router"),
-        b"S" => ("S <output>", "a send of an output"),
-        _ => ("T", "the end of a tick"),
+/// The kinds of events: how a line of one is written, what it is called, and what it names. The last is that of all others.
+static EVENTS: [(&'static [u8], &'static str, &'static str, &'static str); 4] = [
+    (b"A", "A <bus> <word>", "a word that comes", "bus"),
+    (b"R", "R <router>", "a step of a router", "router"),
+    (b"S", "S <output>", "a send of an output", "output"),
+    (b"", "T", "the end of a tick", "output"),
+];
+
+/// How a line of a kind is written, what it is called, and what it names.
+fn event_of(kind: &[u8]) -> (&'static str, &'static str, &'static str) {
+    for (own, form, what, named) in &EVENTS {
+        if own.is_empty() || *own == kind {
+            return (form, what, named);
+        }
     }
+    ("", "", "")
 }
 
 /// Tells that a line has more or fewer fields than its kind.
 fn tell_fields(out: &mut Explanation, line: Line<'_>) {
     let (kind, _) = field(line.bytes, 0);
-    let (form, what) = form(kind);
-    out.say(
-        "{} is written `{}`, and this line has {}",
+    let (form, what, _) = event_of(kind);
+    line.tell(
+        out,
+        0,
+        "{} is written `{}`, and this line has {}\nfields are parted by one blank each, and nothing stands behind the last",
         &[
             Text(what),
             Text(form),
             Several(fields_in(line.bytes), "field", "fields"),
         ],
     );
-    line.show(out, 0);
-    out.help(
-        "fields are parted by one blank each, and nothing stands behind the last",
-        &[],
-    );
-}
-
-/// What a kind of line names.
-fn named_by(kind: &[u8]) -> &'static str {
-    match kind {
-        b"A" => "bus",
-        b"R" => "router",
-        _ => "output",
-    }
 }
 
 /// The names that a kind of line may have.
-fn names_for<'t>(alloc: Global, tables: &'t Tables, kind: &[u8]) -> Names<'t> {
+fn names_for<'t>(alloc: Global, tables: &'t Tables, named: &str) -> Names<'t> {
     let mut names = Names::new(alloc);
-    let (is_bus, is_router) = (kind == b"A".as_slice(), kind == b"R".as_slice());
+    let (is_bus, is_router) = (named == "bus", named == "router");
     for bus in 0..tables.bus_count() {
         if is_bus {
             names.add(tables.bus_name(bus).as_str());
@@ -126,65 +115,47 @@ fn names_for<'t>(alloc: Global, tables: &'t Tables, kind: &[u8]) -> Names<'t> {
 }
 
 /// Tells that a line names what is not in the tables, and which name was meant, or which there are.
-fn tell_name(alloc: Global, out: &mut Explanation, line: Line<'_>, tables: &Tables) {
+fn tell_name(out: &mut Explanation, ran: &Ran<'_>, line: Line<'_>, tables: &Tables) {
     let (kind, _) = field(line.bytes, 0);
     let (name, at) = field(line.bytes, 1);
-    let what = named_by(kind);
-    let names = names_for(alloc, tables, kind);
+    let (_, _, named) = event_of(kind);
+    let names = names_for(ran.alloc, tables, named);
     if names.is_lost() {
         return out.lose();
     }
-    out.say(
-        "in tick {}: the tables have no {} `",
-        &[Number(line.tick), Text(what)],
+    line.tell(
+        out,
+        at,
+        "in tick {}: the tables have no {} `{}`",
+        &[Number(line.tick), Text(named), Bytes(name)],
     );
-    out.put(Bytes(name));
-    out.say("`", &[]);
-    line.show(out, at);
     let text = str::from_utf8(name).unwrap_or("");
-    match out.nearest(text, names.as_slice()) {
-        Some((like, other)) => {
-            tell_like(out, what, like);
-            if !other.is_empty() {
-                tell_like(out, what, other);
-            }
-        }
-        None => {
-            out.help("of this kind there are: ", &[]);
-            out.put(Value::Names(names.as_slice()))
-        }
-    }
-}
-
-/// Tells of a name that may be meant.
-fn tell_like(out: &mut Explanation, what: &str, name: &str) {
-    out.help("there is a {} `", &[Text(what)]);
-    out.put(Text(name));
-    out.say("`", &[])
-}
-
-/// Tells why a line, or the text, is too long.
-fn tell_too_long(out: &mut Explanation, line: Line<'_>, order: Order<'_>) {
-    if line.bytes.len() > 64 {
-        return tell_long(out, line, "event");
-    }
-    let (is_long, most) = match order {
-        Order::Audit { long, .. } => (long, MOST_EVENTS),
-        Order::Replay { long, .. } => (long, u64::MAX),
-        Order::Observe { .. } => (true, u64::MAX),
-        _ => (false, u64::MAX),
+    let Some((like, other)) = out.nearest(text, names.as_slice()) else {
+        let all = [Value::Names(names.as_slice())];
+        return out.help("of this kind there are: {}", &all);
     };
-    if line.number > most && !is_long {
-        out.say(
-            "an audit reads {} events at most, and here is one more",
-            &[Number(MOST_EVENTS)],
-        );
-    } else {
-        let bytes = if is_long { LONG_TRACE } else { USUAL_TRACE };
-        out.say("the trace has more than {} bytes", &[Number(bytes)]);
+    for meant in [like, other] {
+        if !meant.is_empty() {
+            out.help("there is a {} `{}`", &[Text(named), Text(meant)]);
+        }
     }
-    line.show(out, 0);
-    out.help("hand in a shorter trace", &[]);
+}
+
+/// Tells that a trace is too long.
+fn tell_too_long(out: &mut Explanation, ran: &Ran<'_>, line: Line<'_>) {
+    let is_long = ran.task.is_long;
+    let (sentence, most) = if line.number > ran.task.most_events && !is_long {
+        (
+            "an audit reads {} events at most, and here is one more\nhand in a shorter trace",
+            ran.task.most_events,
+        )
+    } else {
+        (
+            "the trace has more than {} bytes\nhand in a shorter trace",
+            if is_long { LONG_TRACE } else { USUAL_TRACE },
+        )
+    };
+    line.tell(out, 0, sentence, &[Number(most)]);
     if !is_long {
         out.help("or let it be long, with `--long`", &[]);
     }
@@ -192,20 +163,22 @@ fn tell_too_long(out: &mut Explanation, line: Line<'_>, order: Order<'_>) {
 
 /// Tells why a line of a trace is no event of these tables, by the code of its fault.
 pub(crate) fn tell_event(
-    alloc: Global,
     out: &mut Explanation,
+    ran: &Ran<'_>,
     code: &str,
     line: Line<'_>,
-    order: Order<'_>,
     tables: &Tables,
 ) {
+    if code == "E1" && line.bytes.len() <= 64 {
+        return tell_too_long(out, ran, line);
+    }
+    if tell_shape(out, code, line, "event") {
+        return;
+    }
     match code {
-        "E1" => tell_too_long(out, line, order),
-        "E6" => tell_unended(out, line),
-        _ if tell_unseen(out, line) => {}
         "E2" => tell_kind(out, line),
         "E3" => tell_fields(out, line),
-        "E4" => tell_name(alloc, out, line, tables),
+        "E4" => tell_name(out, ran, line, tables),
         _ => {
             let (_, at) = field(line.bytes, 2);
             tell_no_word(out, line, at)

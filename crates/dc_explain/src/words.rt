@@ -3,14 +3,6 @@ use crate::lines::Line;
 use dc_tell::Explanation;
 use dc_tell::Value::{Bytes, Several, Text};
 
-/// What is not seen in a line and keeps it from being read: behind how many of its bytes, what it is, and what to do.
-#[derive(Clone, Copy)]
-struct Unseen {
-    at: usize,
-    what: &'static str,
-    mend: &'static str,
-}
-
 /// How many bytes of a line stand before the first that is this one; all where none is.
 fn before(line: &[u8], wanted: u8) -> usize {
     for (at, byte) in line.iter().enumerate() {
@@ -21,40 +13,58 @@ fn before(line: &[u8], wanted: u8) -> usize {
     line.len()
 }
 
-/// What of a line is not seen and does not belong there.
-fn unseen_in(line: &[u8]) -> Option<Unseen> {
-    let tab = before(line, b'\t');
-    let last = line.len().saturating_sub(1);
-    let (at, what, mend) = if line.starts_with(b"\xEF\xBB\xBF") {
+/// Tells what of a line is not seen and keeps it from being read, where there is such.
+fn tell_unseen(out: &mut Explanation, line: Line<'_>) -> bool {
+    let bytes = line.bytes;
+    let tab = before(bytes, b'\t');
+    let last = bytes.len().saturating_sub(1);
+    let (at, sentence) = if bytes.starts_with(b"\xEF\xBB\xBF") {
         (
             0,
-            "begins with a byte order mark",
-            "save the text as UTF-8 without a byte order mark",
+            "the line begins with a byte order mark\nsave the text as UTF-8 without a byte order mark",
         )
-    } else if line.ends_with(b"\r") {
+    } else if bytes.ends_with(b"\r") {
         (
             last,
-            "ends in a carriage return and a line feed",
-            "lines end in a line feed alone: convert them all by `tr -d '\\r' < OLD > NEW`",
+            "the line ends in a carriage return and a line feed\nlines end in a line feed alone: convert them all by `tr -d '\\r' < OLD > NEW`",
         )
-    } else if tab < line.len() {
-        (tab, "has a tab", "part the fields by one blank")
-    } else if line.ends_with(b" ") {
-        (last, "has a blank at its end", "take the blank out")
+    } else if tab < bytes.len() {
+        (tab, "the line has a tab\npart the fields by one blank")
+    } else if bytes.ends_with(b" ") {
+        (last, "the line has a blank at its end\ntake the blank out")
     } else {
-        return None;
-    };
-    Some(Unseen { at, what, mend })
-}
-
-/// Tells what of a line is not seen and does not belong there, where there is such.
-pub(crate) fn tell_unseen(out: &mut Explanation, line: Line<'_>) -> bool {
-    let Some(unseen) = unseen_in(line.bytes) else {
         return false;
     };
-    out.say("the line {}", &[Text(unseen.what)]);
-    line.show(out, unseen.at);
-    out.help("{}", &[Text(unseen.mend)]);
+    line.tell(out, at, sentence, &[]);
+    true
+}
+
+/// Tells what keeps a line from being read, whatever it is to say, by the code of its fault: that it is longer than lines
+/// may be, that the text ends inside it, or that something in it is not seen; false where none of these does.
+pub(crate) fn tell_shape(
+    out: &mut Explanation,
+    code: &str,
+    line: Line<'_>,
+    what: &'static str,
+) -> bool {
+    match code {
+        "E1" => line.tell(
+            out,
+            64,
+            "the line has {} or more, and a line has 64 at most\none {} a line",
+            &[
+                Several(line.bytes.len() as u64, "byte", "bytes"),
+                Text(what),
+            ],
+        ),
+        "E6" => line.tell(
+            out,
+            line.bytes.len(),
+            "the text ends inside a line: a line feed is missing behind it\nend the last line with a line feed",
+            &[],
+        ),
+        _ => return tell_unseen(out, line),
+    }
     true
 }
 
@@ -72,47 +82,32 @@ fn digits_in(bytes: &[u8]) -> usize {
 pub(crate) fn tell_no_word(out: &mut Explanation, line: Line<'_>, from: usize) {
     let piece = line.bytes.get(from..).unwrap_or(b"");
     let digits = digits_in(piece);
-    let is_other = digits < piece.len();
-    let sentence = if piece.is_empty() {
-        "there is no word: the line is empty"
+    let (at, sentence) = if piece.is_empty() {
+        (
+            0,
+            "there is no word: the line is empty\na word of 32 bits is written as 8 hexadecimal digits, as 600000C1",
+        )
     } else if piece.starts_with(b"0x") || piece.starts_with(b"0X") {
-        "`{}` is no word: it is written without `0x`"
-    } else if is_other {
-        "`{}` is no word: it has what is no hexadecimal digit"
+        (
+            0,
+            "`{}` is no word: it is written without `0x`\na word of 32 bits is written as 8 hexadecimal digits, as 600000C1",
+        )
+    } else if digits < piece.len() {
+        (
+            digits,
+            "`{}` is no word: it has what is no hexadecimal digit\na word of 32 bits is written as 8 hexadecimal digits, as 600000C1",
+        )
     } else {
-        "`{}` is no word: it has {}, and a word has 8"
+        (
+            0,
+            "`{}` is no word: it has {}, and a word has 8\na word of 32 bits is written as 8 hexadecimal digits, as 600000C1",
+        )
     };
     let count = Several(digits as u64, "hexadecimal digit", "hexadecimal digits");
-    out.say(sentence, &[Bytes(piece), count]);
-    let is_marked = piece.starts_with(b"0x") || piece.starts_with(b"0X");
-    let at = if is_other && !is_marked {
-        from.saturating_add(digits)
-    } else {
-        from
-    };
-    line.show(out, at);
-    out.help(
-        "a word of 32 bits is written as 8 hexadecimal digits, as 600000C1",
-        &[],
+    line.tell(
+        out,
+        from.saturating_add(at),
+        sentence,
+        &[Bytes(piece), count],
     );
-}
-
-/// Tells that a line is longer than lines may be.
-pub(crate) fn tell_long(out: &mut Explanation, line: Line<'_>, what: &'static str) {
-    out.say(
-        "the line has {} or more, and a line has 64 at most",
-        &[Several(line.bytes.len() as u64, "byte", "bytes")],
-    );
-    line.show(out, 64);
-    out.help("one {} a line", &[Text(what)]);
-}
-
-/// Tells that a text ends inside a line.
-pub(crate) fn tell_unended(out: &mut Explanation, line: Line<'_>) {
-    out.say(
-        "the text ends inside a line: a line feed is missing behind it",
-        &[],
-    );
-    line.show(out, line.bytes.len());
-    out.help("end the last line with a line feed", &[]);
 }

@@ -1,0 +1,143 @@
+//! What a run was to do, as far as its end is explained by that.
+use dc_codes::Kind;
+use dc_command::Order;
+
+/// What standard input is called as a file on the command line.
+const STANDARD_INPUT: &str = "-";
+
+/// What a certificate is called.
+pub(crate) const CERTIFICATE: &str = "the certificate";
+
+/// What two files are to be that are judged.
+pub(crate) const JUDGED: (&'static str, &'static str) = ("the tables", CERTIFICATE);
+
+/// How many events an audit reads that is not asked for a long run.
+const MOST_EVENTS: u64 = 100_000;
+
+/// What a run was to do.
+#[derive(Clone, Copy)]
+pub(crate) struct Task<'a> {
+    /// What its files are to be.
+    pub(crate) wanted: (&'static str, &'static str),
+    /// The text of the system of the network that it was to judge or to report on, as the command line names it.
+    pub(crate) system: Option<&'a str>,
+    /// Of what the codes are with which lines of its standard input are refused.
+    pub(crate) lines: Kind,
+    /// How many events it reads, where it reads no more of what is not long.
+    pub(crate) most_events: u64,
+    /// Whether its standard input may be long.
+    pub(crate) is_long: bool,
+    /// Whether it was to survey.
+    pub(crate) is_survey: bool,
+    /// Whether it was to audit.
+    pub(crate) is_audit: bool,
+    /// Whether it was to design tables.
+    pub(crate) is_design: bool,
+    /// Whether it was to find a certificate.
+    pub(crate) is_found: bool,
+}
+
+/// What an order asks.
+pub(crate) fn task_of(order: Order<'_>) -> Task<'_> {
+    let mut task = Task {
+        wanted: JUDGED,
+        system: None,
+        lines: Kind::Trace,
+        most_events: u64::MAX,
+        is_long: false,
+        is_survey: false,
+        is_audit: false,
+        is_design: false,
+        is_found: false,
+    };
+    match order {
+        Order::Decode(_) => task.lines = Kind::Decoded,
+        Order::Trace { .. } => task.lines = Kind::Capture,
+        Order::Survey { .. } => {
+            task.lines = Kind::Capture;
+            task.is_survey = true;
+        }
+        Order::Replay { long, .. } => task.is_long = long,
+        Order::Observe { .. } => task.is_long = true,
+        Order::Audit { long, .. } => {
+            task.is_long = long;
+            task.is_audit = true;
+            task.most_events = MOST_EVENTS;
+        }
+        Order::Network { system, .. } | Order::ReportNetwork { system } => {
+            task.system = Some(system);
+            task.wanted = ("the system", "");
+        }
+        Order::Design { .. } => {
+            task.is_design = true;
+            task.wanted = ("the sheet of inputs", "the sheet of outputs");
+        }
+        Order::Find { .. }
+        | Order::Report {
+            certificate: None,
+            ..
+        }
+        | Order::Margins {
+            certificate: None,
+            ..
+        } => task.is_found = true,
+        _ => {}
+    }
+    task
+}
+
+/// The name of a file as it is told.
+pub(crate) fn told(name: &str) -> &str {
+    if name == STANDARD_INPUT {
+        "<stdin>"
+    } else {
+        name
+    }
+}
+
+/// The names of the files of an order, in the order in which it opens them; an empty one where it has none.
+pub(crate) fn names_of(order: Order<'_>) -> (&str, &str) {
+    let (first, second) = match order {
+        Order::Decode(_) | Order::Explain { .. } => ("", ""),
+        Order::Network { system, .. } | Order::ReportNetwork { system } => (system, ""),
+        Order::Find { tables, .. }
+        | Order::Survey { tables }
+        | Order::Trace { tables, .. }
+        | Order::Replay { tables, .. } => (tables, ""),
+        Order::Report {
+            tables,
+            certificate,
+            ..
+        }
+        | Order::Margins {
+            tables,
+            certificate,
+            ..
+        } => (tables, certificate.unwrap_or("")),
+        Order::Check {
+            tables,
+            certificate,
+            ..
+        }
+        | Order::Audit {
+            tables,
+            certificate,
+            ..
+        }
+        | Order::Observe {
+            tables,
+            certificate,
+        }
+        | Order::Bench {
+            tables,
+            certificate,
+            ..
+        } => (tables, certificate),
+        Order::Design {
+            inputs,
+            outputs,
+            ..
+        } => (inputs, outputs),
+    };
+    (told(first), told(second))
+}
