@@ -49,7 +49,8 @@ pub(crate) fn explain_by_tables(ran: &Ran<'_>, kind: Kind, line: Line<'_>) -> Op
 /// Explains tables or a certificate: that can't be read, or that were judged and refused.
 pub(crate) fn explain_files(ran: &Ran<'_>) -> Option<String> {
     let code = word(ran.line, 1);
-    if word(ran.line, 0) != "unreadable" {
+    // (where answers are objects the word stands behind a brace)
+    if !word(ran.line, 0).ends_with("unreadable") {
         let told = explain_by_tables(ran, Kind::Condition, NO_LINE);
         return or_plainly(told, ran.alloc, Kind::Condition, code);
     }
