@@ -13,7 +13,7 @@ const MOST_OF_FILE: usize = 4_194_304;
 const MOST_OF_STREAM: usize = 65_536;
 
 /// How many bytes of the end of what was written are kept at least: fifty lines of what stands in the way of a design.
-const MOST_OF_OUTPUT: usize = 16_384;
+pub(crate) const MOST_OF_OUTPUT: usize = 16_384;
 
 /// The end of a text, in two parts.
 #[derive(Drop)]

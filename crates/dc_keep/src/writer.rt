@@ -1,5 +1,5 @@
 //! A writer of which what it takes is kept.
-use crate::notes::Slot;
+use crate::notes::{MOST_OF_OUTPUT, Slot};
 use std::alloc::Global;
 use std::io::{Result, Write};
 
@@ -11,8 +11,9 @@ pub struct Written<'n, W: Drop> {
     slot: &'n Slot,
 }
 
-/// How many bytes of what is taken at once are kept.
-const MOST_AT_ONCE: usize = 512;
+/// How many of the last bytes of what is taken at once are kept: all lines of what stands in the way of a design, which are
+/// written at once.
+const MOST_AT_ONCE: usize = MOST_OF_OUTPUT;
 
 impl<'n, W: Drop> Written<'n, W> {
     /// The writer, of which the last bytes and the last error are kept in this slot.
