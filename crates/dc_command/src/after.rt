@@ -155,7 +155,9 @@ router (worked out), name (<bus>-<label>). Columns of outputs: output, speed,
 label, equipment, sources (names, parted by blanks, or one each in Source 1 to
 Source 8), min, max; and likewise sdi (else 0), max_age (else no limit),
 timeout, name, format. A time's title has its unit, as in \"Min ms\". A label
-that leaves at another rate than it comes has an equipment code of its own.
+that leaves at another rate than it comes has an equipment code of its own. A
+name has 1 to 16 of A-Z a-z 0-9 _ -. A task that empties several buses has one
+name under router in all their rows; without, each bus gets a task of its own.
 
 A file named - is standard input, which only one of the two sheets can be; one
 of that name is ./-. Where no --tick is said, the first of eight that does is
