@@ -39,11 +39,11 @@ pub enum Value<'a> {
 /// How many names are listed.
 const LISTED: usize = 8;
 
-/// The digits, those from ten on in lower and then in upper case.
-static DIGITS: [&'static str; 22] = [
-    "0", "1", "2", "3", "4", "5", "6", "7", "8", "9", "a", "b", "c", "d", "e", "f", "A", "B", "C",
-    "D", "E", "F",
-];
+/// The digits in lower case.
+const LOWER: &str = "0123456789abcdef";
+
+/// The digits in upper case.
+const UPPER: &str = "0123456789ABCDEF";
 
 /// How many digits a number has at most.
 const MOST_DIGITS: usize = 20;
@@ -89,9 +89,9 @@ impl Explanation {
         }
     }
 
-    /// Writes a digit of [`DIGITS`].
-    fn push_digit(&mut self, digit: usize) {
-        self.push(DIGITS.get(digit).copied().unwrap_or(""));
+    /// Writes one of these digits.
+    fn push_digit(&mut self, digits: &str, digit: usize) {
+        self.push(digits.get(digit..digit.saturating_add(1)).unwrap_or(""));
     }
 
     /// Writes a number: its digits from the last one on, in front of one another.
@@ -124,7 +124,7 @@ impl Explanation {
             let digit = code.checked_div(*scale).unwrap_or(0) % 16;
             is_begun = is_begun || digit != 0 || *scale == 1;
             if is_begun {
-                self.push_digit(digit as usize);
+                self.push_digit(LOWER, digit as usize);
             }
         }
         self.push("}");
@@ -148,13 +148,8 @@ impl Explanation {
     /// Writes a byte.
     fn push_byte(&mut self, byte: u8) {
         self.push("0x");
-        for digit in [usize::from(byte / 16), usize::from(byte % 16)] {
-            self.push_digit(if digit < 10 {
-                digit
-            } else {
-                digit.saturating_add(6)
-            });
-        }
+        self.push_digit(UPPER, (byte / 16) as usize);
+        self.push_digit(UPPER, (byte % 16) as usize);
     }
 
     /// Writes so many of a thing.
@@ -162,15 +157,6 @@ impl Explanation {
         self.push_number(count);
         self.push(" ");
         self.push(if count == 1 { one } else { many });
-    }
-
-    /// Writes from which number to which.
-    fn push_range(&mut self, low: u64, high: u64) {
-        self.push_number(low);
-        if low != high {
-            self.push(" to ");
-            self.push_number(high);
-        }
     }
 
     /// Writes so many ticks, and how long they take.
@@ -211,7 +197,12 @@ impl Explanation {
             Value::Number(number) => self.push_number(number),
             Value::Byte(byte) => self.push_byte(byte),
             Value::Several(count, one, many) => self.push_several(count, one, many),
-            Value::Range(low, high) => self.push_range(low, high),
+            Value::Range(low, high) if low == high => self.push_number(low),
+            Value::Range(low, high) => {
+                self.push_number(low);
+                self.push(" to ");
+                self.push_number(high);
+            }
             Value::Ticks(ticks, tick) => self.push_ticks(ticks, tick),
             Value::Text(text) => self.push_text(text),
             Value::Bytes(bytes) => self.push_text(text_of(bytes)),
@@ -252,7 +243,7 @@ impl Explanation {
         self.end_line();
         self.is_helped = false;
         if code.is_empty() {
-            self.say("error: ", &[]);
+            self.add("error: ");
         } else {
             self.say("error[{}]: ", &[Value::Text(code)]);
         }

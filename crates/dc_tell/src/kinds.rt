@@ -35,64 +35,119 @@ pub enum Kind {
     Link,
 }
 
-/// The kinds: what one is called, with its article, the kind that it stands in, and the key of its list there.
-static KINDS: [(Kind, &'static str, &'static str, Kind, &'static str); 14] = [
-    (
-        Kind::Top,
-        "the top of the tables",
-        "the top of the tables",
-        Kind::None,
-        "",
-    ),
-    (
-        Kind::Parameter,
-        "parameter",
-        "a parameter",
-        Kind::Top,
-        "parameter",
-    ),
-    (Kind::Bus, "bus", "a bus", Kind::Top, "bus"),
-    (Kind::Stream, "stream", "a stream", Kind::Bus, "stream"),
-    (Kind::Router, "router", "a router", Kind::Top, "router"),
-    (Kind::Output, "output", "an output", Kind::Top, "output"),
-    (Kind::Label, "label", "a label", Kind::Output, "label"),
-    (
-        Kind::Certificate,
-        "the certificate",
-        "a certificate",
-        Kind::None,
-        "",
-    ),
-    (
-        Kind::InputClaim,
-        "input",
-        "a member of `inputs`",
-        Kind::Certificate,
-        "inputs",
-    ),
-    (
-        Kind::OutputClaim,
-        "output",
-        "a member of `outputs`",
-        Kind::Certificate,
-        "outputs",
-    ),
-    (
-        Kind::LabelClaim,
-        "label",
-        "a member of `labels`",
-        Kind::Certificate,
-        "labels",
-    ),
-    (Kind::System, "the system", "a system", Kind::None, ""),
-    (
-        Kind::Concentrator,
-        "concentrator",
-        "a concentrator",
-        Kind::System,
-        "concentrator",
-    ),
-    (Kind::Link, "link", "a link", Kind::System, "link"),
+/// What the tables of a kind are called, and where they stand.
+struct KindRow {
+    kind: Kind,
+    /// What one is called.
+    name: &'static str,
+    /// The same with its article.
+    article: &'static str,
+    /// The kind that it stands in.
+    holder: Kind,
+    /// The key of its list there.
+    list: &'static str,
+}
+
+/// The kinds.
+static KINDS: [KindRow; 14] = [
+    KindRow {
+        kind: Kind::Top,
+        name: "the top of the tables",
+        article: "the top of the tables",
+        holder: Kind::None,
+        list: "",
+    },
+    KindRow {
+        kind: Kind::Parameter,
+        name: "parameter",
+        article: "a parameter",
+        holder: Kind::Top,
+        list: "parameter",
+    },
+    KindRow {
+        kind: Kind::Bus,
+        name: "bus",
+        article: "a bus",
+        holder: Kind::Top,
+        list: "bus",
+    },
+    KindRow {
+        kind: Kind::Stream,
+        name: "stream",
+        article: "a stream",
+        holder: Kind::Bus,
+        list: "stream",
+    },
+    KindRow {
+        kind: Kind::Router,
+        name: "router",
+        article: "a router",
+        holder: Kind::Top,
+        list: "router",
+    },
+    KindRow {
+        kind: Kind::Output,
+        name: "output",
+        article: "an output",
+        holder: Kind::Top,
+        list: "output",
+    },
+    KindRow {
+        kind: Kind::Label,
+        name: "label",
+        article: "a label",
+        holder: Kind::Output,
+        list: "label",
+    },
+    KindRow {
+        kind: Kind::Certificate,
+        name: "the certificate",
+        article: "a certificate",
+        holder: Kind::None,
+        list: "",
+    },
+    KindRow {
+        kind: Kind::InputClaim,
+        name: "input",
+        article: "a member of `inputs`",
+        holder: Kind::Certificate,
+        list: "inputs",
+    },
+    KindRow {
+        kind: Kind::OutputClaim,
+        name: "output",
+        article: "a member of `outputs`",
+        holder: Kind::Certificate,
+        list: "outputs",
+    },
+    KindRow {
+        kind: Kind::LabelClaim,
+        name: "label",
+        article: "a member of `labels`",
+        holder: Kind::Certificate,
+        list: "labels",
+    },
+    KindRow {
+        kind: Kind::System,
+        name: "the system",
+        article: "a system",
+        holder: Kind::None,
+        list: "",
+    },
+    KindRow {
+        kind: Kind::Concentrator,
+        name: "concentrator",
+        article: "a concentrator",
+        holder: Kind::System,
+        list: "concentrator",
+    },
+    KindRow {
+        kind: Kind::Link,
+        name: "link",
+        article: "a link",
+        holder: Kind::System,
+        list: "link",
+    },
 ];
 
 /// The kinds of objects whose name stands at another key than `name`.
@@ -114,9 +169,9 @@ pub fn naming(kind: Kind) -> &'static str {
 
 /// What a table of a kind is called, and that with its article.
 pub fn called(kind: Kind) -> (&'static str, &'static str) {
-    for (own, name, article, _, _) in &KINDS {
-        if *own == kind {
-            return (name, article);
+    for row in &KINDS {
+        if row.kind == kind {
+            return (row.name, row.article);
         }
     }
     ("table", "a table")
@@ -124,9 +179,9 @@ pub fn called(kind: Kind) -> (&'static str, &'static str) {
 
 /// The kind of the tables that a list at this key of a table holds.
 pub fn kind_at(parent: Kind, key: &[u8]) -> Kind {
-    for (kind, _, _, holder, list) in &KINDS {
-        if *holder == parent && list.as_bytes() == key {
-            return *kind;
+    for row in &KINDS {
+        if row.holder == parent && row.list.as_bytes() == key {
+            return row.kind;
         }
     }
     Kind::None
@@ -145,5 +200,5 @@ pub fn top_of(kind: Kind) -> Kind {
 
 /// Whether a kind is one of certificates, and not of tables or of a system.
 pub fn is_of_certificate(kind: Kind) -> bool {
-    top_of(kind) == Kind::Certificate
+    matches!(top_of(kind), Kind::Certificate)
 }

@@ -24,7 +24,7 @@ pub struct Row {
 }
 
 /// How a key is written.
-#[derive(Clone, Copy, PartialEq, Eq)]
+#[derive(Clone, Copy)]
 pub enum Form {
     /// `key = value`
     Value,

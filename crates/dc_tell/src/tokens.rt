@@ -2,7 +2,7 @@
 use std::alloc::Global;
 
 /// What a token is.
-#[derive(Clone, Copy, PartialEq, Eq)]
+#[derive(Clone, Copy)]
 pub enum Token {
     /// `[`
     Open,
@@ -25,7 +25,7 @@ pub enum Token {
 }
 
 /// A piece of a text, from one byte up to another.
-#[derive(Clone, Copy, PartialEq, Eq)]
+#[derive(Clone, Copy)]
 pub struct Span {
     /// Its first byte.
     pub from: usize,

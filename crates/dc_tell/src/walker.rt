@@ -40,26 +40,16 @@ struct Walker<'a> {
 }
 
 impl<'a> Walker<'a> {
-    /// The number of the last table of a kind among all.
-    fn last_of(&self, kind: Kind) -> Option<usize> {
-        let mut last = None;
+    /// The number of the last table of a kind among all, and how many there are of that kind.
+    fn last_of(&self, kind: Kind) -> (Option<usize>, usize) {
+        let (mut last, mut count) = (None, 0usize);
         for (number, row) in self.layout.rows.iter().enumerate() {
             if row.kind == kind {
                 last = Some(number);
+                count = count.saturating_add(1);
             }
         }
-        last
-    }
-
-    /// How many tables of a kind there are so far.
-    fn count(&self, kind: Kind) -> usize {
-        let Some(last) = self.last_of(kind) else {
-            return 0;
-        };
-        match self.layout.rows.get(last) {
-            None => 0,
-            Some(row) => row.index.saturating_add(1),
-        }
+        (last, count)
     }
 
     /// Adds a table of a kind in a table, or what stands in its place; nothing where it is of no kind.
@@ -70,10 +60,10 @@ impl<'a> Walker<'a> {
         at: Span,
         is_table: bool,
     ) -> Option<usize> {
-        if kind == Kind::None {
+        if matches!(kind, Kind::None) {
             return None;
         }
-        let index = self.count(kind);
+        let (_, index) = self.last_of(kind);
         let first = self.layout.keys.len();
         let number = self.layout.rows.len();
         let row = Row {
@@ -130,9 +120,9 @@ impl<'a> Walker<'a> {
         let text = self.layout.piece(path);
         for (dot, byte) in text.iter().enumerate() {
             if *byte == b'.' {
-                let kind = kind_at(Kind::Top, text.get(..dot).unwrap_or(b""));
                 let from = path.from.saturating_add(dot).saturating_add(1);
-                return (self.last_of(kind), Span { from, to: path.to });
+                let (row, _) = self.last_of(kind_at(Kind::Top, text.get(..dot).unwrap_or(b"")));
+                return (row, Span { from, to: path.to });
             }
         }
         (Some(0), path)
@@ -161,19 +151,18 @@ impl<'a> Walker<'a> {
         self.state = State::Value(self.layout.keys.len());
         self.add_key(self.row, name, at, Form::Value);
         let kind = self.headed(self.row, name);
-        if self.layout.is_json && kind != Kind::None {
+        if self.layout.is_json && !matches!(kind, Kind::None) {
             self.forget(kind);
         }
     }
 
     /// Lets the value of a key go on up to the end of a token; it begins with it where it has not begun.
     fn grow(&mut self, key: usize, token: Span) {
-        let from = match self.layout.keys.get(key) {
-            Some(it) if it.value.from != it.value.to => it.value.from,
-            _ => token.from,
-        };
         if let Some(it) = self.layout.keys.get_mut(key) {
-            it.value = Span { from, to: token.to };
+            if it.value.from == it.value.to {
+                it.value.from = token.from;
+            }
+            it.value.to = token.to;
         }
     }
 
@@ -185,7 +174,7 @@ impl<'a> Walker<'a> {
         if nest.is_table {
             return None;
         }
-        if nest.is_list && nest.of == Kind::None {
+        if nest.is_list && matches!(nest.of, Kind::None) {
             if self.layout.members.push(span).is_err() {
                 self.is_lost = true;
             }
@@ -233,7 +222,7 @@ impl<'a> Walker<'a> {
         self.row = nest.row;
         self.grow(nest.key, span);
         self.state = State::Value(nest.key);
-        let is_member = matches!(self.nests.last(), Some(outer) if outer.of != Kind::None);
+        let is_member = matches!(self.nests.last(), Some(outer) if !matches!(outer.of, Kind::None));
         if nest.is_table || !is_member {
             return;
         }
@@ -266,7 +255,10 @@ impl<'a> Walker<'a> {
     fn step(&mut self, token: Token, span: Span) {
         let is_whole = self.layout.is_json && self.nests.is_empty() && self.layout.keys.is_empty();
         match (token, self.state) {
-            (_, State::Start) if is_whole => self.begin_object(token == Token::OpenTable, span),
+            (_, State::Start) if is_whole => self.begin_object(
+                matches!(token, Token::OpenTable),
+                span,
+            ),
             (Token::Line, _) if self.nests.is_empty() => self.state = State::Start,
             (Token::Comma, _) if matches!(self.nests.last(), Some(nest) if nest.is_table) => {
                 self.state = State::Start;
@@ -279,7 +271,7 @@ impl<'a> Walker<'a> {
                 let _ = self.take_member(span, false);
             }
             (Token::Open | Token::OpenTable, State::Value(key)) => {
-                self.open(token == Token::OpenTable, span, key);
+                self.open(matches!(token, Token::OpenTable), span, key);
             }
             _ => {}
         }
@@ -288,31 +280,36 @@ impl<'a> Walker<'a> {
     /// Notes whether a text has an escape sequence.
     fn note_escapes(&mut self, token: Token, span: Span) {
         let piece = self.layout.piece(span);
-        if token == Token::Text && piece.first() == Some(&b'"') && piece.contains(&b'\\') {
+        if matches!(token, Token::Text) && piece.starts_with(b"\"") && piece.contains(&b'\\') {
             self.layout.is_escaped = true;
         }
     }
-}
 
-/// The token of this number, where there is one.
-fn token_at(tokens: &[(Token, Span)], number: usize) -> Option<(Token, Span)> {
-    match tokens.get(number) {
-        None => None,
-        Some(token) => Some(*token),
+    /// Takes the tokens of a text, and what heads its tables.
+    fn walk(&mut self, tokens: &[(Token, Span)]) {
+        for (number, (token, span)) in tokens.iter().enumerate() {
+            self.note_escapes(*token, *span);
+            let begins = matches!(*token, Token::Open)
+                && !self.layout.is_json
+                && self.nests.is_empty()
+                && matches!(self.state, State::Start);
+            match heading(tokens, number) {
+                Some((path, form)) if begins => self.head(*span, path, form),
+                _ => self.step(*token, *span),
+            }
+        }
     }
 }
 
 /// The path of the heading that begins with this token, where one does: `[[path]]` or `[path]`.
 fn heading(tokens: &[(Token, Span)], number: usize) -> Option<(Span, Form)> {
-    let Some((second, path)) = token_at(tokens, number.saturating_add(1)) else {
-        return None;
-    };
-    if second != Token::Open {
-        return Some((path, Form::Head));
-    }
-    match token_at(tokens, number.saturating_add(2)) {
+    match tokens.get(number.saturating_add(1)) {
         None => None,
-        Some((_, path)) => Some((path, Form::Heads)),
+        Some((Token::Open, _)) => match tokens.get(number.saturating_add(2)) {
+            None => None,
+            Some((_, path)) => Some((*path, Form::Heads)),
+        },
+        Some((_, path)) => Some((*path, Form::Head)),
     }
 }
 
@@ -343,17 +340,7 @@ pub fn layout_below<'a>(alloc: Global, text: &'a [u8], top: Kind) -> Option<Layo
     };
     let mut walker = begin(alloc, text, is_json);
     let _ = walker.add_row(top, None, Span { from: 0, to: 0 }, true);
-    for (number, (token, span)) in tokens.iter().enumerate() {
-        walker.note_escapes(*token, *span);
-        let begins = *token == Token::Open
-            && !is_json
-            && walker.nests.is_empty()
-            && matches!(walker.state, State::Start);
-        match heading(tokens.as_slice(), number) {
-            Some((path, form)) if begins => walker.head(*span, path, form),
-            _ => walker.step(*token, *span),
-        }
-    }
+    walker.walk(tokens.as_slice());
     let Walker {
         layout,
         is_lost,
