@@ -8,7 +8,7 @@ mod shape;
 mod values;
 mod wanted;
 
-pub use keys::{Sort, Wanted, key_of};
+pub use keys::{Sort, Wanted, keys_of};
 pub use refused::{Fact, Refused};
 pub use shape::{tell_absent, tell_no_table, tell_unknown, tell_version};
 pub use values::{Misfit, number};

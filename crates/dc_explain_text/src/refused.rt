@@ -1,9 +1,8 @@
 //! A text that was refused, and what is told of it.
-use crate::keys::keys_of;
+use crate::keys::{is_late, keys_of};
 use crate::values::number;
 use dc_tell::{
-    Explanation, File, Form, Key, Kind, Layout, Names, Span, Value, called, naming, place_at,
-    unquoted,
+    Explanation, File, Form, Kind, Layout, Names, Span, Value, called, naming, place_at,
 };
 use std::alloc::Global;
 
@@ -27,6 +26,8 @@ pub struct Refused<'a> {
 pub enum Fact {
     /// A number.
     Number(u64),
+    /// The number at a key of a table; 0 where there is none.
+    Count(usize, &'static str),
     /// So many of what the first word names in the singular, the second in the plural.
     Several(u64, &'static str, &'static str),
     /// A word.
@@ -127,9 +128,15 @@ impl<'a> Refused<'a> {
         names
     }
 
-    /// The names of the keys of the table with the fault.
-    pub fn keys(&mut self) -> Names<'static> {
-        let names = keys_of(self.alloc, self.kind(self.row), self.is_policed());
+    /// The names of the keys of the table with the fault, in their order.
+    pub(crate) fn keys(&mut self) -> Names<'static> {
+        let is_policed = self.is_policed();
+        let mut names = Names::new(self.alloc);
+        for wanted in keys_of(self.kind(self.row)) {
+            if is_policed || !is_late(wanted.name) {
+                names.add(wanted.name);
+            }
+        }
         if names.is_lost() {
             self.out.lose();
         }
@@ -138,20 +145,21 @@ impl<'a> Refused<'a> {
 
     /// Writes a table by its kind and its name, or the two values that it has for one; by its number where it has none.
     fn put_row(&mut self, row: usize) {
-        let Some(it) = self.layout.rows.get(row).copied() else {
-            return;
+        let (kind, index) = match self.layout.rows.get(row) {
+            None => return,
+            Some(it) => (it.kind, it.index),
         };
-        let (kind, _) = called(it.kind);
-        self.out.put(Value::Text(kind));
+        let (word, _) = called(kind);
+        self.out.add(word);
         if row == 0 {
             return;
         }
-        let (key, other, sentence) = naming_of(it.kind);
+        let (key, other, sentence) = naming_of(kind);
         let name = self.layout.value(row, key);
         let behind = self.layout.value(row, other);
         if name.is_empty() || (!other.is_empty() && behind.is_empty()) {
-            let number = (it.index as u64).saturating_add(1);
-            let count = self.tables_of(it.kind) as u64;
+            let number = (index as u64).saturating_add(1);
+            let count = self.tables_of(kind) as u64;
             self.out.say(" {} of {}", &[Value::Number(number), Value::Number(count)]);
         } else {
             let names = [Value::Brief(name), Value::Brief(behind)];
@@ -161,41 +169,59 @@ impl<'a> Refused<'a> {
 
     /// The value at a key of a table, the key where it heads tables, or the table itself where it has no such key.
     pub fn place(&self, row: usize, key: &str) -> usize {
-        if let Some(key) = self.layout.key(row, key.as_bytes()) {
-            return place_of(key);
-        }
-        match self.layout.rows.get(row) {
-            None => 0,
-            Some(it) => it.at.from,
+        match self.layout.key(row, key.as_bytes()) {
+            Some(key) if matches!(key.form, Form::Value) => key.value.from,
+            Some(key) => key.name.from,
+            None => match self.layout.rows.get(row) {
+                None => 0,
+                Some(it) => it.at.from,
+            },
         }
     }
 
     /// Writes a fact.
     fn put(&mut self, fact: Fact) {
-        match fact {
-            Fact::Number(number) => self.out.put(Value::Number(number)),
-            Fact::Several(count, one, many) => self.out.put(Value::Several(count, one, many)),
-            Fact::Word(word) => self.out.put(Value::Text(word)),
-            Fact::Row(row) => self.put_row(row),
-            Fact::At(row, key) => {
-                let value = self.layout.value(row, key);
-                self.out.put(Value::Brief(value));
-            }
-            Fact::Piece(span) => {
-                let piece = self.layout.piece(span);
-                self.out.put(Value::Brief(piece));
-            }
+        let value = match fact {
+            Fact::Number(number) => Value::Number(number),
+            Fact::Count(row, key) => Value::Number(self.count(row, key)),
+            Fact::Several(count, one, many) => Value::Several(count, one, many),
+            Fact::Word(word) => Value::Text(word),
+            Fact::Row(row) => return self.put_row(row),
+            Fact::At(row, key) => Value::Brief(self.layout.value(row, key)),
+            Fact::Piece(span) => Value::Brief(self.layout.piece(span)),
             Fact::Line(row, key) => {
                 let place = place_at(self.file.text, self.place(row, key));
-                self.out.put(Value::Number(place.line as u64));
+                Value::Number(place.line as u64)
             }
             Fact::Place(row, key) => {
                 let place = self.place(row, key);
-                self.out.at(self.file, place);
+                return self.out.at(self.file, place);
             }
-            Fact::Here(span) => self.out.at(self.file, span.from),
-            Fact::If(_) => {}
+            Fact::Here(span) => return self.out.at(self.file, span.from),
+            Fact::If(_) => return,
+        };
+        self.out.put(value);
+    }
+
+    /// Goes on with a line, of which each `{}` is a hole for the next of these facts; without a word where it is not told.
+    /// How many holes it has.
+    fn say_line(&mut self, line: &str, facts: &[Fact], is_told: bool) -> usize {
+        let mut holes = 0usize;
+        for (number, piece) in line.split("{}").enumerate() {
+            holes = number;
+            if !is_told {
+                continue;
+            }
+            if number != 0 {
+                if let Some(fact) = facts.get(number.saturating_sub(1)) {
+                    self.put(*fact);
+                }
+            }
+            if !piece.is_empty() {
+                self.out.add(piece);
+            }
         }
+        holes
     }
 
     /// Goes on in the explanation with a sentence, in which each `{}` is a hole for the next fact; behind a line feed it
@@ -203,39 +229,15 @@ impl<'a> Refused<'a> {
     pub fn say(&mut self, sentence: &'static str, facts: &[Fact]) {
         let mut next = 0usize;
         for (number, line) in sentence.split("\n").enumerate() {
+            let own = facts.get(next..).unwrap_or(&[]);
             let is_guarded = line.as_bytes().starts_with(b"{}");
-            let is_told = !is_guarded || !matches!(facts.get(next), Some(Fact::If(false)));
+            let is_told = !is_guarded || !matches!(own.first(), Some(Fact::If(false)));
             if number != 0 && is_told {
                 self.out.end_line();
-                self.out.put(Value::Text("   = "));
+                self.out.add("   = ");
             }
-            for (hole, piece) in line.split("{}").enumerate() {
-                if hole != 0 {
-                    if let Some(fact) = facts.get(next) {
-                        if is_told {
-                            self.put(*fact);
-                        }
-                    }
-                    next = next.saturating_add(1);
-                }
-                if is_told && !piece.is_empty() {
-                    self.out.put(Value::Text(piece));
-                }
-            }
+            let holes = self.say_line(line, own, is_told);
+            next = next.saturating_add(holes);
         }
     }
-}
-
-/// Where a key is shown: at its value, or at itself where it heads tables.
-pub(crate) fn place_of(key: Key) -> usize {
-    if key.form == Form::Value {
-        key.value.from
-    } else {
-        key.name.from
-    }
-}
-
-/// A key without the quotes round it.
-pub(crate) fn name_of(refused: &Refused<'_>, key: Key) -> Span {
-    unquoted(key.name, refused.layout.text)
 }

@@ -1,8 +1,8 @@
 //! Keys that are unknown or absent, and what stands in the place of a table.
-use crate::keys::{Sort, key_of, other_with};
-use crate::refused::{Fact, Refused, name_of};
+use crate::keys::{Sort, Wanted, is_late, key_of, keys_of, other_with};
+use crate::refused::{Fact, Refused};
 use crate::wanted::tell_wanted;
-use dc_tell::{Form, Key, Kind, Span, Value, called, top_of};
+use dc_tell::{Form, Key, Kind, Span, Value, called, top_of, unquoted};
 
 /// The first key of the table with the fault that is unknown.
 fn unknown_key(refused: &Refused<'_>) -> Option<Key> {
@@ -55,9 +55,9 @@ fn elsewhere(other: Kind, is_list: bool) -> &'static str {
 
 /// Writes what to do with a key that another kind of table has.
 fn tell_elsewhere(refused: &mut Refused<'_>, key: Key, other: Kind) {
-    let sentence = elsewhere(other, key.form != Form::Value);
+    let sentence = elsewhere(other, !matches!(key.form, Form::Value));
     let (_, article) = called(other);
-    let name = name_of(refused, key);
+    let name = unquoted(key.name, refused.layout.text);
     refused.say(sentence, &[Fact::Piece(name)]);
     refused.say(
         "\n{}help: {} has this key: write it in one, or take it out",
@@ -69,8 +69,8 @@ fn tell_elsewhere(refused: &mut Refused<'_>, key: Key, other: Kind) {
 fn tell_keys(refused: &mut Refused<'_>) {
     let (_, article) = called(refused.kind(refused.row));
     let names = refused.keys();
-    refused.out.put(Value::Text(article));
-    refused.out.say(" has ", &[]);
+    refused.out.add(article);
+    refused.out.add(" has ");
     refused.out.put(Value::Names(names.as_slice()));
 }
 
@@ -79,39 +79,21 @@ fn tell_known(refused: &mut Refused<'_>, key: Key) {
     let names = refused.keys();
     let bare = refused.layout.bare(key.name);
     let name = str::from_utf8(bare).unwrap_or("");
-    let is_system = refused.kind(refused.row) == Kind::System;
+    let is_system = matches!(refused.kind(refused.row), Kind::System);
     refused.say(
         "\n{}help: this is a key of tables: name the text of a system, which names the tables of each concentrator\nhelp: ",
         &[Fact::If(is_system && key_of(Kind::Top, bare, true).is_some())],
     );
     if let Some((like, other)) = refused.out.nearest(name, names.as_slice()) {
-        let is_one = other.is_empty();
-        let (and, end) = if is_one {
-            ("", "; ")
+        let sentence = if other.is_empty() {
+            "there is a key `{}`; "
         } else {
-            (" and a key `", "`; ")
+            "there is a key `{}` and a key `{}`; "
         };
-        refused.say(
-            "there is a key `{}`{}{}{}",
-            &[
-                Fact::Word(like),
-                Fact::Word(and),
-                Fact::Word(other),
-                Fact::Word(end),
-            ],
-        );
+        refused.say(sentence, &[Fact::Word(like), Fact::Word(other)]);
     }
     tell_keys(refused);
-    refused.say(" and no other", &[]);
-}
-
-/// How it is told of a key that no table of the texts that have a kind has.
-fn strangers_to(kind: Kind) -> &'static str {
-    match top_of(kind) {
-        Kind::Certificate => "certificates do not know",
-        Kind::System => "systems do not know",
-        _ => "tables do not know",
-    }
+    refused.out.add(" and no other");
 }
 
 /// Tells of a key that is unknown.
@@ -122,45 +104,48 @@ pub fn tell_unknown(refused: &mut Refused<'_>) -> bool {
     let kind = refused.kind(refused.row);
     let bare = refused.layout.bare(key.name);
     let is_late = key_of(kind, bare, true).is_some();
-    let other = other_with(kind, bare, key.form != Form::Value);
-    let what = if is_late || other != Kind::None {
-        "does not belong there"
-    } else {
-        strangers_to(kind)
+    let other = other_with(kind, bare, !matches!(key.form, Form::Value));
+    let is_known = is_late || !matches!(other, Kind::None);
+    let what = match top_of(kind) {
+        _ if is_known => "does not belong there",
+        Kind::Certificate => "certificates do not know",
+        Kind::System => "systems do not know",
+        _ => "tables do not know",
     };
-    let name = name_of(refused, key);
+    let name = unquoted(key.name, refused.layout.text);
     refused.say(
-        "{} has a key `{}` that {}{}",
+        "{} has a key `{}` that {}{}\n{}help: tables of version 2 have this key: write `version = 2` at the top, or take the key out",
         &[
             Fact::Row(refused.row),
             Fact::Piece(name),
             Fact::Word(what),
             Fact::Here(key.name),
+            Fact::If(is_late),
         ],
     );
-    if is_late {
-        refused.say(
-            "\nhelp: tables of version 2 have this key: write `version = 2` at the top, or take the key out",
-            &[],
-        );
-    } else if other != Kind::None {
-        tell_elsewhere(refused, key, other);
-    } else {
+    if !is_known {
         tell_known(refused, key);
+    } else if !is_late {
+        tell_elsewhere(refused, key, other);
     }
     true
 }
 
-/// The first of these keys that the table with the fault lacks. Tables may lack each list of their top, a system its links.
-fn lacked(refused: &Refused<'_>, names: &[&'static str]) -> Option<&'static str> {
-    let is_top = refused.kind(refused.row) == Kind::Top;
-    for name in names {
-        let is_list = is_top && *name != "version" && *name != "tick_us";
-        if is_list || *name == "link" {
-            continue;
-        }
-        if refused.layout.key(refused.row, name.as_bytes()).is_none() {
-            return Some(*name);
+/// Whether a table may lack a key: tables each list of their top, a system its links.
+fn may_lack(wanted: &Wanted, is_policed: bool) -> bool {
+    match wanted.sort {
+        Sort::Tables => matches!(wanted.kind, Kind::Top) || wanted.name == "link",
+        _ => !is_policed && is_late(wanted.name),
+    }
+}
+
+/// The first key that the table with the fault lacks.
+fn lacked(refused: &Refused<'_>) -> Option<Wanted> {
+    let is_policed = refused.is_policed();
+    for wanted in keys_of(refused.kind(refused.row)) {
+        let key = refused.layout.key(refused.row, wanted.name.as_bytes());
+        if key.is_none() && !may_lack(wanted, is_policed) {
+            return Some(*wanted);
         }
     }
     None
@@ -213,18 +198,8 @@ pub(crate) fn tell_usual(refused: &mut Refused<'_>, key: &'static str) {
     let kind = refused.kind(refused.row);
     let (name, _) = called(kind);
     let others = (refused.tables_of(kind) as u64).saturating_sub(1);
-    if others == 1 {
-        refused.say(
-            "; the other {} has {}",
-            &[Fact::Word(name), Fact::At(usual, key)],
-        );
-    } else if others == most {
-        refused.say(
-            "; the other {} tables have {}",
-            &[Fact::Word(name), Fact::At(usual, key)],
-        );
-    } else {
-        refused.say(
+    if others != 1 && others != most {
+        return refused.say(
             "; {} of the {} other {} tables have {}",
             &[
                 Fact::Number(most),
@@ -234,12 +209,18 @@ pub(crate) fn tell_usual(refused: &mut Refused<'_>, key: &'static str) {
             ],
         );
     }
+    let sentence = if others == 1 {
+        "; the other {} has {}"
+    } else {
+        "; the other {} tables have {}"
+    };
+    refused.say(sentence, &[Fact::Word(name), Fact::At(usual, key)]);
 }
 
 /// Where a key of the top stands below a heading.
 fn misplaced(refused: &Refused<'_>, name: &str) -> Option<Span> {
     for key in refused.layout.keys.as_slice() {
-        if key.row == Some(0) || key.form != Form::Value {
+        if key.row == Some(0) || !matches!(key.form, Form::Value) {
             continue;
         }
         if refused.layout.bare(key.name) == name.as_bytes() {
@@ -261,49 +242,46 @@ fn tell_misplaced(refused: &mut Refused<'_>, name: &'static str) {
 }
 
 /// Whether it tells something what others have at a key: `steps` and `within` say something together alone.
-fn has_usual(name: &str, sort: Sort) -> bool {
-    if name == "steps" || name == "within" {
-        return false;
+fn has_usual(wanted: &Wanted) -> bool {
+    match wanted.sort {
+        Sort::Number => wanted.name != "steps" && wanted.name != "within",
+        Sort::Word | Sort::Truth => true,
+        _ => false,
     }
-    sort == Sort::Number || sort == Sort::Word || sort == Sort::Truth
 }
 
 /// Tells of a key that is not there.
 pub fn tell_absent(refused: &mut Refused<'_>) -> bool {
-    let names = refused.keys();
-    let Some(name) = lacked(refused, names.as_slice()) else {
-        return false;
-    };
-    let kind = refused.kind(refused.row);
-    let Some(wanted) = key_of(kind, name.as_bytes(), true) else {
+    let Some(wanted) = lacked(refused) else {
         return false;
     };
     refused.say(
         "{} has no key `{}`{}\nhelp: add `{}` ({}): ",
         &[
             Fact::Row(refused.row),
-            Fact::Word(name),
+            Fact::Word(wanted.name),
             Fact::Place(refused.row, ""),
-            Fact::Word(name),
+            Fact::Word(wanted.name),
             Fact::Word(wanted.meaning),
         ],
     );
     tell_wanted(refused, wanted);
-    if has_usual(name, wanted.sort) {
-        tell_usual(refused, name);
+    if has_usual(&wanted) {
+        tell_usual(refused, wanted.name);
     }
-    if kind == Kind::Top {
-        tell_misplaced(refused, name);
+    if matches!(wanted.kind, Kind::Top) {
+        tell_misplaced(refused, wanted.name);
     }
     true
 }
 
 /// Tells of what stands in the place of a table.
 pub fn tell_no_table(refused: &mut Refused<'_>) -> bool {
-    let Some(row) = refused.layout.rows.get(refused.row).copied() else {
-        return false;
+    let found = match refused.layout.rows.get(refused.row) {
+        None => None,
+        Some(row) => row.instead,
     };
-    let Some(instead) = row.instead else {
+    let Some(instead) = found else {
         return false;
     };
     let what = if refused.layout.is_json {

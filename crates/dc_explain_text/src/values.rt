@@ -1,8 +1,9 @@
 //! Whether what stands at a key is what is wanted there.
 use crate::keys::{Sort, Wanted};
+use dc_tell::{Layout, Span};
 
 /// What is wrong with a value.
-#[derive(Clone, Copy, PartialEq, Eq)]
+#[derive(Clone, Copy)]
 pub enum Misfit {
     /// It is of a wrong kind.
     Kind,
@@ -75,11 +76,6 @@ pub(crate) fn is_text(value: &[u8]) -> bool {
     matches!(value.first(), Some(b'"' | b'\''))
 }
 
-/// Whether a value is a list in brackets.
-fn is_list(value: &[u8]) -> bool {
-    value.first() == Some(&b'[')
-}
-
 /// Whether a value is of the sort that is wanted.
 fn fits_sort(sort: Sort, value: &[u8]) -> bool {
     match sort {
@@ -87,7 +83,7 @@ fn fits_sort(sort: Sort, value: &[u8]) -> bool {
         Sort::Count => is_within(value, 0, GREATEST),
         Sort::Sdi => is_number(value) || is_text(value),
         Sort::Truth => value == b"true".as_slice() || value == b"false".as_slice(),
-        Sort::Names | Sort::Offsets | Sort::Tables | Sort::List => is_list(value),
+        Sort::Names | Sort::Offsets | Sort::Tables | Sort::List => value.starts_with(b"["),
         Sort::Name | Sort::Label | Sort::Equipment | Sort::Word | Sort::File | Sort::End => is_text(
             value,
         ),
@@ -95,7 +91,7 @@ fn fits_sort(sort: Sort, value: &[u8]) -> bool {
 }
 
 /// Whether a number is in its range; a text is in each.
-fn fits_range(wanted: Wanted, value: &[u8]) -> bool {
+fn fits_range(wanted: &Wanted, value: &[u8]) -> bool {
     match wanted.sort {
         Sort::Number => is_within(value, wanted.least, wanted.most),
         Sort::Sdi => is_text(value) || is_within(value, wanted.least, wanted.most),
@@ -105,13 +101,11 @@ fn fits_range(wanted: Wanted, value: &[u8]) -> bool {
 
 /// Whether a byte may stand in a text that is wanted.
 fn may_have(sort: Sort, byte: u8) -> bool {
-    if sort == Sort::Label {
-        return matches!(byte, b'0'..=b'7');
+    match sort {
+        Sort::Label => matches!(byte, b'0'..=b'7'),
+        Sort::Equipment => byte.is_ascii_hexdigit(),
+        _ => byte.is_ascii_alphanumeric() || matches!(byte, b'_' | b'-'),
     }
-    if sort == Sort::Equipment {
-        return byte.is_ascii_hexdigit();
-    }
-    byte.is_ascii_alphanumeric() || matches!(byte, b'_' | b'-')
 }
 
 /// How many bytes of a text may stand there, before the first that may not; nothing where all may.
@@ -161,7 +155,7 @@ fn is_spelled(sort: Sort, text: &[u8]) -> bool {
 }
 
 /// Whether a text is in the spelling that is wanted.
-fn fits_spelling(wanted: Wanted, text: &[u8]) -> bool {
+fn fits_spelling(wanted: &Wanted, text: &[u8]) -> bool {
     match wanted.sort {
         Sort::Name | Sort::Label | Sort::Equipment => is_spelled(wanted.sort, text),
         Sort::Word => is_among(text, wanted.what),
@@ -171,17 +165,18 @@ fn fits_spelling(wanted: Wanted, text: &[u8]) -> bool {
     }
 }
 
-/// Whether a value, and what it says without its quotes, keeps a rule.
-pub(crate) fn keeps(rule: Misfit, wanted: Wanted, value: &[u8], bare: &[u8]) -> bool {
+/// Whether a value keeps a rule; a text is spelled as it is without its quotes.
+pub(crate) fn keeps(rule: Misfit, wanted: &Wanted, layout: &Layout<'_>, value: Span) -> bool {
+    let piece = layout.piece(value);
     match rule {
-        Misfit::Kind => fits_sort(wanted.sort, value),
-        Misfit::Range => fits_range(wanted, value),
-        Misfit::Spelling => !is_text(value) || fits_spelling(wanted, bare),
+        Misfit::Kind => fits_sort(wanted.sort, piece),
+        Misfit::Range => fits_range(wanted, piece),
+        Misfit::Spelling => !is_text(piece) || fits_spelling(wanted, layout.bare(value)),
     }
 }
 
 /// What is wanted of the members of a list, where they are no tables.
-pub(crate) fn member_of(wanted: Wanted) -> Option<Wanted> {
+pub(crate) fn member_of(wanted: &Wanted) -> Option<Wanted> {
     let (sort, most, what) = match wanted.sort {
         Sort::Names => (Sort::Name, 0, ""),
         Sort::Offsets => (Sort::Number, 99_999, "ticks"),
@@ -192,6 +187,6 @@ pub(crate) fn member_of(wanted: Wanted) -> Option<Wanted> {
         least: 0,
         most,
         what,
-        meaning: wanted.meaning,
+        ..*wanted
     })
 }

@@ -1,9 +1,9 @@
 //! Values that are not what is wanted at their key.
-use crate::keys::{Sort, Wanted, key_of};
+use crate::keys::{Sort, Wanted, is_late, keys_of};
 use crate::refused::{Fact, Refused};
 use crate::shape::tell_usual;
 use crate::values::{Misfit, keeps, member_of, wrong_at};
-use dc_tell::{Form, Key, Span, Value, unquoted};
+use dc_tell::{Form, Key, Span, unquoted};
 
 /// The sorts of values: what is wanted, by the least, the most and what it is of; what a value is not that is no such;
 /// and what a letter is not that may not stand there.
@@ -115,8 +115,8 @@ pub fn tell_wanted(refused: &mut Refused<'_>, wanted: Wanted) {
             Fact::Word(wanted.what),
         ],
     );
-    if wanted.sort == Sort::Word || wanted.sort == Sort::End {
-        refused.out.put(Value::Text(wanted.what));
+    if matches!(wanted.sort, Sort::Word | Sort::End) {
+        refused.out.add(wanted.what);
     }
 }
 
@@ -175,76 +175,61 @@ fn tell_letter(refused: &mut Refused<'_>, sort: Sort, value: Span) {
 
 /// Writes what a value is not, by the rule that it breaks, and shows it.
 fn tell_wrong(refused: &mut Refused<'_>, rule: Misfit, sort: Sort, value: Span) {
-    if rule == Misfit::Spelling {
-        return tell_letter(refused, sort, value);
-    }
     let (_, instead, _) = texts_of(sort);
-    let is_range = rule == Misfit::Range;
-    let sentence = if is_range {
-        "which is out of its range{}"
-    } else {
-        instead
+    let sentence = match rule {
+        Misfit::Spelling => return tell_letter(refused, sort, value),
+        Misfit::Range => "which is out of its range{}",
+        Misfit::Kind => instead,
     };
     refused.say(sentence, &[Fact::Here(value)]);
 }
 
-/// A value that breaks a rule: its key, the member of the list at it that does, or the value itself, and what is wanted.
+/// The value at a key, or the member of the list there, that breaks a rule, and of which sort it is to be.
 fn misfit_at(
     refused: &Refused<'_>,
     rule: Misfit,
     key: Key,
-    wanted: Wanted,
-) -> Option<(Span, Wanted)> {
+    wanted: &Wanted,
+) -> Option<(Span, Sort)> {
     let layout = &refused.layout;
-    let is_headed = key.form != Form::Value;
-    if is_headed
-        && rule == Misfit::Kind
-        && (key.form == Form::Head || wanted.sort != Sort::Tables)
-    {
-        return Some((key.name, wanted));
-    }
-    if !is_headed
-        && !keeps(
-            rule,
-            wanted,
-            layout.piece(key.value),
-            layout.bare(key.value),
-        )
-    {
-        return Some((key.value, wanted));
+    match key.form {
+        Form::Value if !keeps(rule, wanted, layout, key.value) => {
+            return Some((key.value, wanted.sort));
+        }
+        Form::Heads if matches!(rule, Misfit::Kind) && !matches!(wanted.sort, Sort::Tables) => {
+            return Some((key.name, wanted.sort));
+        }
+        Form::Head if matches!(rule, Misfit::Kind) => return Some((key.name, wanted.sort)),
+        _ => {}
     }
     let Some(inner) = member_of(wanted) else {
         return None;
     };
-    for member in layout
-        .members
-        .as_slice()
-        .get(key.first..key.last)
-        .unwrap_or(&[])
-    {
-        if !keeps(rule, inner, layout.piece(*member), layout.bare(*member)) {
-            return Some((*member, inner));
+    let members = layout.members.as_slice();
+    for member in members.get(key.first..key.last).unwrap_or(&[]) {
+        if !keeps(rule, &inner, layout, *member) {
+            return Some((*member, inner.sort));
         }
     }
     None
 }
 
-/// The first value of the table with the fault that breaks a rule: its key with its name and what is wanted there, and
-/// the value or member that does with what is wanted of that.
-type Found = (&'static str, Key, Wanted, Span, Wanted);
+/// A value of the table with the fault that breaks a rule: its key, what is wanted there, and the value or the member that
+/// does, with the sort of which that is to be.
+type Found = (Key, Wanted, Span, Sort);
 
-/// The first value of the table with the fault that breaks a rule, at one of these keys.
-fn first_misfit(refused: &Refused<'_>, rule: Misfit, names: &[&'static str]) -> Option<Found> {
-    let kind = refused.kind(refused.row);
-    for name in names {
-        let Some(key) = refused.layout.key(refused.row, name.as_bytes()) else {
+/// The first value of the table with the fault that breaks a rule.
+fn first_misfit(refused: &Refused<'_>, rule: Misfit) -> Option<Found> {
+    let is_policed = refused.is_policed();
+    for wanted in keys_of(refused.kind(refused.row)) {
+        if !is_policed && is_late(wanted.name) {
+            continue;
+        }
+        let Some(key) = refused.layout.key(refused.row, wanted.name.as_bytes()) else {
             continue;
         };
-        let Some(wanted) = key_of(kind, name.as_bytes(), true) else {
-            continue;
-        };
-        if let Some((value, inner)) = misfit_at(refused, rule, key, wanted) {
-            return Some((*name, key, wanted, value, inner));
+        if let Some((value, sort)) = misfit_at(refused, rule, key, wanted) {
+            return Some((key, *wanted, value, sort));
         }
     }
     None
@@ -255,16 +240,14 @@ fn value_words(key: Key, value: Span) -> &'static str {
     match key.form {
         Form::Head => " is one table, headed `[{}]`, ",
         Form::Heads => " is a list of tables, headed `[[{}]]`, ",
-        Form::Value if value != key.value => " has the member {}, ",
+        Form::Value if value.from != key.value.from => " has the member {}, ",
         Form::Value => " is {}, ",
     }
 }
 
 /// Tells of a value of a wrong kind, out of its range or spelled wrongly.
 pub fn tell_misfit(refused: &mut Refused<'_>, rule: Misfit) -> bool {
-    let names = refused.keys();
-    let found = first_misfit(refused, rule, names.as_slice());
-    let Some((name, key, wanted, value, inner)) = found else {
+    let Some((key, wanted, value, sort)) = first_misfit(refused, rule) else {
         return false;
     };
     let owner = if refused.row == 0 {
@@ -272,19 +255,19 @@ pub fn tell_misfit(refused: &mut Refused<'_>, rule: Misfit) -> bool {
     } else {
         "`{}` of {}"
     };
-    refused.say(owner, &[Fact::Word(name), Fact::Row(refused.row)]);
+    refused.say(owner, &[Fact::Word(wanted.name), Fact::Row(refused.row)]);
     refused.say(value_words(key, value), &[Fact::Piece(value)]);
-    tell_wrong(refused, rule, inner.sort, value);
+    tell_wrong(refused, rule, sort, value);
     refused.say(
         "\nhelp: write `{}` ({}) as ",
-        &[Fact::Word(name), Fact::Word(wanted.meaning)],
+        &[Fact::Word(wanted.name), Fact::Word(wanted.meaning)],
     );
     tell_wanted(refused, wanted);
-    if wanted.sort == Sort::Names {
-        refused.say("; a name is 1 to 16 of A-Z a-z 0-9 _ -", &[]);
+    if matches!(wanted.sort, Sort::Names) {
+        refused.out.add("; a name is 1 to 16 of A-Z a-z 0-9 _ -");
     }
-    if rule == Misfit::Range {
-        tell_usual(refused, name);
+    if matches!(rule, Misfit::Range) {
+        tell_usual(refused, wanted.name);
     }
     true
 }
