@@ -1,5 +1,5 @@
 //! Lists that are empty or too long, and totals that are passed.
-use dc_explain_text::{Fact, Refused, Sort, Wanted, key_of, tell_wanted};
+use dc_explain_text::{Fact, Refused, Sort, Wanted, keys_of, tell_wanted};
 use dc_tell::{Kind, kind_at};
 
 /// The most streams of all buses, the most labels of all outputs, and the most offsets of one output.
@@ -16,15 +16,15 @@ fn tables_in(refused: &Refused<'_>, kind: Kind) -> u64 {
     count
 }
 
-/// How many members the list at a key has; none where it is no list.
-fn members_at(refused: &Refused<'_>, name: &str, sort: Sort) -> Option<u64> {
-    match sort {
-        Sort::Names | Sort::Offsets => Some(refused.layout.members(refused.row, name).len() as u64),
-        Sort::Tables => {
-            let kind = kind_at(refused.kind(refused.row), name.as_bytes());
-            Some(tables_in(refused, kind))
-        }
-        _ => None,
+/// How many members the list at a key has; the fewest that it may have where it is no list.
+fn members_at(refused: &Refused<'_>, wanted: &Wanted) -> u64 {
+    match wanted.sort {
+        Sort::Names | Sort::Offsets => refused
+            .layout
+            .members(refused.row, wanted.name)
+            .len() as u64,
+        Sort::Tables => tables_in(refused, kind_at(wanted.kind, wanted.name.as_bytes())),
+        _ => wanted.least,
     }
 }
 
@@ -43,11 +43,11 @@ fn offsets_in(refused: &Refused<'_>, output: usize) -> u64 {
 fn total_past(refused: &Refused<'_>) -> Option<(u64, &'static str)> {
     let kind = refused.kind(refused.row);
     let streams = refused.tables_of(Kind::Stream) as u64;
-    if kind == Kind::Bus && streams > MOST_IN_ALL {
+    if matches!(kind, Kind::Bus) && streams > MOST_IN_ALL {
         return Some((streams, "streams in the whole file"));
     }
     let labels = refused.tables_of(Kind::Label) as u64;
-    if kind == Kind::Output && labels > MOST_IN_ALL {
+    if matches!(kind, Kind::Output) && labels > MOST_IN_ALL {
         return Some((labels, "labels in the whole file"));
     }
     let offsets = offsets_in(refused, refused.row);
@@ -57,18 +57,19 @@ fn total_past(refused: &Refused<'_>) -> Option<(u64, &'static str)> {
     None
 }
 
-/// The first list of the table with the fault that is empty or too long: its key, what is wanted, and its members.
-fn list_past(refused: &Refused<'_>, keys: &[&'static str]) -> Option<(&'static str, Wanted, u64)> {
-    for name in keys {
-        let Some(wanted) = key_of(refused.kind(refused.row), name.as_bytes(), true) else {
-            continue;
-        };
-        let Some(count) = members_at(refused, name, wanted.sort) else {
-            continue;
-        };
-        let is_there = refused.layout.key(refused.row, name.as_bytes()).is_some();
-        if is_there && (count < wanted.least || count > wanted.most) {
-            return Some((*name, wanted, count));
+/// The first list of the table with the fault that is empty or too long: its key with what is wanted there, and how many
+/// members it has.
+fn list_past(refused: &Refused<'_>) -> Option<(Wanted, u64)> {
+    for wanted in keys_of(refused.kind(refused.row)) {
+        let count = members_at(refused, wanted);
+        let is_past = count < wanted.least || count > wanted.most;
+        if is_past
+            && refused
+                .layout
+                .key(refused.row, wanted.name.as_bytes())
+                .is_some()
+        {
+            return Some((*wanted, count));
         }
     }
     None
@@ -96,8 +97,7 @@ fn tell_total(refused: &mut Refused<'_>) -> bool {
 /// Tells of a list that is empty or too long, or of a total that is passed.
 pub fn tell_count(refused: &mut Refused<'_>) -> bool {
     let row = refused.row;
-    let keys = refused.keys();
-    let Some((name, wanted, count)) = list_past(refused, keys.as_slice()) else {
+    let Some((wanted, count)) = list_past(refused) else {
         return tell_total(refused);
     };
     let how = if count == 0 {
@@ -108,12 +108,12 @@ pub fn tell_count(refused: &mut Refused<'_>) -> bool {
     refused.say(
         "`{}` of {} has {}, {}{}\nhelp: write `{}` as ",
         &[
-            Fact::Word(name),
+            Fact::Word(wanted.name),
             Fact::Row(row),
             Fact::Several(count, "member", "members"),
             Fact::Word(how),
-            Fact::Place(row, name),
-            Fact::Word(name),
+            Fact::Place(row, wanted.name),
+            Fact::Word(wanted.name),
         ],
     );
     tell_wanted(refused, wanted);

@@ -66,16 +66,16 @@ fn printed(text: &str) -> Option<&'static str> {
 
 /// Whether a line begins a table of TOML, or gives a key a value.
 fn is_toml_line(line: &str) -> bool {
-    let inner = line.trim_start_matches('[');
-    let begins = inner.starts_with(|letter: char| letter.is_ascii_alphabetic());
+    let inner = line.trim_start_matches('[').as_bytes();
+    let begins = matches!(inner.first(), Some(byte) if byte.is_ascii_alphabetic());
     if begins && inner.len() < line.len() {
         return true;
     }
-    for letter in line.chars() {
-        if letter == '=' {
+    for byte in line.as_bytes() {
+        if *byte == b'=' {
             return true;
         }
-        if !letter.is_ascii_alphanumeric() && !matches!(letter, '_' | '-' | ' ' | '\t') {
+        if !byte.is_ascii_alphanumeric() && !matches!(*byte, b'_' | b'-' | b' ' | b'\t') {
             return false;
         }
     }
@@ -97,7 +97,7 @@ fn is_tables(text: &str) -> bool {
 fn tell_empty(refused: &mut Refused<'_>) {
     refused
         .out
-        .say("the text is empty, and a certificate is wanted", &[]);
+        .add("the text is empty, and a certificate is wanted");
     refused.out.name_file(refused.file.name);
     refused.say(
         "\nhelp: let `dc429 find TABLES > FILE` write one, and see that it ends with status 0",

@@ -6,16 +6,13 @@ use dc_tell::{Kind, Names, Span, Value, called, unquoted};
 /// How many other tables with the same fault are named.
 const NAMED: usize = 4;
 
-/// Whether a stream or a label names a parameter.
-fn is_named(refused: &Refused<'_>, parameter: usize) -> bool {
-    alike(refused, Kind::Stream, parameter, "label", "equipment").is_some()
-        || alike(refused, Kind::Label, parameter, "label", "equipment").is_some()
-}
-
 /// The first parameter that no stream and no label names.
 fn unnamed_parameter(refused: &Refused<'_>) -> Option<usize> {
     for (row, it) in refused.layout.rows.iter().enumerate() {
-        if it.kind == Kind::Parameter && !is_named(refused, row) {
+        if matches!(it.kind, Kind::Parameter)
+            && alike(refused, Kind::Stream, row, "label", "equipment").is_none()
+            && alike(refused, Kind::Label, row, "label", "equipment").is_none()
+        {
             return Some(row);
         }
     }
@@ -26,8 +23,7 @@ fn unnamed_parameter(refused: &Refused<'_>) -> Option<usize> {
 pub(crate) fn tell_orphans(refused: &mut Refused<'_>, sentence: &'static str) {
     let mut count = 0usize;
     for row in 0..refused.layout.rows.len() {
-        let kind = refused.kind(row);
-        if kind != Kind::Stream && kind != Kind::Label {
+        if !matches!(refused.kind(row), Kind::Stream | Kind::Label) {
             continue;
         }
         if row == refused.row || parameter_of(refused, row).is_some() {
@@ -55,7 +51,7 @@ pub(crate) fn tell_orphans(refused: &mut Refused<'_>, sentence: &'static str) {
 }
 
 /// Tells of a parameter that is not there.
-pub(crate) fn tell_no_parameter(refused: &mut Refused<'_>) {
+pub(crate) fn tell_no_parameter(refused: &mut Refused<'_>) -> bool {
     let row = refused.row;
     let own = alike(refused, Kind::Parameter, row, "label", "");
     let other = own.unwrap_or(row);
@@ -83,6 +79,7 @@ pub(crate) fn tell_no_parameter(refused: &mut Refused<'_>) {
         refused,
         "\nnote: {} in line {} has none either, with label {} and equipment code {}",
     );
+    true
 }
 
 /// Whether a table may stand in the list at a key in the place of one that is not there: it does not stand there already,
@@ -93,7 +90,7 @@ fn may_stand(refused: &Refused<'_>, key: &str, row: usize) -> bool {
     if member(refused, refused.row, key, name).is_some() {
         return false;
     }
-    if refused.kind(row) == Kind::Bus {
+    if matches!(refused.kind(row), Kind::Bus) {
         return lister(refused, Kind::Router, "visits", 0, name).is_none();
     }
     if !agree(refused, refused.row, row, "label") {
@@ -124,15 +121,15 @@ static NAMED_KINDS: [Kind; 5] = [
     Kind::Label,
 ];
 
-/// What a table of another kind is, with its article, that has this name, where one has.
-fn other_kind(refused: &Refused<'_>, name: Span) -> Option<&'static str> {
+/// What a table is, with its article, that has this name, of whatever kind; empty where none has.
+fn other_kind(refused: &Refused<'_>, name: Span) -> &'static str {
     for kind in &NAMED_KINDS {
         if refused.named(*kind, refused.layout.piece(name)).is_some() {
             let (_, article) = called(*kind);
-            return Some(article);
+            return article;
         }
     }
-    None
+    ""
 }
 
 /// The name that may be meant by one that no table has: the only one that may stand in its place, or one that is like it,
@@ -156,18 +153,20 @@ fn tell_meant(refused: &mut Refused<'_>, kind: Kind, name: &str, which: &'static
     };
     let is_used = lister(refused, Kind::Label, "sources", 0, name.as_bytes()).is_some();
     let is_own = agree(refused, refused.row, row, "equipment");
+    let is_stream = matches!(kind, Kind::Stream);
+    let rename = if is_stream && is_used {
+        ""
+    } else {
+        ", or rename it there"
+    };
     refused.say(
         "\nhelp: there is {} {}, in line {}: write its name here, if it is meant{}\n{}note: its equipment code is {}, and that of {} is {}: by another code a label may have another meaning",
         &[
             Fact::Row(row),
             Fact::Word(which),
             Fact::Line(row, "name"),
-            Fact::Word(if kind == Kind::Stream && is_used {
-                ""
-            } else {
-                ", or rename it there"
-            }),
-            Fact::If(kind == Kind::Stream && !is_own),
+            Fact::Word(rename),
+            Fact::If(is_stream && !is_own),
             Fact::At(row, "equipment"),
             Fact::Row(refused.row),
             Fact::At(refused.row, "equipment"),
@@ -182,38 +181,43 @@ fn tell_none(refused: &mut Refused<'_>, kind: Kind) {
     refused.say(
         "\n{}help: there is no bus that no router visits: take the name out\n{}help: there is no other stream of label {} and format {}, as this label wants them: take the name out",
         &[
-            Fact::If(kind == Kind::Bus),
-            Fact::If(kind == Kind::Stream),
+            Fact::If(matches!(kind, Kind::Bus)),
+            Fact::If(matches!(kind, Kind::Stream)),
             Fact::At(row, "label"),
             Fact::At(own, "format"),
         ],
     );
 }
 
-/// Writes which name may stand in the place of one that no table has.
-fn tell_names(refused: &mut Refused<'_>, key: &'static str, kind: Kind, name: Span) {
-    let names = candidates(refused, key, kind);
-    if names.is_lost() {
-        return refused.out.lose();
-    }
-    if names.as_slice().is_empty() {
+/// Writes which of these names of tables of a kind may stand in the place of one that no table has.
+fn tell_among<'a>(refused: &mut Refused<'a>, kind: Kind, names: &[&'a str], name: Span) {
+    if names.is_empty() {
         return tell_none(refused, kind);
     }
-    let (what, _) = called(kind);
-    let which = if kind == Kind::Bus {
+    let which = if matches!(kind, Kind::Bus) {
         "that no router visits"
     } else {
         "that is not in this list"
     };
-    if let Some((like, other)) = meant(refused, names.as_slice(), name) {
+    if let Some((like, other)) = meant(refused, names, name) {
         tell_meant(refused, kind, like, which);
         return tell_meant(refused, kind, other, which);
     }
+    let (what, _) = called(kind);
     refused.say(
         "\nhelp: write one of these, each a {} {}: ",
         &[Fact::Word(what), Fact::Word(which)],
     );
-    refused.out.put(Value::Names(names.as_slice()));
+    refused.out.put(Value::Names(names));
+}
+
+/// Writes which name may stand in the place of one that no table has.
+fn tell_names(refused: &mut Refused<'_>, key: &'static str, kind: Kind, name: Span) {
+    let names = candidates(refused, key, kind);
+    if names.is_lost() {
+        refused.out.lose();
+    }
+    tell_among(refused, kind, names.as_slice(), name);
 }
 
 /// The first member of the list at a key of a table that no table of a kind has for its name.
@@ -228,7 +232,7 @@ pub(crate) fn nameless(refused: &Refused<'_>, row: usize, key: &str, kind: Kind)
 
 /// Tells of a member of `visits` or `sources` that no table has for its name.
 pub(crate) fn tell_no_name(refused: &mut Refused<'_>) -> bool {
-    let is_router = refused.kind(refused.row) == Kind::Router;
+    let is_router = matches!(refused.kind(refused.row), Kind::Router);
     let (key, kind) = if is_router {
         ("visits", Kind::Bus)
     } else {
@@ -240,6 +244,7 @@ pub(crate) fn tell_no_name(refused: &mut Refused<'_>) -> bool {
     let name = unquoted(member, refused.layout.text);
     let (what, _) = called(kind);
     let other = other_kind(refused, name);
+    let is_other = !other.is_empty();
     refused.say(
         "`{}` of {} has `{}`, and there is no {} of this name{}\n{}note: `{}` is the name of {}",
         &[
@@ -248,9 +253,9 @@ pub(crate) fn tell_no_name(refused: &mut Refused<'_>) -> bool {
             Fact::Piece(name),
             Fact::Word(what),
             Fact::Here(member),
-            Fact::If(other.is_some()),
+            Fact::If(is_other),
             Fact::Piece(name),
-            Fact::Word(other.unwrap_or("")),
+            Fact::Word(other),
         ],
     );
     tell_names(refused, key, kind, name);

@@ -30,12 +30,6 @@ fn class_of(byte: u8) -> u8 {
     }
 }
 
-/// What the last byte before a place is that is no blank.
-fn class_before(text: &[u8], at: usize) -> u8 {
-    let before = text.get(..at).unwrap_or(b"").trim_ascii_end();
-    class_of(before.last().copied().unwrap_or(b' '))
-}
-
 /// Whether a text ends behind the last bracket of what it holds; not where memory was refused.
 fn is_whole(alloc: Global, text: &[u8]) -> bool {
     let Some(tokens) = tokens_of(alloc, text, true) else {
@@ -135,13 +129,13 @@ fn cause_at(alloc: Global, text: &[u8], at: usize, message: &str) -> &'static st
     if message.contains("out of range") {
         return "a number before this is too great: 4294967295 is the most";
     }
-    if is_whole(alloc, text.get(..at).unwrap_or(b"")) {
+    let before = text.get(..at).unwrap_or(b"");
+    if is_whole(alloc, before) {
         return "the certificate ends before this: take out what follows";
     }
-    cause(
-        class_before(text, at),
-        class_of(text.get(at).copied().unwrap_or(b' ')),
-    )
+    let last = before.trim_ascii_end().last().copied().unwrap_or(b' ');
+    let there = text.get(at).copied().unwrap_or(b' ');
+    cause(class_of(last), class_of(there))
 }
 
 /// Tells where JSON's reader stopped, and what it said.

@@ -12,25 +12,24 @@ const LONGEST: u64 = 10_000;
 const LONGEST_US: u64 = 60_000_000;
 
 /// Tells that the least interval is over the greatest.
-pub(crate) fn tell_reversed(refused: &mut Refused<'_>) {
+pub(crate) fn tell_reversed(refused: &mut Refused<'_>) -> bool {
     let row = refused.row;
     refused.say(
         "`min_us` of {} is {}, more than its `max_us` of {}{}\nhelp: mend the one that is mistyped, or exchange the two (line {}): `min_us` is the least time between two words of the label, `max_us` the greatest, both in microseconds",
         &[
             Fact::Row(row),
-            Fact::Number(refused.count(row, "min_us")),
-            Fact::Number(refused.count(row, "max_us")),
+            Fact::Count(row, "min_us"),
+            Fact::Count(row, "max_us"),
             Fact::Place(row, "min_us"),
             Fact::Line(row, "max_us"),
         ],
     );
+    true
 }
 
-/// Tells of a stream whose words may come within one tick.
-fn tell_quick(refused: &mut Refused<'_>, parameter: usize) {
+/// Tells of a stream whose words may come within one tick, by its parameter and the least interval of that.
+fn tell_quick(refused: &mut Refused<'_>, parameter: usize, least: u64, tick: u64) {
     let row = refused.row;
-    let least = refused.count(parameter, "min_us");
-    let tick = refused.count(0, "tick_us");
     let millis = least.saturating_mul(1_000);
     refused.say(
         "{} may bring a word every {} microseconds, less than one tick: the `min_us` of {} is {}, and `tick_us` is {}{}\nnote: {} is here{}\n{}help: `min_us` counts microseconds: write {}, where {} milliseconds are meant\n{}help: write `tick_us = {}` or less (line {}; {} at least)\nhelp: write a `min_us` of {} or more in this parameter, where its words do come no sooner (no tick is shorter than {} microseconds)",
@@ -98,9 +97,11 @@ fn gap_behind(refused: &Refused<'_>, offset: u64, frame: u64) -> u64 {
     gap
 }
 
-/// How many ticks after one another the entries of the label with the fault come, at least and at most, where its
-/// output sends one entry as soon as it may and the other so late.
-fn sent_apart(refused: &Refused<'_>, frame: u64, late: u64) -> (u64, u64) {
+/// How many ticks after one another the words of the label with the fault may leave, at least and at most: its output
+/// sends one entry as soon as it may and the other as late.
+fn sent_apart(refused: &Refused<'_>) -> (u64, u64) {
+    let output = refused.parent(refused.row);
+    let frame = refused.count(output, "frame");
     let (mut least, mut greatest) = (frame, 0u64);
     for member in refused.layout.members(refused.row, "offsets") {
         let offset = number(refused.layout.piece(*member)).unwrap_or(0);
@@ -108,16 +109,13 @@ fn sent_apart(refused: &Refused<'_>, frame: u64, late: u64) -> (u64, u64) {
         least = least.min(gap);
         greatest = greatest.max(gap);
     }
+    let late = refused.count(output, "within");
     (least.saturating_sub(late), greatest.saturating_add(late))
 }
 
-/// Writes which changes leave an interval that the label's own offsets keep.
-fn tell_ways(refused: &mut Refused<'_>, parameter: usize, tick: u64) {
-    let least = refused.count(parameter, "min_us");
-    let greatest = refused.count(parameter, "max_us");
-    let output = refused.parent(refused.row);
-    let late = refused.count(output, "within");
-    let (soonest, latest) = sent_apart(refused, refused.count(output, "frame"), late);
+/// Writes which changes leave an interval that the label's own offsets keep, by the intervals of its parameter.
+fn tell_ways(refused: &mut Refused<'_>, parameter: usize, least: u64, greatest: u64, tick: u64) {
+    let (soonest, latest) = sent_apart(refused);
     let minimum = soonest.saturating_sub(1).saturating_mul(tick);
     let maximum = latest.saturating_add(1).saturating_mul(tick);
     let longest = longest_tick(least, greatest);
@@ -140,12 +138,10 @@ fn tell_ways(refused: &mut Refused<'_>, parameter: usize, tick: u64) {
     );
 }
 
-/// Tells of a label that no whole number of ticks serves.
-fn tell_narrow(refused: &mut Refused<'_>, parameter: usize) {
+/// Tells of a label that no whole number of ticks serves, by its parameter and the least interval of that.
+fn tell_narrow(refused: &mut Refused<'_>, parameter: usize, least: u64, tick: u64) {
     let row = refused.row;
-    let least = refused.count(parameter, "min_us");
     let greatest = refused.count(parameter, "max_us");
-    let tick = refused.count(0, "tick_us");
     let (low, high) = (fewest(least, tick), most(greatest, tick));
     refused.say(
         "{} cannot be sent every {} to {} microseconds, as {} wants, in ticks of {}: it would have at least {} and at most {} ticks between two words{}\nnote: the fewest are `min_us / tick_us` rounded up, and one more: {} / {} gives {}\nnote: the most are `max_us / tick_us` rounded down, less one: {} / {} gives {}\nnote: {} is here{}",
@@ -168,7 +164,7 @@ fn tell_narrow(refused: &mut Refused<'_>, parameter: usize) {
             Fact::Place(row, "label"),
         ],
     );
-    tell_ways(refused, parameter, tick);
+    tell_ways(refused, parameter, least, greatest, tick);
 }
 
 /// Tells of a stream or a label by its parameter, where it has one.
@@ -176,10 +172,12 @@ pub(crate) fn tell_interval(refused: &mut Refused<'_>, is_stream: bool) -> bool 
     let Some(parameter) = parameter_of(refused, refused.row) else {
         return false;
     };
+    let least = refused.count(parameter, "min_us");
+    let tick = refused.count(0, "tick_us");
     if is_stream {
-        tell_quick(refused, parameter);
+        tell_quick(refused, parameter, least, tick);
     } else {
-        tell_narrow(refused, parameter);
+        tell_narrow(refused, parameter, least, tick);
     }
     true
 }

@@ -18,7 +18,7 @@ fn times(number: u64, by: u64) -> u64 {
 }
 
 /// Tells of a router that makes more steps in its ticks than it may.
-pub(crate) fn tell_router(refused: &mut Refused<'_>) {
+pub(crate) fn tell_router(refused: &mut Refused<'_>) -> bool {
     let row = refused.row;
     let steps = refused.count(row, "steps");
     let within = refused.count(row, "within");
@@ -42,6 +42,7 @@ pub(crate) fn tell_router(refused: &mut Refused<'_>) {
             Fact::Number(longer),
         ],
     );
+    true
 }
 
 /// The least time from one word of an output to the next, in microseconds.
@@ -59,11 +60,10 @@ fn tick_for(steps: u64, within: u64, is_low: bool) -> u64 {
     }
 }
 
-/// Writes which changes let an output keep its pace, where its words are so many ticks apart or more.
-fn tell_paces(refused: &mut Refused<'_>, gap: u64, is_low: bool) {
+/// Writes which changes let an output make so many steps within so many ticks, where its words are so many ticks apart or
+/// more.
+fn tell_paces(refused: &mut Refused<'_>, steps: u64, within: u64, gap: u64, is_low: bool) {
     let row = refused.row;
-    let steps = refused.count(row, "steps");
-    let within = refused.count(row, "within");
     let quick = steps.saturating_mul(parts(spacing(false), refused.count(0, "tick_us")));
     let (longer, fewer) = (steps.saturating_mul(gap), times(within, gap));
     let tick = tick_for(steps, within, is_low);
@@ -85,23 +85,26 @@ fn tell_paces(refused: &mut Refused<'_>, gap: u64, is_low: bool) {
 }
 
 /// Tells of an output that its wire lets send less than it is to.
-pub(crate) fn tell_output(refused: &mut Refused<'_>) {
+pub(crate) fn tell_output(refused: &mut Refused<'_>) -> bool {
     let row = refused.row;
     let steps = refused.count(row, "steps");
+    let within = refused.count(row, "within");
     let tick = refused.count(0, "tick_us");
     let is_low = refused.layout.value(row, "speed") == b"low".as_slice();
-    let gap = parts(spacing(is_low), tick);
+    let speed = if is_low { "low" } else { "high" };
+    let apart = spacing(is_low);
+    let gap = parts(apart, tick);
     let taken = steps.saturating_mul(gap);
     refused.say(
         "{} must send at least {} within {}, and its wire takes {} for them{}\nnote: at {} speed words are sent {} microseconds apart or more, with ticks of {} at least {}: {} x {} makes {}",
         &[
             Fact::Row(row),
             Fact::Several(steps, "word", "words"),
-            Fact::Several(refused.count(row, "within"), "tick", "ticks"),
+            Fact::Several(within, "tick", "ticks"),
             Fact::Several(taken, "tick", "ticks"),
             Fact::Place(row, "within"),
-            Fact::Word(if is_low { "low" } else { "high" }),
-            Fact::Number(spacing(is_low)),
+            Fact::Word(speed),
+            Fact::Number(apart),
             Fact::Number(tick),
             Fact::Several(gap, "tick", "ticks"),
             Fact::Number(steps),
@@ -109,5 +112,6 @@ pub(crate) fn tell_output(refused: &mut Refused<'_>) {
             Fact::Number(taken),
         ],
     );
-    tell_paces(refused, gap, is_low);
+    tell_paces(refused, steps, within, gap, is_low);
+    true
 }

@@ -27,25 +27,17 @@ fn kind_of(section: Section) -> Kind {
     }
 }
 
-/// Tells of a rule of which there is always something to say.
-fn tell_always(refused: &mut Refused<'_>, rule: TableRule) -> bool {
-    match rule {
-        TableRule::IntervalReversed => tell_reversed(refused),
-        TableRule::ParameterAbsent => tell_no_parameter(refused),
-        TableRule::BusNotVisitedByOne => tell_visits(refused),
-        TableRule::RouterCannotKeepPace => tell_router(refused),
-        TableRule::OutputCannotKeepPace => tell_output(refused),
-        _ => return false,
-    }
-    true
-}
-
 /// Tells what there is to say of a rule on several values.
 fn tell_rule(refused: &mut Refused<'_>, rule: TableRule) -> bool {
     match rule {
+        TableRule::IntervalReversed => tell_reversed(refused),
         TableRule::MinimumBelowOneTick => tell_interval(refused, true),
         TableRule::NoOutputInterval => tell_interval(refused, false),
+        TableRule::ParameterAbsent => tell_no_parameter(refused),
         TableRule::FormatsDiffer => tell_formats(refused),
+        TableRule::BusNotVisitedByOne => tell_visits(refused),
+        TableRule::RouterCannotKeepPace => tell_router(refused),
+        TableRule::OutputCannotKeepPace => tell_output(refused),
         TableRule::OffsetPastFrame => tell_offset(refused),
         TableRule::OffsetDoubled => tell_offset_twice(refused),
         TableRule::NameAbsent => tell_no_name(refused),
@@ -54,14 +46,14 @@ fn tell_rule(refused: &mut Refused<'_>, rule: TableRule) -> bool {
         | TableRule::NameDoubled
         | TableRule::StreamsOverlap
         | TableRule::LabelDoubled => tell_twin(refused, rule),
-        _ => tell_always(refused, rule),
+        _ => false,
     }
 }
 
 /// Tells of a text that is spelled wrongly, and of a parameter whom it may be meant for.
 fn tell_misspelt(refused: &mut Refused<'_>) -> bool {
     let is_told = tell_misfit(refused, Misfit::Spelling);
-    if refused.kind(refused.row) == Kind::Parameter {
+    if matches!(refused.kind(refused.row), Kind::Parameter) {
         tell_orphans(
             refused,
             "\nnote: {} in line {} has no parameter, with label {} and equipment code {}: this one may be meant for it",

@@ -89,6 +89,8 @@ fn tell_users(refused: &mut Refused<'_>, kind: Kind, key: &'static str) {
         }
         let is_user = member(refused, row, key, name).is_some();
         let other = nameless(refused, row, key, own);
+        let is_other = other.is_some();
+        let piece = other.unwrap_or(Span { from: 0, to: 0 });
         refused.say(
             "\n{}note: `{}` of {} has this name, in line {}: see which of the two it means\n{}note: `{}` of {} has {}, in line {}, which no table has for its name: one of the two may be meant",
             &[
@@ -96,10 +98,10 @@ fn tell_users(refused: &mut Refused<'_>, kind: Kind, key: &'static str) {
                 Fact::Word(key),
                 Fact::Row(row),
                 Fact::Line(row, key),
-                Fact::If(other.is_some()),
+                Fact::If(is_other),
                 Fact::Word(key),
                 Fact::Row(row),
-                Fact::Piece(other.unwrap_or(Span { from: 0, to: 0 })),
+                Fact::Piece(piece),
                 Fact::Line(row, key),
             ],
         );
@@ -113,12 +115,13 @@ pub(crate) fn tell_twin(refused: &mut Refused<'_>, rule: TableRule) -> bool {
         return false;
     };
     let (sentence, key, todo) = texts_of(rule);
+    let parent = refused.parent(row);
     refused.say(
         sentence,
         &[
             Fact::Row(row),
             Fact::Row(twin),
-            Fact::Row(refused.parent(row)),
+            Fact::Row(parent),
             Fact::At(row, "label"),
             Fact::At(row, "sdi"),
             Fact::At(twin, "sdi"),
@@ -134,10 +137,12 @@ pub(crate) fn tell_twin(refused: &mut Refused<'_>, rule: TableRule) -> bool {
         ],
     );
     let kind = refused.kind(row);
-    if kind == Kind::Bus {
-        tell_users(refused, Kind::Router, "visits");
-    } else if kind == Kind::Stream && rule == TableRule::NameDoubled {
-        tell_users(refused, Kind::Label, "sources");
+    match kind {
+        Kind::Bus => tell_users(refused, Kind::Router, "visits"),
+        Kind::Stream if matches!(rule, TableRule::NameDoubled) => {
+            tell_users(refused, Kind::Label, "sources")
+        }
+        _ => {}
     }
     true
 }

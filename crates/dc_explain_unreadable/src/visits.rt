@@ -23,7 +23,7 @@ fn tell_both(refused: &mut Refused<'_>, one: usize, other: usize) {
 /// Writes which other buses no router visits.
 fn tell_unvisited_too(refused: &mut Refused<'_>) {
     for row in 0..refused.layout.rows.len() {
-        if row == refused.row || refused.kind(row) != Kind::Bus {
+        if row == refused.row || !matches!(refused.kind(row), Kind::Bus) {
             continue;
         }
         let name = refused.layout.value(row, "name");
@@ -68,7 +68,7 @@ fn tell_unvisited(refused: &mut Refused<'_>) {
 }
 
 /// Tells of a bus that is in the visits of no router, or of two.
-pub(crate) fn tell_visits(refused: &mut Refused<'_>) {
+pub(crate) fn tell_visits(refused: &mut Refused<'_>) -> bool {
     let name = refused.layout.value(refused.row, "name");
     match lister(refused, Kind::Router, "visits", 0, name) {
         None => tell_unvisited(refused),
@@ -78,6 +78,7 @@ pub(crate) fn tell_visits(refused: &mut Refused<'_>) {
             tell_both(refused, one, other.unwrap_or(one));
         }
     }
+    true
 }
 
 /// The first source of the label with the fault whose format is not that of this parameter, with its stream and its own
