@@ -8,11 +8,13 @@ use dc_check::Condition;
 use dc_document::{LONGEST_INTERVAL_US, Section};
 use dc_find::Queue;
 
-/// What is told where words leave too soon, and where too late.
-static SENTENCES: [&str; 2] = [
-    "its `offsets`, taken round the `frame`, lie as near as {}, and output `{}` may send the first {} late: its words may leave {} apart, and at least {} are wanted{}\nnote: {} is `min_us` of its parameter in ticks of {} microseconds, rounded up, and one more: words may leave almost a tick less apart than their ticks are",
-    "its `offsets`, taken round the `frame`, lie as far apart as {}, and output `{}` may send the second {} late: its words may leave {} apart, and at most {} are allowed{}\nnote: {} is `max_us` of its parameter in whole ticks of {} microseconds, less one: words may leave almost a tick more apart than their ticks are",
-];
+/// What is told where words leave too soon.
+const SOON: &str =
+    "its `offsets`, taken round the `frame`, lie as near as {}, and output `{}` may send the first {} late: its words may leave {} apart, and at least {} are wanted{}\nnote: {} is `min_us` of its parameter in ticks of {} microseconds, rounded up, and one more: words may leave almost a tick less apart than their ticks are";
+
+/// What is told where words leave too late.
+const LATE: &str =
+    "its `offsets`, taken round the `frame`, lie as far apart as {}, and output `{}` may send the second {} late: its words may leave {} apart, and at most {} are allowed{}\nnote: {} is `max_us` of its parameter in whole ticks of {} microseconds, less one: words may leave almost a tick more apart than their ticks are";
 
 /// Tells how far its entries would have to lie apart, for it to be sent neither too soon nor too late; that no distance
 /// is enough only where nothing that helps was told.
@@ -48,6 +50,9 @@ fn tell_gaps(told: &mut Teller<'_>, own: &Sending) {
     );
 }
 
+/// The longest interval that tables may have, in microseconds.
+const LONGEST_US: u64 = LONGEST_INTERVAL_US as u64;
+
 /// Tells with which interval of its parameter the label would be sent as that asks, where its words may leave so far apart.
 fn tell_interval(told: &mut Teller<'_>, words: u64, is_soon: bool) {
     let (key, bound, apart) = if is_soon {
@@ -55,11 +60,11 @@ fn tell_interval(told: &mut Teller<'_>, words: u64, is_soon: bool) {
     } else {
         ("max_us", "at least", words.saturating_add(1))
     };
-    let interval = apart.saturating_mul(u64::from(told.tables.tick_us()));
+    let interval = apart.saturating_mul(told.tables.tick_us() as u64);
     told.say(
         "\n{}weaker: give it a parameter with a `{}` of {} {} microseconds: add one with another `equipment`, and write that at the label; change the present one only if no stream and no other label has it, else their rules may fail next",
         &[
-            If(interval > 0 && interval <= u64::from(LONGEST_INTERVAL_US)),
+            If(interval > 0 && interval <= LONGEST_US),
             Word(key),
             Word(bound),
             Number(interval),
@@ -67,27 +72,33 @@ fn tell_interval(told: &mut Teller<'_>, words: u64, is_soon: bool) {
     );
 }
 
-/// C08 and C09: two words of the label may follow one another too soon, or too late. Of the delay of the output with which
-/// they would not the longest is looked for, where there is one.
+/// How far the offsets of a label lie apart that is sent too soon, or too late, and its words; how far these are to; and the
+/// longest delay of its output with which they do, where there is one.
+fn gap_of(own: &Sending, is_soon: bool) -> (u64, u64, u64, Option<u64>) {
+    if is_soon {
+        let words = own.least_gap.saturating_sub(own.delay);
+        let most = own.least_gap.checked_sub(own.minimum);
+        return (own.least_gap, words, own.minimum, most);
+    }
+    let words = own.greatest_gap.saturating_add(own.delay);
+    let most = own.maximum.checked_sub(own.greatest_gap);
+    (own.greatest_gap, words, own.maximum, most)
+}
+
+/// C08 and C09: two words of the label may follow one another too soon, or too late.
 pub(crate) fn tell_gap(told: &mut Teller<'_>, code: &str, own: &Sending, condition: Condition) {
     let queue = Queue::Output(own.output);
     let Some(server) = server_of(told.tables, told.certificate, queue) else {
         return;
     };
-    let is_soon = condition == Condition::SentTooSoon;
-    let (offsets, words, wanted, most) = if is_soon {
-        let words = own.least_gap.saturating_sub(own.delay);
-        let most = own.least_gap.checked_sub(own.minimum);
-        (own.least_gap, words, own.minimum, most)
-    } else {
-        let words = own.greatest_gap.saturating_add(own.delay);
-        let most = own.maximum.checked_sub(own.greatest_gap);
-        (own.greatest_gap, words, own.maximum, most)
-    };
+    let is_soon = matches!(condition, Condition::SentTooSoon);
+    let (offsets, words, wanted, most) = gap_of(own, is_soon);
     let place = mended_at(told, &server, most, own.number, "offsets");
+    let tick = told.tables.tick_us() as u64;
+    let sentence = if is_soon { SOON } else { LATE };
     told.begin_label(code, condition, own.number);
     told.say(
-        SENTENCES[usize::from(!is_soon)],
+        sentence,
         &[
             Ticks(offsets),
             Name(Section::Output, own.output),
@@ -96,7 +107,7 @@ pub(crate) fn tell_gap(told: &mut Teller<'_>, code: &str, own: &Sending, conditi
             Number(wanted),
             place,
             Number(wanted),
-            Number(u64::from(told.tables.tick_us())),
+            Number(tick),
         ],
     );
     tell_shorter_delay(told, &server, most);

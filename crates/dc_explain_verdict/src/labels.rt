@@ -16,6 +16,8 @@ pub(crate) struct Source {
     pub(crate) minimum: u64,
     /// The longest interval between two of its words.
     pub(crate) maximum: u64,
+    /// How long it may bring no word to the router.
+    pub(crate) silence: u64,
 }
 
 /// How a label is sent. All but the numbers are ticks.
@@ -68,12 +70,14 @@ fn source_of(tables: &Tables, certificate: &Certificate, stream: usize) -> Optio
         return None;
     };
     let own = tables.stream(stream);
+    let (delay, maximum) = (row.delay as u64, own.maximum as u64);
     Some(Source {
         number: stream,
         bus,
-        delay: u64::from(row.delay),
-        minimum: u64::from(own.minimum),
-        maximum: u64::from(own.maximum),
+        delay,
+        minimum: own.minimum as u64,
+        maximum,
+        silence: delay.saturating_add(maximum),
     })
 }
 
@@ -92,7 +96,7 @@ fn slowest_and_rarest(
         if own.delay > slowest.delay {
             slowest = own;
         }
-        if silence(&own) > silence(&rarest) {
+        if own.silence > rarest.silence {
             rarest = own;
         }
         found = Some((slowest, rarest));
@@ -100,16 +104,13 @@ fn slowest_and_rarest(
     found
 }
 
-/// How long a source may bring no word to the router.
-pub(crate) fn silence(source: &Source) -> u64 {
-    source.delay.saturating_add(source.maximum)
-}
-
 /// How many entries a label has.
 fn entries_of(entries: &[Entry], label: usize) -> u64 {
     let mut count = 0u64;
     for entry in entries {
-        count = count.saturating_add(u64::from(entry.label == label));
+        if entry.label == label {
+            count = count.saturating_add(1);
+        }
     }
     count
 }
@@ -128,18 +129,20 @@ pub(crate) fn sending_of(
     let Some(own) = certificate.outputs.get(row.output) else {
         return None;
     };
-    let schedule = Schedule::of(tables, row.output);
     let output = tables.output(row.output);
+    let entries = entries_of(output.entries.as_slice(), label);
+    let schedule = Schedule::of(tables, row.output);
+    let (least_gap, greatest_gap) = (schedule.min_gap(label), schedule.max_gap(label));
     Some(Sending {
         number: label,
         output: row.output,
-        delay: u64::from(own.delay),
-        least_gap: schedule.min_gap(label),
-        greatest_gap: schedule.max_gap(label),
-        minimum: u64::from(row.minimum),
-        maximum: u64::from(row.maximum),
-        entries: entries_of(output.entries.as_slice(), label),
-        frame: u64::from(output.frame),
+        delay: own.delay as u64,
+        least_gap,
+        greatest_gap,
+        minimum: row.minimum as u64,
+        maximum: row.maximum as u64,
+        entries,
+        frame: output.frame as u64,
     })
 }
 
@@ -158,9 +161,9 @@ pub(crate) fn aging_of(tables: &Tables, certificate: &Certificate, label: usize)
     };
     Some(Aging {
         number: label,
-        stale: u64::from(row.stale),
-        age: u64::from(own.age),
-        limit: u64::from(row.age_limit),
+        stale: row.stale as u64,
+        age: own.age as u64,
+        limit: row.age_limit as u64,
         slowest,
         rarest,
     })

@@ -1,6 +1,6 @@
 //! What would let a queue keep its rules, as numbers.
-use crate::servers::{Server, round_of, server_of};
-use crate::steps::{ANY_WINDOW, Other, Wish, closing_with, least};
+use crate::servers::{Server, server_of};
+use crate::steps::{ANY_WINDOW, Other, Wish, least, waiting_with};
 use dc_busy::LONGEST_WINDOW;
 use dc_cert::Certificate;
 use dc_find::Queue;
@@ -8,7 +8,7 @@ use dc_tables::Tables;
 
 /// At what pace a queue is served that stands in the way of every certificate, and what would let it keep its rules: each
 /// number by itself, all others as they are.
-#[derive(Clone, Copy, Debug, PartialEq, Eq)]
+#[derive(Clone, Copy)]
 pub struct Mends {
     /// Its router, or the output, makes so many steps ..
     pub steps: u32,
@@ -36,19 +36,8 @@ fn wish_of(server: &Server) -> Wish {
         return ANY_WINDOW;
     }
     Wish {
-        waiting: u64::from(server.room),
+        waiting: server.room,
         ..ANY_WINDOW
-    }
-}
-
-/// How many wait with so many steps; none where no window closes then.
-fn waiting_with(tables: &Tables, server: &Server, steps: Option<u32>) -> u64 {
-    let Some(steps) = steps else {
-        return 0;
-    };
-    match closing_with(tables, server, Other::Steps, steps, None, false) {
-        None => 0,
-        Some(closing) => closing.peaks.backlog.height,
     }
 }
 
@@ -66,7 +55,7 @@ fn ways_of(tables: &Tables, server: &Server) -> (Option<u32>, Option<u64>) {
     }
     let interval_us = match least(tables, server, Other::Minimum, &ANY_WINDOW) {
         None => None,
-        Some(ticks) => Some(u64::from(ticks).saturating_mul(u64::from(tables.tick_us()))),
+        Some(ticks) => Some((ticks as u64).saturating_mul(tables.tick_us() as u64)),
     };
     (shorter, interval_us)
 }
@@ -79,15 +68,20 @@ pub fn mends_of(tables: &Tables, found: &Certificate, queue: Queue) -> Option<Me
         return None;
     };
     let more = least(tables, &server, Other::Steps, &wish_of(&server));
+    let more_waiting = match more {
+        None => 0,
+        Some(steps) => waiting_with(tables, &server, steps, None),
+    };
+    let more_most = more.unwrap_or(0).div_ceil(server.within.max(1));
     let (shorter, interval_us) = ways_of(tables, &server);
     Some(Mends {
         steps: server.steps,
         within: server.within,
         most: server.most,
-        round: round_of(tables, &server),
+        round: server.round,
         more,
-        more_most: more.unwrap_or(0).div_ceil(server.within.max(1)),
-        more_waiting: waiting_with(tables, &server, more),
+        more_most,
+        more_waiting,
         shorter,
         interval_us,
     })

@@ -29,56 +29,56 @@ fn differing(told: &Teller<'_>, list: CertificateList, section: Section) -> (usi
     (first, count)
 }
 
-/// The number in the tables of a name, from 1, where they have it.
-fn number_of(told: &Teller<'_>, section: Section, name: &str) -> Option<usize> {
+/// The number in the tables of a name, from 1; 0 where they do not have it.
+fn number_of(told: &Teller<'_>, section: Section, name: &str) -> u64 {
     for place in 0..MOST {
         let wanted = name_of(told.tables, section, place);
         if wanted.is_empty() {
-            return None;
+            break;
         }
         if wanted == name {
-            return Some(place.saturating_add(1));
+            return (place as u64).saturating_add(1);
         }
     }
-    None
+    0
 }
 
 /// C01: the names of a list are not the tables', once each and in their order.
 pub(crate) fn tell_names(told: &mut Teller<'_>, list: CertificateList) {
     let (kind, key, many, section) = words_of(list);
     let (place, count) = differing(told, list, section);
-    let is_missing = written_at(told.certificate, list, place).is_empty();
+    let name = written_at(told.certificate, list, place);
+    let is_missing = name.is_empty();
+    let number = number_of(told, section, name);
     let is_more = name_of(told.tables, section, place).is_empty();
-    let number = number_of(told, section, written_at(told.certificate, list, place));
     let (one, wanted, written) = (Word(key), Name(section, place), Written(list, place));
-    let (how, facts) = if is_more {
-        (
-            ", `{}`, is more than the tables have",
-            [written, one, wanted],
-        )
+    let sentence = if is_more {
+        "number {} of the {}, `{}`, is more than the tables have"
     } else if is_missing {
-        (", {} `{}`, is missing", [one, wanted, written])
+        "number {} of the {}{}, {} `{}`, is missing"
     } else {
-        (
-            " is `{}`, and the tables have {} `{}`",
-            [written, one, wanted],
-        )
+        "number {} of the {} is `{}`, and the tables have {} `{}`"
     };
     told.out.begin("C01");
     told.say(
-        "number {} of the {}",
-        &[Number(place.saturating_add(1) as u64), Word(kind)],
+        sentence,
+        &[
+            Number(place.saturating_add(1) as u64),
+            Word(kind),
+            written,
+            one,
+            wanted,
+        ],
     );
-    told.say(how, &facts);
     told.say(
         "{}\n{}note: {} `{}` is number {} of the tables\n{}help: write `{}` in place of `{}`, which the tables do not have\n{}note: this is the first of {} places of the {} where they differ\nhelp: list the {} once each, in the order of the tables, or let `dc429 find` write the certificate",
         &[
             Place(true, section, place, key),
-            If(!is_missing && number.is_some()),
+            If(!is_missing && number != 0),
             one,
             written,
-            Number(number.unwrap_or(0) as u64),
-            If(!is_missing && !is_more && number.is_none()),
+            Number(number),
+            If(!is_missing && !is_more && number == 0),
             wanted,
             written,
             If(count > 1),

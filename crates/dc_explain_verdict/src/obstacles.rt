@@ -2,10 +2,10 @@
 ghost use Rattle.dc_find.specs.Ways.{IsFirstInTheWay};
 
 use crate::bounds::counts_of;
-use crate::fact::Fact::{Number, Several, Word};
-use crate::labels::{aging_of, sending_of, silence};
-use crate::refused::tell_label;
-use crate::servers::{Server, begin_counts, place, round_of, server_of, tell_terms};
+use crate::fact::Fact::{Number, Place, Several, Word};
+use crate::labels::{Aging, Sending, aging_of, sending_of};
+use crate::refused::tell_rule;
+use crate::servers::{Server, begin_counts, server_of, tell_terms};
 use crate::steps::closing_of;
 use crate::teller::Teller;
 use crate::waits::tell_room_ways;
@@ -25,103 +25,24 @@ const TOLD: usize = 10;
 /// The longest delay; one that was not found is greater.
 const LONGEST: u64 = LONGEST_WINDOW as u64;
 
-/// What stands in the way at a queue, by what was found of it.
-fn queue_obstacle(tables: &Tables, certificate: &Certificate, queue: Queue) -> Option<FindFault> {
-    let Some(server) = server_of(tables, certificate, queue) else {
-        return None;
-    };
-    if server.delay > LONGEST_WINDOW {
-        return Some(WindowNeverCloses(queue));
-    }
-    match queue {
-        Queue::Input(bus) if server.backlog > server.room => Some(QueueTooShort(bus)),
-        _ => None,
-    }
-}
-
-/// Whether a label breaks a rule, by what was found of its output and of its sources' buses.
-fn breaks(tables: &Tables, certificate: &Certificate, label: usize, rule: Condition) -> bool {
-    let Some(sending) = sending_of(tables, certificate, label) else {
-        return false;
-    };
-    let Some(aging) = aging_of(tables, certificate, label) else {
-        return false;
-    };
-    let delay = sending.delay;
-    let wait = aging.slowest.delay;
-    match rule {
-        Condition::SentTooSoon => {
-            delay <= LONGEST && sending.least_gap < sending.minimum.saturating_add(delay)
-        }
-        Condition::SentTooLate => {
-            delay <= LONGEST && sending.greatest_gap.saturating_add(delay) > sending.maximum
-        }
-        Condition::AgeOverLimit => {
-            wait <= LONGEST && aging.stale.saturating_add(wait) > aging.limit
-        }
-        Condition::SourceGoesStale => wait <= LONGEST && silence(&aging.rarest) > aging.stale,
-        _ => false,
-    }
-}
-
-/// The rules on a label, in the order in which the first that it breaks is told.
-static RULES: [Condition; 4] = [
-    Condition::SentTooSoon,
-    Condition::SentTooLate,
-    Condition::AgeOverLimit,
-    Condition::SourceGoesStale,
-];
-
-/// All that stands in the way, in the order in which the first is told; nothing where memory was refused.
-fn obstacles_of(
-    alloc: Global,
-    tables: &Tables,
-    certificate: &Certificate,
-) -> Option<Vec<FindFault>> {
-    let mut all = Vec::new(alloc);
-    for bus in 0..tables.bus_count() {
-        if let Some(fault) = queue_obstacle(tables, certificate, Queue::Input(bus)) {
-            if all.push(fault).is_err() {
-                return None;
-            }
-        }
-    }
-    for output in 0..tables.output_count() {
-        if let Some(fault) = queue_obstacle(tables, certificate, Queue::Output(output)) {
-            if all.push(fault).is_err() {
-                return None;
-            }
-        }
-    }
-    for label in 0..tables.label_count() {
-        for rule in &RULES {
-            let fault = LabelRule(label, *rule);
-            if breaks(tables, certificate, label, *rule) && all.push(fault).is_err() {
-                return None;
-            }
-        }
-    }
-    Some(all)
-}
-
 /// So many rounds of the router, or frames of the output, a queue is looked at that is never surely empty again.
 const ROUNDS: u32 = 10;
 
 /// F1: no window of a queue closes.
 fn tell_never(told: &mut Teller<'_>, server: &Server) {
-    let round = round_of(told.tables, server);
-    let early = round.saturating_mul(ROUNDS).min(LONGEST_WINDOW);
+    let early = server.round.saturating_mul(ROUNDS).min(LONGEST_WINDOW);
     let left = begin_counts(told, "F1", server, (early, early), early.saturating_sub(1));
-    let late = LONGEST_WINDOW;
-    let counts = counts_of(told.tables, server.queue, late, late.saturating_sub(1));
+    let last = LONGEST_WINDOW.saturating_sub(1);
+    let counts = counts_of(told.tables, server.queue, LONGEST_WINDOW, last);
+    let late = counts.come.saturating_sub(counts.served);
     told.say(
         ": so {} may wait then, and {} by tick {}, and there is no tick by which all have surely been {} (no window closes){}",
         &[
             Number(left),
-            Number(counts.come.saturating_sub(counts.served)),
-            Number(u64::from(late)),
+            Number(late),
+            Number(LONGEST),
             Word(server.words.done),
-            place(false, server.queue, ""),
+            Place(false, server.section, server.number, ""),
         ],
     );
     tell_never_ways(told, server);
@@ -133,68 +54,126 @@ fn tell_short(told: &mut Teller<'_>, server: &Server) {
     let Some(closing) = closing_of(told.tables, server, None) else {
         return;
     };
-    let peak = closing.peaks.backlog;
-    let by = peak.ticks;
+    let (most, by) = (closing.peaks.backlog.height, closing.peaks.backlog.ticks);
     begin_counts(told, "F2", server, (by, by), by.saturating_sub(2));
     told.say(
         ": {} may wait, and its queue holds {}{}",
         &[
-            Number(peak.height),
-            Number(u64::from(server.room)),
-            place(false, server.queue, "queue"),
+            Number(most),
+            Number(server.room),
+            Place(false, server.section, server.number, "queue"),
         ],
     );
-    tell_room_ways(told, server, peak.height);
+    tell_room_ways(told, server, most);
     tell_terms(told, server, 0, 0);
 }
 
-/// Tells one thing that stands in the way.
-fn tell_obstacle(told: &mut Teller<'_>, fault: FindFault) {
-    let (queue, is_short) = match fault {
-        WindowNeverCloses(queue) => (queue, false),
-        QueueTooShort(bus) => (Queue::Input(bus), true),
-        LabelRule(label, rule) => return tell_label(told, "F3", label, rule),
-        FindFault::Memory => return,
-    };
+/// Begins to tell one thing more that stands in the way. Whether it is to be told in full.
+fn begin_next(told: &mut Teller<'_>) -> bool {
+    told.number = told.number.saturating_add(1);
+    if told.number > TOLD {
+        return false;
+    }
+    if told.number > 1 {
+        told.out.add("\n");
+    }
+    true
+}
+
+/// Tells of a queue, where it stands in the way by what was found of it.
+fn tell_queue(told: &mut Teller<'_>, queue: Queue) {
     let Some(server) = server_of(told.tables, told.certificate, queue) else {
         return;
     };
-    if is_short {
-        tell_short(told, &server)
+    let is_open = server.delay > LONGEST_WINDOW;
+    let is_short = server.is_bus && server.backlog > server.room;
+    if !is_open && !is_short {
+        return;
+    }
+    if !begin_next(told) {
+        return;
+    }
+    if is_open {
+        tell_never(told, &server);
     } else {
-        tell_never(told, &server)
+        tell_short(told, &server);
+    }
+    told.tell_alone();
+}
+
+/// Tells of a rule on a label, where it is broken.
+fn tell_broken(
+    told: &mut Teller<'_>,
+    is_broken: bool,
+    sending: &Sending,
+    aging: &Aging,
+    rule: Condition,
+) {
+    if !is_broken {
+        return;
+    }
+    if begin_next(told) {
+        tell_rule(told, "F3", sending, aging, rule);
+        told.tell_alone();
+    }
+}
+
+/// Tells which rules a label breaks, by what was found of its output and of its sources' buses.
+fn tell_label(told: &mut Teller<'_>, label: usize) {
+    let Some(sending) = sending_of(told.tables, told.certificate, label) else {
+        return;
+    };
+    let Some(aging) = aging_of(told.tables, told.certificate, label) else {
+        return;
+    };
+    let is_sent = sending.delay <= LONGEST;
+    let is_soon = sending.least_gap < sending.minimum.saturating_add(sending.delay);
+    let is_late = sending.greatest_gap.saturating_add(sending.delay) > sending.maximum;
+    let is_read = aging.slowest.delay <= LONGEST;
+    let is_old = aging.stale.saturating_add(aging.slowest.delay) > aging.limit;
+    let is_stale = aging.rarest.silence > aging.stale;
+    let broken = [
+        (is_sent && is_soon, Condition::SentTooSoon),
+        (is_sent && is_late, Condition::SentTooLate),
+        (is_read && is_old, Condition::AgeOverLimit),
+        (is_read && is_stale, Condition::SourceGoesStale),
+    ];
+    for (is_broken, rule) in &broken {
+        tell_broken(told, *is_broken, &sending, &aging, *rule);
     }
 }
 
 /// Tells how many more stand in the way than were told.
 fn tell_rest(told: &mut Teller<'_>, rest: usize) {
-    if rest == 0 {
-        return;
-    }
-    told.out.say("\n", &[]);
-    told.out.begin("");
     let one = "more input, output or label keeps";
     let many = "more inputs, outputs and labels keep";
-    let rest = Several(rest as u64, one, many);
-    told.say("{} these tables from having a certificate", &[rest]);
+    told.out.add("\n");
+    told.out.begin("");
+    told.say(
+        "{} these tables from having a certificate",
+        &[Several(rest as u64, one, many)],
+    );
     told.out.name_file(told.file.name);
-    let all = "\nhelp: `dc429 margins` shows all of them: each line with a negative margin";
-    told.say(all, &[]);
+    told.say(
+        "\nhelp: `dc429 margins` shows all of them: each line with a negative margin",
+        &[],
+    );
 }
 
-/// Tells the first of what stands in the way, and how many more do.
-fn tell_all(mut told: Teller<'_>, all: &[FindFault]) -> Option<String> {
-    for fault in all.get(..TOLD).unwrap_or(all) {
-        if told.is_known {
-            told.out.say("\n", &[]);
-        }
-        tell_obstacle(&mut told, *fault);
-        told.tell_alone();
-        told.is_known = true;
+/// Tells the first of what stands in the way, in the order in which the first is found, and how many more do.
+fn tell_all(told: &mut Teller<'_>) {
+    for bus in 0..told.tables.bus_count() {
+        tell_queue(told, Queue::Input(bus));
     }
-    tell_rest(&mut told, all.len().saturating_sub(TOLD));
-    let Teller { out, .. } = told;
-    out.finish()
+    for output in 0..told.tables.output_count() {
+        tell_queue(told, Queue::Output(output));
+    }
+    for label in 0..told.tables.label_count() {
+        tell_label(told, label);
+    }
+    if told.number > TOLD {
+        tell_rest(told, told.number.saturating_sub(TOLD));
+    }
 }
 
 /// Tells all that stands in the way, by what was found of a certificate.
@@ -204,22 +183,19 @@ fn explain_found(
     certificate: &Certificate,
     file: File<'_>,
 ) -> Option<String> {
-    match obstacles_of(alloc, tables, certificate) {
-        Some(all) => tell_all(
-            Teller {
-                alloc,
-                out: Explanation::new(alloc),
-                tables,
-                certificate,
-                file,
-                claims: file,
-                is_given: false,
-                is_known: false,
-            },
-            all.as_slice(),
-        ),
-        None => None,
-    }
+    let mut told = Teller {
+        alloc,
+        out: Explanation::new(alloc),
+        tables,
+        certificate,
+        file,
+        claims: file,
+        is_given: false,
+        number: 0,
+    };
+    tell_all(&mut told);
+    let Teller { out, .. } = told;
+    out.finish()
 }
 
 /// Tells all that stands in the way of a certificate behind the first.

@@ -1,7 +1,7 @@
 //! Why a certificate is refused.
 use crate::ages::{tell_oldest, tell_stale};
 use crate::gaps::tell_gap;
-use crate::labels::{aging_of, sending_of};
+use crate::labels::{Aging, Sending, aging_of, sending_of};
 use crate::misnamed::tell_names;
 use crate::servers::server_of;
 use crate::teller::Teller;
@@ -38,36 +38,43 @@ fn tell_queue(told: &mut Teller<'_>, fault: &CheckFault, queue: Queue) {
     }
 }
 
-/// Tells which rule a label breaks, as of this code.
-pub(crate) fn tell_label(told: &mut Teller<'_>, code: &str, label: usize, condition: Condition) {
+/// Tells which rule a label breaks, as of this code, by how it is sent and how old its words may be.
+pub(crate) fn tell_rule(
+    told: &mut Teller<'_>,
+    code: &str,
+    sending: &Sending,
+    aging: &Aging,
+    condition: Condition,
+) {
+    match condition {
+        Condition::SentTooSoon | Condition::SentTooLate => tell_gap(told, code, sending, condition),
+        Condition::AgeTooSmall | Condition::AgeOverLimit => tell_oldest(
+            told, code, aging, condition,
+        ),
+        Condition::SourceGoesStale => tell_stale(told, code, aging),
+        _ => {}
+    }
+}
+
+/// Tells what is wrong with a label.
+fn tell_label(told: &mut Teller<'_>, label: usize, condition: Condition) {
     let Some(sending) = sending_of(told.tables, told.certificate, label) else {
         return;
     };
-    let Some(aging) = aging_of(told.tables, told.certificate, label) else {
-        return;
-    };
-    match condition {
-        Condition::SentTooSoon | Condition::SentTooLate => tell_gap(
-            told, code, &sending, condition,
-        ),
-        Condition::AgeTooSmall | Condition::AgeOverLimit => tell_oldest(
-            told, code, &aging, condition,
-        ),
-        Condition::SourceGoesStale => tell_stale(told, code, &aging),
-        _ => {}
+    if let Some(aging) = aging_of(told.tables, told.certificate, label) {
+        tell_rule(told, condition.code(), &sending, &aging, condition);
     }
 }
 
 /// Tells a fault.
 fn tell_fault(told: &mut Teller<'_>, fault: &CheckFault) {
-    let (list, condition, index) = (fault.list, fault.condition, fault.index);
-    if condition == Condition::NamesDiffer {
-        return tell_names(told, list);
+    if matches!(fault.condition, Condition::NamesDiffer) {
+        return tell_names(told, fault.list);
     }
-    match list {
-        CertificateList::Inputs => tell_queue(told, fault, Queue::Input(index)),
-        CertificateList::Outputs => tell_queue(told, fault, Queue::Output(index)),
-        CertificateList::Labels => tell_label(told, condition.code(), index, condition),
+    match fault.list {
+        CertificateList::Inputs => tell_queue(told, fault, Queue::Input(fault.index)),
+        CertificateList::Outputs => tell_queue(told, fault, Queue::Output(fault.index)),
+        CertificateList::Labels => tell_label(told, fault.index, fault.condition),
     }
     told.tell_alone();
 }
@@ -91,7 +98,7 @@ pub fn explain_verdict(
         file: files.tables,
         claims: files.certificate,
         is_given: true,
-        is_known: false,
+        number: 1,
     };
     tell_fault(&mut told, &fault);
     let Teller { out, .. } = told;

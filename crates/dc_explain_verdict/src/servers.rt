@@ -1,12 +1,12 @@
 //! The queues of the tables: who serves each, and at what pace.
 use crate::bounds::counts_of;
 use crate::fact::Fact;
-use crate::fact::Fact::{Count, Name, Number, Only, Word};
+use crate::fact::Fact::{Count, If, Name, Number, Only, Word};
 use crate::teller::Teller;
 use dc_cert::Certificate;
 use dc_document::{MOST_STEPS, Section};
 use dc_find::Queue;
-use dc_tables::Tables;
+use dc_tables::{Stream, Tables};
 
 /// What the queues of a kind, what comes to them and what serves them are called.
 #[derive(Clone, Copy)]
@@ -50,7 +50,9 @@ pub(crate) struct Server {
     pub(crate) words: Words,
     /// Whether it is that of a bus.
     pub(crate) is_bus: bool,
-    /// Its name.
+    /// The table of the bus, or of the output, by its kind, its number and its name.
+    pub(crate) section: Section,
+    pub(crate) number: usize,
     pub(crate) name: Fact,
     /// The number and the name of what serves it.
     pub(crate) by: usize,
@@ -64,35 +66,41 @@ pub(crate) struct Server {
     /// The greatest `steps` that the tables may have with this `within`, and the least `within` with these `steps`.
     pub(crate) limit: u32,
     pub(crate) shortest: u32,
+    /// How many places the visits of the router have, and how many of them are the bus; of an output how many entries its
+    /// frame has, and 0.
+    pub(crate) all: u64,
+    pub(crate) own: u64,
+    /// The ticks in which a router goes once through its visits, with the fewest steps; of an output those of its frame.
+    pub(crate) round: u32,
     /// How many words a receive queue holds; of an output 0.
-    pub(crate) room: u32,
+    pub(crate) room: u64,
     /// How many streams come on a bus, and the greatest jitter of one; of an output 1 and 0.
     pub(crate) streams: u32,
     pub(crate) jitter: u32,
     /// The window, the backlog and the delay that the certificate claims of it; of an output its backlog is 0.
     pub(crate) window: u32,
-    pub(crate) backlog: u32,
+    pub(crate) backlog: u64,
     pub(crate) delay: u32,
 }
 
-/// The place of a queue in the tables, or where it is mended in the certificate, at a key of this.
-pub(crate) fn place(is_claimed: bool, queue: Queue, key: &'static str) -> Fact {
-    match queue {
-        Queue::Input(bus) => Fact::Place(is_claimed, Section::Bus, bus, key),
-        Queue::Output(output) => Fact::Place(is_claimed, Section::Output, output, key),
+/// The greatest jitter of some streams.
+fn jitter_of(streams: &[Stream]) -> u32 {
+    let mut jitter = 0u32;
+    for stream in streams {
+        jitter = jitter.max(stream.jitter);
     }
+    jitter
 }
 
-/// How many streams come on a bus, and the greatest jitter of one.
-fn streams_of(tables: &Tables, bus: usize) -> (u32, u32) {
-    let (mut streams, mut jitter) = (0u32, 0u32);
-    if bus < tables.bus_count() {
-        for stream in tables.bus_streams(bus).iter() {
-            streams = streams.saturating_add(1);
-            jitter = jitter.max(stream.jitter);
+/// How many of some visits are those of a bus.
+fn visits_of(visits: &[usize], bus: usize) -> u64 {
+    let mut own = 0u64;
+    for place in visits {
+        if *place == bus {
+            own = own.saturating_add(1);
         }
     }
-    (streams, jitter)
+    own
 }
 
 /// The bus of this number with its router, where the tables and the certificate have one.
@@ -101,16 +109,23 @@ fn bus_server(tables: &Tables, certificate: &Certificate, bus: usize) -> Option<
         return None;
     }
     tables.valid();
-    let own = tables.bus(bus);
-    let router = tables.router(own.router);
     let Some(claim) = certificate.inputs.get(bus) else {
         return None;
     };
-    let (streams, jitter) = streams_of(tables, bus);
+    let own = tables.bus(bus);
+    let router = tables.router(own.router);
+    let streams = tables.bus_streams(bus);
+    let (count, jitter) = (streams.len(), jitter_of(streams));
+    let visits = router.visits.as_slice();
+    let (all, own_visits) = (visits.len(), visits_of(visits, bus));
+    let round = router.within.saturating_mul(all as u32);
+    let shortest = router.steps.div_ceil(router.most.max(1)).max(1);
     Some(Server {
         queue: Queue::Input(bus),
         words: BUS,
         is_bus: true,
+        section: Section::Bus,
+        number: bus,
         name: Name(Section::Bus, bus),
         by: own.router,
         server: Name(Section::Router, own.router),
@@ -118,12 +133,15 @@ fn bus_server(tables: &Tables, certificate: &Certificate, bus: usize) -> Option<
         within: router.within,
         most: router.most,
         limit: MOST_STEPS,
-        shortest: router.steps.div_ceil(router.most.max(1)).max(1),
-        room: own.queue,
-        streams,
+        shortest,
+        all: all as u64,
+        own: own_visits,
+        round,
+        room: own.queue as u64,
+        streams: count as u32,
         jitter,
         window: claim.window,
-        backlog: claim.backlog,
+        backlog: claim.backlog as u64,
         delay: claim.delay,
     })
 }
@@ -133,22 +151,30 @@ fn output_server(tables: &Tables, certificate: &Certificate, output: usize) -> O
     if output >= tables.output_count() {
         return None;
     }
-    let own = tables.output(output);
     let Some(claim) = certificate.outputs.get(output) else {
         return None;
     };
+    let own = tables.output(output);
+    let all = own.entries.as_slice().len();
+    let limit = own.within.checked_div(own.gap).unwrap_or(0).min(MOST_STEPS);
+    let shortest = own.steps.saturating_mul(own.gap).max(1);
     Some(Server {
         queue: Queue::Output(output),
         words: OUTPUT,
         is_bus: false,
+        section: Section::Output,
+        number: output,
         name: Name(Section::Output, output),
         by: output,
         server: Name(Section::Output, output),
         steps: own.steps,
         within: own.within,
         most: MOST_STEPS,
-        limit: own.within.checked_div(own.gap).unwrap_or(0).min(MOST_STEPS),
-        shortest: own.steps.saturating_mul(own.gap).max(1),
+        limit,
+        shortest,
+        all: all as u64,
+        own: 0,
+        round: own.frame,
         room: 0,
         streams: 1,
         jitter: 0,
@@ -167,40 +193,6 @@ pub(crate) fn server_of(
     match queue {
         Queue::Input(bus) => bus_server(tables, certificate, bus),
         Queue::Output(output) => output_server(tables, certificate, output),
-    }
-}
-
-/// Of a bus how many places the visits of its router have, and how many of them are the bus; of an output how many
-/// entries its frame has, and how many ticks.
-pub(crate) fn shares_of(tables: &Tables, queue: Queue) -> (u32, u32) {
-    let mut all = 0u32;
-    let mut own = 0u32;
-    match queue {
-        Queue::Input(bus) if bus < tables.bus_count() => {
-            tables.valid();
-            for place in tables.router(tables.bus(bus).router).visits.as_slice() {
-                all = all.saturating_add(1);
-                own = own.saturating_add(u32::from(*place == bus));
-            }
-        }
-        Queue::Output(output) if output < tables.output_count() => {
-            own = tables.output(output).frame;
-            for _ in tables.output(output).entries.as_slice() {
-                all = all.saturating_add(1);
-            }
-        }
-        _ => {}
-    }
-    (all, own)
-}
-
-/// The ticks in which a router goes once through its visits, with the fewest steps; of an output those of its frame.
-pub(crate) fn round_of(tables: &Tables, server: &Server) -> u32 {
-    let (all, own) = shares_of(tables, server.queue);
-    if server.is_bus {
-        server.within.saturating_mul(all)
-    } else {
-        own
     }
 }
 
@@ -233,29 +225,33 @@ pub(crate) fn begin_counts(
     ticks: (u32, u32),
     whole: u32,
 ) -> u64 {
-    let counts = counts_of(told.tables, server.queue, ticks.0, whole);
-    let called = server.words;
-    let (first, last) = (u64::from(ticks.0), u64::from(ticks.1));
+    let (first, last) = ticks;
+    let counts = counts_of(told.tables, server.queue, first, whole);
+    let (sentence, other) = if first == last {
+        (
+            "{} `{}`: {} {} it by tick {}{} and {} surely been {}",
+            Word(""),
+        )
+    } else {
+        (
+            "{} `{}`: {} {} it by tick {}, and by tick {} {} surely been {}",
+            Number(last as u64),
+        )
+    };
     told.out.begin(code);
     told.say(
-        "{} `{}`: {} {} it by tick {}",
+        sentence,
         &[
-            Word(called.queue),
+            Word(server.words.queue),
             server.name,
             Count(counts.come),
-            Word(called.may),
-            Number(first),
+            Word(server.words.may),
+            Number(first as u64),
+            other,
+            Only(counts.served),
+            Word(server.words.done),
         ],
     );
-    let (served, done) = (Only(counts.served), Word(called.done));
-    if first == last {
-        told.say(" and {} surely been {}", &[served, done]);
-    } else {
-        told.say(
-            ", and by tick {} {} surely been {}",
-            &[Number(last), served, done],
-        );
-    }
     counts.come.saturating_sub(counts.served)
 }
 
@@ -265,14 +261,14 @@ pub(crate) fn tell_terms(told: &mut Teller<'_>, server: &Server, first: u32, wor
     told.say(
         "\n{}note: tick 1 is any tick that begins with {}; surely {} is what `steps` and `within` of {} `{}` promise\n{}note: `window {}` in the verdict is the first tick by which the rule fails; the numbers above are those of tick {}, where it fails by most",
         &[
-            Fact::If(!told.is_known),
+            If(told.number == 1),
             Word(server.words.empty),
             Word(server.words.done),
             Word(server.words.server),
             server.server,
-            Fact::If(first != 0),
-            Number(u64::from(first)),
-            Number(u64::from(worst)),
+            If(first != 0),
+            Number(first as u64),
+            Number(worst as u64),
         ],
     );
 }

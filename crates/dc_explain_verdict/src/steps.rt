@@ -36,8 +36,39 @@ pub(crate) enum Other {
     Minimum,
 }
 
+/// How the queue of a bus closes that is served at this pace, where its streams have this least interval, in ticks; the one
+/// of the tables where that is 0.
+fn bus_closing(
+    tables: &Tables,
+    server: &Server,
+    bus: usize,
+    pace: Paced,
+    minimum: u32,
+    window: Option<u32>,
+    quick: bool,
+) -> Option<Closing> {
+    if bus >= tables.bus_count() {
+        return None;
+    }
+    tables.valid();
+    let visits = tables.router(tables.bus(bus).router).visits.as_slice();
+    if visits.is_empty() || visits.len() > MOST_PLACES {
+        return None;
+    }
+    let service = Visits::new(pace, visits, bus);
+    if minimum < 1 {
+        return closed_by(&tables.bus_bound(bus), &service, window, quick);
+    }
+    let (streams, jitter) = (server.streams, server.jitter);
+    if streams < 1 || streams > MOST_ALIKE || jitter > WIDEST_JITTER {
+        return None;
+    }
+    let streams = Alike::new(streams, Jittered::new(minimum, jitter));
+    closed_by(&streams, &service, window, quick)
+}
+
 /// How a queue closes where one of its numbers is this: this window, or the least that does where none is named.
-pub(crate) fn closing_with(
+fn closing_with(
     tables: &Tables,
     server: &Server,
     other: Other,
@@ -51,25 +82,12 @@ pub(crate) fn closing_with(
         Other::Minimum => (server.steps, 0, number),
     };
     let within = server.within.saturating_sub(less);
-    let (streams, jitter) = (server.streams, server.jitter);
-    if within == 0 || streams < 1 || streams > MOST_ALIKE || jitter > WIDEST_JITTER {
+    if within == 0 {
         return None;
     }
     let pace = Paced::new(steps, within);
     match server.queue {
-        Queue::Input(bus) if bus < tables.bus_count() => {
-            tables.valid();
-            let visits = tables.router(tables.bus(bus).router).visits.as_slice();
-            if visits.is_empty() || visits.len() > MOST_PLACES {
-                return None;
-            }
-            let service = Visits::new(pace, visits, bus);
-            if minimum < 1 {
-                return closed_by(&tables.bus_bound(bus), &service, window, quick);
-            }
-            let streams = Alike::new(streams, Jittered::new(minimum, jitter));
-            closed_by(&streams, &service, window, quick)
-        }
+        Queue::Input(bus) => bus_closing(tables, server, bus, pace, minimum, window, quick),
         Queue::Output(output) if output < tables.output_count() => {
             closed_by(&tables.output_bound(output), &pace, window, quick)
         }
@@ -87,6 +105,20 @@ pub(crate) fn least_delay_of(tables: &Tables, server: &Server) -> u64 {
     match closing_of(tables, server, None) {
         None => u64::MAX,
         Some(closing) => closing.peaks.delay.height,
+    }
+}
+
+/// How many wait with so many steps in this window, or in the least that closes where none is named; none where it does not
+/// close.
+pub(crate) fn waiting_with(
+    tables: &Tables,
+    server: &Server,
+    steps: u32,
+    window: Option<u32>,
+) -> u64 {
+    match closing_with(tables, server, Other::Steps, steps, window, false) {
+        None => 0,
+        Some(closing) => closing.peaks.backlog.height,
     }
 }
 

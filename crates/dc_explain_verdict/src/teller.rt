@@ -25,8 +25,8 @@ pub(crate) struct Teller<'a> {
     pub(crate) claims: File<'a>,
     /// Whether the certificate was handed in, and not found.
     pub(crate) is_given: bool,
-    /// Whether it was told before what words mean.
-    pub(crate) is_known: bool,
+    /// The number of what is told among all that is, from 1: what words mean is told with the first.
+    pub(crate) number: usize,
 }
 
 /// What a line begins with that does not keep the design, by its kind.
@@ -46,7 +46,7 @@ fn begin_line(out: &mut Explanation, kind: &[u8]) {
     out.help(lead, &[]);
     for (own, words) in &ASKED {
         if kind.ends_with(own.as_bytes()) {
-            out.put(Value::Text(words));
+            out.add(words);
         }
     }
 }
@@ -77,18 +77,23 @@ impl<'a> Teller<'a> {
 
     /// Fills a hole.
     fn put(&mut self, fact: Fact) {
-        let tick_us = u64::from(self.tables.tick_us());
         let value = match fact {
             Fact::Number(number) => Value::Number(number),
             Fact::Range(low, high) => Value::Range(low, high),
             Fact::Count(count) => Value::Several(count, "word", "words"),
             Fact::Several(count, one, many) => Value::Several(count, one, many),
-            Fact::Ticks(count) => Value::Ticks(count, tick_us),
+            Fact::Ticks(count) => Value::Ticks(count, self.tables.tick_us() as u64),
             Fact::Span(low, high) if low == high => Value::Several(low, "tick", "ticks"),
-            Fact::Span(low, high) => Value::Range(low, high),
-            Fact::Only(0) => Value::Text("none has"),
-            Fact::Only(count) => Value::Several(count, "has", "have"),
-            Fact::Word(word) => Value::Text(word),
+            Fact::Span(low, high) => {
+                self.out.put(Value::Range(low, high));
+                return self.out.add(" ticks");
+            }
+            Fact::Only(0) => return self.out.add("none has"),
+            Fact::Only(count) => {
+                self.out.add("only ");
+                Value::Several(count, "has", "have")
+            }
+            Fact::Word(word) => return self.out.add(word),
             Fact::Name(section, number) => Value::Text(name_of(self.tables, section, number)),
             Fact::Written(list, number) => Value::Text(written_at(self.certificate, list, number)),
             Fact::Place(is_claimed, section, number, key) => {
@@ -96,13 +101,41 @@ impl<'a> Teller<'a> {
             }
             Fact::If(_) => return,
         };
-        if matches!(fact, Fact::Only(1..)) {
-            self.out.put(Value::Text("only "));
-        }
         self.out.put(value);
-        if matches!(fact, Fact::Span(low, high) if low != high) {
-            self.out.put(Value::Text(" ticks"));
+    }
+
+    /// Goes on with a line, of which each `{}` is a hole for the next of these facts; without a word where it is not told.
+    /// How many holes it has.
+    fn say_line(&mut self, line: &str, facts: &[Fact], is_told: bool) -> usize {
+        let mut holes = 0usize;
+        for (number, piece) in line.split("{}").enumerate() {
+            holes = number;
+            if !is_told {
+                continue;
+            }
+            if number != 0 {
+                if let Some(fact) = facts.get(number.saturating_sub(1)) {
+                    self.put(*fact);
+                }
+            }
+            if !piece.is_empty() {
+                self.out.add(piece);
+            }
         }
+        holes
+    }
+
+    /// Goes on with a line behind the first of a sentence, which begins with what it is for. How many holes it has.
+    fn say_further(&mut self, line: &str, facts: &[Fact]) -> usize {
+        let (kind, rest) = line.split_once(": ").unwrap_or(("", line));
+        let kind = kind.as_bytes();
+        let guards = usize::from(kind.starts_with(b"{}"));
+        let is_told = guards == 0 || !matches!(facts.first(), Some(Fact::If(false)));
+        if is_told {
+            begin_line(&mut self.out, kind);
+        }
+        let holes = self.say_line(rest, facts.get(guards..).unwrap_or(&[]), is_told);
+        holes.saturating_add(guards)
     }
 
     /// Goes on with a sentence, of which each `{}` is a hole for the next of these facts, and each line behind the first
@@ -110,30 +143,13 @@ impl<'a> Teller<'a> {
     pub(crate) fn say(&mut self, sentence: &str, facts: &[Fact]) {
         let mut next = 0usize;
         for (number, line) in sentence.split("\n").enumerate() {
-            let (kind, rest) = if number == 0 {
-                ("", line)
+            let own = facts.get(next..).unwrap_or(&[]);
+            let holes = if number == 0 {
+                self.say_line(line, own, true)
             } else {
-                line.split_once(": ").unwrap_or(("", line))
+                self.say_further(line, own)
             };
-            let is_guarded = kind.as_bytes().starts_with(b"{}");
-            let is_told = !is_guarded || !matches!(facts.get(next), Some(Fact::If(false)));
-            next = next.saturating_add(usize::from(is_guarded));
-            if number != 0 && is_told {
-                begin_line(&mut self.out, kind.as_bytes());
-            }
-            for (hole, piece) in rest.split("{}").enumerate() {
-                if hole != 0 {
-                    if let Some(fact) = facts.get(next) {
-                        if is_told {
-                            self.put(*fact);
-                        }
-                    }
-                    next = next.saturating_add(1);
-                }
-                if is_told && !piece.is_empty() {
-                    self.out.put(Value::Text(piece));
-                }
-            }
+            next = next.saturating_add(holes);
         }
     }
 
@@ -154,7 +170,7 @@ impl<'a> Teller<'a> {
 
     /// Tells for how much the ways are enough that were told, where some were.
     pub(crate) fn tell_alone(&mut self) {
-        let is_new = self.out.is_helped() && !self.is_known;
+        let is_new = self.out.is_helped() && self.number == 1;
         self.say(
             "\n{}note: what helps here is enough for this rule alone: `dc429 find` tells whether all hold then, and writes a certificate\n{}note: what helps here is enough for this rule alone; who changes the tables lets `dc429 find TABLES > CERTIFICATE` write all numbers of the certificate anew: those of this one are of the old tables",
             &[

@@ -1,6 +1,6 @@
 //! What is wrong with the window, the backlog or the delay of a queue: C02 to C07.
-use crate::fact::Fact::{Count, If, Number, Range, Ticks, Word};
-use crate::servers::{Server, begin_counts, place, tell_terms};
+use crate::fact::Fact::{Count, If, Number, Place, Range, Ticks, Word};
+use crate::servers::{Server, begin_counts, tell_terms};
 use crate::steps::{ANY_WINDOW, Wish, closing_of};
 use crate::teller::Teller;
 use crate::ways::{tell_never_ways, tell_steps};
@@ -10,37 +10,44 @@ use dc_busy::LONGEST_WINDOW;
 /// The longest window, and the longest delay.
 const LONGEST: u64 = LONGEST_WINDOW as u64;
 
-/// What it is to close.
-const CLOSING: &str =
-    "\nnote: a window closes where all that may come in it is surely served by its end, so that the queue is empty again";
+/// How many words the longest queue holds.
+const GREATEST: u64 = GREATEST_QUEUE as u64;
 
 /// Ends a sentence by the least window that closes, or by that there is none, and tells what helps. Whether there is one.
 fn tell_least_window(told: &mut Teller<'_>, server: &Server) -> bool {
-    let Some(closing) = closing_of(told.tables, server, None) else {
-        told.say(
-            "; no window up to {} closes{}",
-            &[Ticks(LONGEST), place(false, server.queue, "")],
-        );
-        told.say(CLOSING, &[]);
-        tell_never_ways(told, server);
-        return false;
+    let (is_found, before, ticks, behind, key) = match closing_of(told.tables, server, None) {
+        None => (false, "no window up to ", LONGEST, " closes", ""),
+        Some(closing) => (
+            true,
+            "the least that closes is ",
+            closing.window as u64,
+            "",
+            "window",
+        ),
     };
-    let window = Ticks(u64::from(closing.window));
     told.say(
-        "; the least that closes is {}{}",
-        &[window, place(true, server.queue, "window")],
+        "; {}{}{}{}\nnote: a window closes where all that may come in it is surely served by its end, so that the queue is empty again\n{}help: write a `window` of {}",
+        &[
+            Word(before),
+            Ticks(ticks),
+            Word(behind),
+            Place(is_found, server.section, server.number, key),
+            If(is_found),
+            Ticks(ticks),
+        ],
     );
-    told.say(CLOSING, &[]);
-    told.say("\nhelp: write a `window` of {}", &[window]);
-    true
+    if !is_found {
+        tell_never_ways(told, server);
+    }
+    is_found
 }
 
 /// C02 and C07: the window, or the delay, is out of its range.
 pub(crate) fn tell_range(told: &mut Teller<'_>, server: &Server, is_window: bool) {
     let (code, key, claimed) = if is_window {
-        ("C02", "window", server.window)
+        ("C02", "window", server.window as u64)
     } else {
-        ("C07", "delay", server.delay)
+        ("C07", "delay", server.delay as u64)
     };
     told.out.begin(code);
     told.say(
@@ -49,14 +56,14 @@ pub(crate) fn tell_range(told: &mut Teller<'_>, server: &Server, is_window: bool
             Word(server.words.queue),
             server.name,
             Word(key),
-            Ticks(u64::from(claimed)),
+            Ticks(claimed),
             Range(1, LONGEST),
         ],
     );
     let own = closing_of(told.tables, server, Some(server.window));
     match own.or(closing_of(told.tables, server, None)) {
         Some(closing) if !is_window => {
-            told.say("{}", &[place(true, server.queue, key)]);
+            told.say("{}", &[Place(true, server.section, server.number, key)]);
             tell_delay_way(told, closing.peaks.delay.height)
         }
         _ => {
@@ -81,16 +88,11 @@ fn tell_delay_way(told: &mut Teller<'_>, least: u64) {
 /// C03: the window does not close.
 pub(crate) fn tell_open_window(told: &mut Teller<'_>, server: &Server) {
     let window = server.window;
-    let left = begin_counts(
-        told,
-        "C03",
-        server,
-        (window, window),
-        window.saturating_sub(1),
-    );
+    let whole = window.saturating_sub(1);
+    let left = begin_counts(told, "C03", server, (window, window), whole);
     told.say(
         ": a window of {} does not close, {} may be left",
-        &[Ticks(u64::from(window)), Count(left)],
+        &[Ticks(window as u64), Count(left)],
     );
     if tell_least_window(told, server) {
         let wish = Wish {
@@ -107,47 +109,44 @@ pub(crate) fn tell_backlog(told: &mut Teller<'_>, server: &Server, first: u32) {
     let Some(closing) = closing_of(told.tables, server, Some(server.window)) else {
         return;
     };
-    let peak = closing.peaks.backlog;
-    let least = Number(peak.height);
-    let is_claimed = peak.height <= u64::from(server.room);
-    let (by, whole) = (peak.ticks, peak.ticks.saturating_sub(2));
-    begin_counts(told, "C04", server, (by, by), whole);
+    let (least, by) = (closing.peaks.backlog.height, closing.peaks.backlog.ticks);
+    let is_claimed = least <= server.room;
+    begin_counts(told, "C04", server, (by, by), by.saturating_sub(2));
     told.say(
         ": {} may wait, and the certificate lets {} wait{}",
         &[
-            least,
-            Number(u64::from(server.backlog)),
-            place(is_claimed, server.queue, "backlog"),
+            Number(least),
+            Number(server.backlog),
+            Place(is_claimed, server.section, server.number, "backlog"),
         ],
     );
-    tell_terms(told, server, first, peak.ticks);
+    tell_terms(told, server, first, by);
     told.say(
         "\n{}help: write a `backlog` of at least {}",
-        &[If(is_claimed), least],
+        &[If(is_claimed), Number(least)],
     );
     let wish = Wish {
         window: Some(server.window),
-        waiting: u64::from(server.backlog),
+        waiting: server.backlog,
         ..ANY_WINDOW
     };
     tell_steps(told, server, &wish);
     if !is_claimed {
-        tell_longer_queue(told, server, peak.height);
+        tell_longer_queue(told, server, least);
     }
 }
 
 /// Tells how long the queue of a bus would have to be, or that none is long enough.
 fn tell_longer_queue(told: &mut Teller<'_>, server: &Server, least: u64) {
-    let greatest = u64::from(GREATEST_QUEUE);
     told.say(
         "\n{}note: no `queue` is long enough: the longest holds {} words\n{}help: make the `queue` of bus `{}` at least {} long, where it has {}: that costs memory alone",
         &[
-            If(least > greatest),
-            Number(greatest),
-            If(least <= greatest),
+            If(least > GREATEST),
+            Number(GREATEST),
+            If(least <= GREATEST),
             server.name,
             Count(least),
-            Number(u64::from(server.room)),
+            Number(server.room),
         ],
     );
 }
@@ -158,31 +157,30 @@ pub(crate) fn tell_room(told: &mut Teller<'_>, server: &Server) {
         return;
     };
     let least = closing.peaks.backlog.height;
-    let room = u64::from(server.room);
+    let is_room = least <= server.room;
     told.out.begin("C05");
     told.say(
-        "input `{}`: the certificate lets {} wait, and the queue of bus `{}` holds {}{}",
+        "input `{}`: the certificate lets {} wait, and the queue of bus `{}` holds {}{}\n{}help: write a `backlog` of {}: no more than {} ever wait",
         &[
             server.name,
-            Count(u64::from(server.backlog)),
+            Count(server.backlog),
             server.name,
-            Number(room),
-            place(least <= room, server.queue, "backlog"),
+            Number(server.room),
+            Place(is_room, server.section, server.number, "backlog"),
+            If(is_room),
+            Range(least, server.room),
+            Number(least),
         ],
     );
-    if least > room {
-        return tell_room_ways(told, server, least);
+    if !is_room {
+        tell_room_ways(told, server, least);
     }
-    told.say(
-        "\nhelp: write a `backlog` of {}: no more than {} ever wait",
-        &[Range(least, room), Number(least)],
-    );
 }
 
 /// Tells what helps where more may wait than the queue of a bus holds.
 pub(crate) fn tell_room_ways(told: &mut Teller<'_>, server: &Server, least: u64) {
     let wish = Wish {
-        waiting: u64::from(server.room),
+        waiting: server.room,
         ..ANY_WINDOW
     };
     tell_steps(told, server, &wish);
@@ -198,21 +196,21 @@ pub(crate) fn tell_delay(told: &mut Teller<'_>, server: &Server, first: u32) {
     let Some(closing) = closing_of(told.tables, server, Some(server.window)) else {
         return;
     };
-    let peak = closing.peaks.delay;
-    let by = peak.ticks.saturating_add(server.delay);
-    begin_counts(told, "C06", server, (peak.ticks, by), by.saturating_sub(1));
+    let (least, from) = (closing.peaks.delay.height, closing.peaks.delay.ticks);
+    let by = from.saturating_add(server.delay);
+    begin_counts(told, "C06", server, (from, by), by.saturating_sub(1));
     told.say(
         "; the certificate has a delay of {}{}",
         &[
-            Ticks(u64::from(server.delay)),
-            place(true, server.queue, "delay"),
+            Ticks(server.delay as u64),
+            Place(true, server.section, server.number, "delay"),
         ],
     );
-    tell_terms(told, server, first, peak.ticks);
-    tell_delay_way(told, peak.height);
+    tell_terms(told, server, first, from);
+    tell_delay_way(told, least);
     let wish = Wish {
         window: Some(server.window),
-        delay: u64::from(server.delay),
+        delay: server.delay as u64,
         ..ANY_WINDOW
     };
     tell_steps(told, server, &wish);

@@ -1,22 +1,22 @@
 //! What helps. What keeps the design is told first, then what is asked of sources, then what weakens a promise.
 use crate::fact::Fact;
-use crate::fact::Fact::{Count, If, Number, Range, Span, Ticks, Word};
-use crate::servers::{Server, place, shares_of, sibling_of};
-use crate::steps::{ANY_WINDOW, Other, Wish, closing_with, least, least_delay_of};
+use crate::fact::Fact::{Count, If, Name, Number, Place, Range, Several, Span, Ticks, Word};
+use crate::servers::{Server, sibling_of};
+use crate::steps::{ANY_WINDOW, Other, Wish, least, least_delay_of, waiting_with};
 use crate::teller::Teller;
 use dc_document::Section;
 
-/// What is wished, as a sentence goes on with it, and its number.
-fn wished(wish: &Wish) -> (&'static str, Fact) {
+/// What is wished, as a sentence goes on with it: what stands before its number, that, and what stands behind it.
+fn wished(wish: &Wish) -> (&'static str, Fact, &'static str) {
     if wish.delay < ANY_WINDOW.delay {
-        return (" for none to wait longer than {}", Ticks(wish.delay));
+        return (" for none to wait longer than ", Ticks(wish.delay), "");
     }
     if wish.waiting < ANY_WINDOW.waiting {
-        return (" for no more than {} to wait", Number(wish.waiting));
+        return (" for no more than ", Number(wish.waiting), " to wait");
     }
     match wish.window {
-        None => (" for a window to close", Number(0)),
-        Some(window) => (" for a window of {} to close", Ticks(u64::from(window))),
+        None => (" for a window to close", Word(""), ""),
+        Some(window) => (" for a window of ", Ticks(window as u64), " to close"),
     }
 }
 
@@ -24,53 +24,51 @@ fn wished(wish: &Wish) -> (&'static str, Fact) {
 /// as many in a tick is to be let, and a queue that is too short then is to be longer. That none are enough is told where
 /// nothing was that helps.
 pub(crate) fn tell_steps(told: &mut Teller<'_>, server: &Server, wish: &Wish) {
-    let (sentence, number) = wished(wish);
-    let (by, name, now) = (
-        Word(server.words.server),
-        server.server,
-        u64::from(server.steps),
-    );
     let Some(steps) = least(told.tables, server, Other::Steps, wish) else {
-        if !told.out.is_helped() {
-            let (limit, within) = (u64::from(server.limit), u64::from(server.within));
-            told.say(
-                "\nnote: `steps` of {} `{}` alone do not mend it: even {} in {}, the most that it may have, are too few",
-                &[by, name, Number(limit), Ticks(within)],
-            );
-            told.say(sentence, &[number]);
-        }
-        return;
+        return tell_too_few(told, server, wish);
     };
-    let wanted = u64::from(steps);
-    told.say(
-        "\nhelp: give {} `{}` `steps` of at least {} in place of {}",
-        &[by, name, Number(wanted), Number(now)],
-    );
-    told.say(sentence, &[number]);
-    tell_beside(told, server, steps, wish.window);
-}
-
-/// Tells what so many steps want beside them.
-fn tell_beside(told: &mut Teller<'_>, server: &Server, steps: u32, window: Option<u32>) {
-    let closing = closing_with(told.tables, server, Other::Steps, steps, window, false);
-    let waiting = match closing {
-        None => 0,
-        Some(closing) => closing.peaks.backlog.height,
-    };
+    let waiting = waiting_with(told.tables, server, steps, wish.window);
     let most = steps.div_ceil(server.within.max(1));
-    let room = u64::from(server.room);
+    let (before, number, behind) = wished(wish);
+    let wanted = Number(steps as u64);
     told.say(
-        "\n{}note: with {} steps router `{}` wants a `most` of at least {} too\n{}note: with {} steps {} may still wait, and the `queue` of bus `{}` holds {}: make it so long too",
+        "\nhelp: give {} `{}` `steps` of at least {} in place of {}{}{}{}\n{}note: with {} steps router `{}` wants a `most` of at least {} too\n{}note: with {} steps {} may still wait, and the `queue` of bus `{}` holds {}: make it so long too",
         &[
-            If(most > server.most),
-            Number(u64::from(steps)),
+            Word(server.words.server),
             server.server,
-            Number(u64::from(most)),
-            If(server.is_bus && waiting > room),
-            Number(u64::from(steps)),
+            wanted,
+            Number(server.steps as u64),
+            Word(before),
+            number,
+            Word(behind),
+            If(most > server.most),
+            wanted,
+            server.server,
+            Number(most as u64),
+            If(server.is_bus && waiting > server.room),
+            wanted,
             Count(waiting),
             server.name,
-            Number(room),
+            Number(server.room),
+        ],
+    );
+}
+
+/// Tells that no steps are enough for what is wished, where nothing was told that helps.
+fn tell_too_few(told: &mut Teller<'_>, server: &Server, wish: &Wish) {
+    let is_helped = told.out.is_helped();
+    let (before, number, behind) = wished(wish);
+    told.say(
+        "\n{}note: `steps` of {} `{}` alone do not mend it: even {} in {}, the most that it may have, are too few{}{}{}",
+        &[
+            If(!is_helped),
+            Word(server.words.server),
+            server.server,
+            Number(server.limit as u64),
+            Ticks(server.within as u64),
+            Word(before),
+            number,
+            Word(behind),
         ],
     );
 }
@@ -86,8 +84,8 @@ pub(crate) fn mended_at(
 ) -> Fact {
     let least = least_delay_of(told.tables, server);
     match most {
-        Some(most) if least <= most => place(true, server.queue, "delay"),
-        _ => Fact::Place(false, Section::Label, label, key),
+        Some(most) if least <= most => Place(true, server.section, server.number, "delay"),
+        _ => Place(false, Section::Label, label, key),
     }
 }
 
@@ -113,29 +111,28 @@ pub(crate) fn tell_shorter_delay(told: &mut Teller<'_>, server: &Server, most: O
 
 /// Tells at what pace a queue is served, of which no window closes.
 fn tell_pace(told: &mut Teller<'_>, server: &Server) {
-    let (steps, within) = (u64::from(server.steps), Ticks(u64::from(server.within)));
-    let (all, own) = shares_of(told.tables, server.queue);
-    let round = u64::from(server.within.saturating_mul(all));
-    let (all, own) = (u64::from(all), u64::from(own));
+    let steps = server.steps as u64;
+    let taken = steps.saturating_mul(server.own);
+    let (within, round) = (Ticks(server.within as u64), Ticks(server.round as u64));
     told.say(
         "\n{}note: router `{}` makes at least {} in each {}; of its `visits`, {} in all, bus `{}` has {}: so {} surely taken in each {}, and a window closes only where less comes in the long run: as much is too much{}\n{}note: output `{}` sends at least {} in each {}, and its `frame` of {} has {}: a window closes only where less falls due in the long run: as much is too much",
         &[
             If(server.is_bus),
             server.server,
-            Fact::Several(steps, "step", "steps"),
+            Several(steps, "step", "steps"),
             within,
-            Number(all),
+            Number(server.all),
             server.name,
-            Number(own),
-            Fact::Several(steps.saturating_mul(own), "word is", "words are"),
-            Ticks(round),
-            Fact::Place(false, Section::Router, server.by, "steps"),
+            Number(server.own),
+            Several(taken, "word is", "words are"),
+            round,
+            Place(false, Section::Router, server.by, "steps"),
             If(!server.is_bus),
             server.name,
             Count(steps),
             within,
-            Ticks(own),
-            Count(all),
+            round,
+            Count(server.all),
         ],
     );
 }
@@ -157,12 +154,12 @@ fn tell_within(told: &mut Teller<'_>, server: &Server) {
         &[
             Word(server.words.server),
             server.server,
-            Range(u64::from(server.shortest), u64::from(longest)),
-            Number(u64::from(server.within)),
+            Range(server.shortest as u64, longest as u64),
+            Number(server.within as u64),
             If(number != server.by),
             Word(server.words.server),
-            Fact::Name(section, number),
-            Number(u64::from(within)),
+            Name(section, number),
+            Number(within as u64),
         ],
     );
 }
@@ -173,21 +170,21 @@ pub(crate) fn tell_never_ways(told: &mut Teller<'_>, server: &Server) {
     tell_pace(told, server);
     tell_within(told, server);
     tell_steps(told, server, &ANY_WINDOW);
-    let (all, own) = shares_of(told.tables, server.queue);
     let minimum = least(told.tables, server, Other::Minimum, &ANY_WINDOW).unwrap_or(0);
-    let interval = u64::from(minimum).saturating_mul(u64::from(told.tables.tick_us()));
+    let interval = (minimum as u64).saturating_mul(told.tables.tick_us() as u64);
+    let is_bus = server.is_bus;
     told.say(
         "\n{}help: let router `{}` visit bus `{}` more often, if its other buses can spare it: its `steps` are shared out by `visits`\n{}asked: let words come less often on bus `{}`, by a `min_us` of at least {} microseconds (and a `max_us` that is not less) in the parameter of each of its streams\n{}weaker: bring fewer streams on bus `{}`\n{}weaker: send its labels less often, by a longer `frame` or fewer `offsets`",
         &[
-            If(server.is_bus && own < all),
+            If(is_bus && server.own < server.all),
             server.server,
             server.name,
-            If(server.is_bus && minimum > 0),
+            If(is_bus && minimum > 0),
             server.name,
             Number(interval),
-            If(server.is_bus && server.streams > 1),
+            If(is_bus && server.streams > 1),
             server.name,
-            If(!server.is_bus),
+            If(!is_bus),
         ],
     );
 }
