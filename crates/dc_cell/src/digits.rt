@@ -1,7 +1,7 @@
 //! Cells that hold digits: a label, an equipment code, a length.
 
-ghost use Rattle.std.specs.Prelude.{◌≡◌, ◌+◌, ◌*◌, ◌^◌, ◌<◌, ◌≤◌, length, position, IfSome};
-ghost use Rattle.std.specs.List.{list_all};
+ghost use Rattle.std.specs.Prelude.{◌≡◌, ◌==◌, ◌||◌, ◌+◌, ◌*◌, ◌^◌, ◌<◌, ◌≤◌, length, position, IfSome};
+ghost use Rattle.std.specs.List.{list_all, position_from};
 ghost use Rattle.dc_cell.specs.Digits.{number_in as number_of_text, is_digit as is_digit_of, is_mark as is_mark_of, is_power_mark as is_power_mark_of, is_digit_or_mark as is_digit_or_mark_of, are_digits as are_digits_of, is_fraction_at, is_exponent as is_exponent_of, is_factor as is_factor_of, is_power_at, is_made_number as is_made_number_of, label_of, queue_of, equipment_of};
 
 use crate::fault::CellFault;
@@ -82,13 +82,6 @@ fn is_mark(byte: u8) -> bool
     byte == b'.' || byte == b','
 }
 
-/// Whether a byte is an E.
-fn is_power_mark(byte: u8) -> bool
-    ensures { result ≡ is_power_mark_of byte }
-{
-    byte == b'E' || byte == b'e'
-}
-
 /// Whether a byte is a decimal digit, a point or a comma.
 fn is_digit_or_mark(byte: u8) -> bool
     ensures { result ≡ is_digit_or_mark_of byte }
@@ -100,14 +93,24 @@ fn is_digit_or_mark(byte: u8) -> bool
 fn has_only_digits(text: &[u8]) -> bool
     ensures { result ≡ list_all is_digit_of text.now }
 {
-    text.iter().all(|byte| is_digit(*byte))
+    for byte in text {
+        if !is_digit(*byte) {
+            return false;
+        }
+    }
+    true
 }
 
 /// Whether each byte is a decimal digit, a point or a comma.
 fn has_only_digits_and_marks(text: &[u8]) -> bool
     ensures { result ≡ list_all is_digit_or_mark_of text.now }
 {
-    text.iter().all(|byte| is_digit_or_mark(*byte))
+    for byte in text {
+        if !is_digit_or_mark(*byte) {
+            return false;
+        }
+    }
+    true
 }
 
 /// Whether a text is one or more decimal digits.
@@ -117,12 +120,32 @@ fn are_digits(text: &[u8]) -> bool
     text.len() > 0 && has_only_digits(text)
 }
 
+/// Whether a byte is one of two.
+fn is_either(byte: u8, one: u8, other: u8) -> bool
+    ensures { result ≡ (byte == one || byte == other) }
+{
+    byte == one || byte == other
+}
+
+/// Where the first of two bytes stands in a text.
+fn place_of(one: u8, other: u8, text: &[u8]) -> Option<usize>
+    ensures value { result ≡ position_from (λ byte. byte == one || byte == other) 0 text.now }
+    ensures within { IfSome result (λ at. at < length text.now) }
+{
+    for (at, byte) in text.iter().enumerate() {
+        if is_either(*byte, one, other) {
+            return Some(at);
+        }
+    }
+    None
+}
+
 /// Where the first point or comma of a text stands.
 pub fn mark_at(text: &[u8]) -> Option<usize>
     ensures value { result ≡ position is_mark_of text.now }
     ensures within { IfSome result (λ at. at < length text.now) }
 {
-    text.iter().position(|byte| is_mark(*byte))
+    place_of(b'.', b',', text)
 }
 
 /// Where the first E of a text stands.
@@ -130,7 +153,7 @@ fn power_mark_at(text: &[u8]) -> Option<usize>
     ensures value { result ≡ position is_power_mark_of text.now }
     ensures within { IfSome result (λ at. at < length text.now) }
 {
-    text.iter().position(|byte| is_power_mark(*byte))
+    place_of(b'E', b'e', text)
 }
 
 /// Whether a text is digits, a point or a comma, and digits.
