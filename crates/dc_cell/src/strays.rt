@@ -1,7 +1,8 @@
 //! Titles by which a column seems to be meant, though none is read under them.
 
 ghost use Rattle.std.specs.Prelude.{◌≡◌, ◌≤◌, ◌||◌, [], codes, drop, length};
-ghost use Rattle.dc_cell.specs.Strays.{are_exchanged as are_exchanged_of, is_first_off as is_first_off_of, is_one_off as is_one_off_of, gap_before, stem_of as stem_of_key, begins_with as begins_with_of, is_near_unit, is_near_timed, is_near_part as is_near_part_of, is_near as is_near_of, is_unitless as is_unitless_of, is_meant as is_meant_of, is_any_of_inputs, is_any_of_outputs, is_clear_input as is_clear_input_of, is_clear_output as is_clear_output_of};
+ghost use Rattle.std.specs.List.{list_any};
+ghost use Rattle.dc_cell.specs.Strays.{are_exchanged as are_exchanged_of, is_first_off as is_first_off_of, is_one_off as is_one_off_of, gap_before, stem_of as stem_of_key, begins_with as begins_with_of, is_near_timed as is_near_timed_of, is_near_part as is_near_part_of, is_near as is_near_of, is_unitless as is_unitless_of, is_meant as is_meant_of, is_any_of_inputs, is_any_of_outputs, is_clear_input as is_clear_input_of, is_clear_output as is_clear_output_of};
 ghost use Rattle.dc_cell.specs.Titles.{is_title as is_title_of};
 ghost use Rattle.dc_cell.specs.declared.titles.Column.TheVariants as col;
 
@@ -79,184 +80,27 @@ fn begins_with(word: &[u8], key: &[u8]) -> bool
     word.len() <= key.len() && is_word(&key[..word.len()], word)
 }
 
-/// Whether a key lies one letter from `minimum` with a unit.
-fn is_near_minimum_unit(key: &[u8]) -> bool
-    ensures { result ≡ is_near_unit (codes "minimum") key.now }
+/// Whether a key lies one letter from the name of a time with one of its units, as these four words have it.
+fn is_near_unit(key: &[u8], us: &[u8], usec: &[u8], ms: &[u8], msec: &[u8]) -> bool
+    ensures { result ≡ (is_one_off_of us.now key.now || is_one_off_of usec.now key.now || is_one_off_of ms.now key.now || is_one_off_of msec.now key.now) }
 {
-    is_one_off(b"minimum_us", key)
-        || is_one_off(b"minimum_usec", key)
-        || is_one_off(b"minimum_ms", key)
-        || is_one_off(b"minimum_msec", key)
+    is_one_off(us, key) || is_one_off(usec, key) || is_one_off(ms, key) || is_one_off(msec, key)
 }
 
-/// Whether a key lies one letter from `minimum`, with or without a unit.
-fn is_near_minimum(key: &[u8], stem: &[u8]) -> bool
-    ensures { result ≡ is_near_timed (codes "minimum") key.now stem.now }
+/// Whether a key lies one letter from the name of a time, with or without a unit, as these five words have it.
+fn is_near_timed(
+    key: &[u8],
+    stem: &[u8],
+    word: &[u8],
+    us: &[u8],
+    usec: &[u8],
+    ms: &[u8],
+    msec: &[u8],
+) -> bool
+    ensures { result ≡ (is_one_off_of word.now key.now || is_one_off_of word.now stem.now
+        || (is_one_off_of us.now key.now || is_one_off_of usec.now key.now || is_one_off_of ms.now key.now || is_one_off_of msec.now key.now)) }
 {
-    is_one_off(b"minimum", key) || is_one_off(b"minimum", stem) || is_near_minimum_unit(key)
-}
-
-/// Whether a key lies one letter from `min_interval` with a unit.
-fn is_near_min_interval_unit(key: &[u8]) -> bool
-    ensures { result ≡ is_near_unit (codes "min_interval") key.now }
-{
-    is_one_off(b"min_interval_us", key)
-        || is_one_off(b"min_interval_usec", key)
-        || is_one_off(b"min_interval_ms", key)
-        || is_one_off(b"min_interval_msec", key)
-}
-
-/// Whether a key lies one letter from `min_interval`, with or without a unit.
-fn is_near_min_interval(key: &[u8], stem: &[u8]) -> bool
-    ensures { result ≡ is_near_timed (codes "min_interval") key.now stem.now }
-{
-    is_one_off(b"min_interval", key)
-        || is_one_off(b"min_interval", stem)
-        || is_near_min_interval_unit(key)
-}
-
-/// Whether a key lies one letter from `min_transmit_interval` with a unit.
-fn is_near_min_transmit_interval_unit(key: &[u8]) -> bool
-    ensures { result ≡ is_near_unit (codes "min_transmit_interval") key.now }
-{
-    is_one_off(b"min_transmit_interval_us", key)
-        || is_one_off(b"min_transmit_interval_usec", key)
-        || is_one_off(b"min_transmit_interval_ms", key)
-        || is_one_off(b"min_transmit_interval_msec", key)
-}
-
-/// Whether a key lies one letter from `min_transmit_interval`, with or without a unit.
-fn is_near_min_transmit_interval(key: &[u8], stem: &[u8]) -> bool
-    ensures { result ≡ is_near_timed (codes "min_transmit_interval") key.now stem.now }
-{
-    is_one_off(b"min_transmit_interval", key)
-        || is_one_off(b"min_transmit_interval", stem)
-        || is_near_min_transmit_interval_unit(key)
-}
-
-/// Whether a key lies one letter from `maximum` with a unit.
-fn is_near_maximum_unit(key: &[u8]) -> bool
-    ensures { result ≡ is_near_unit (codes "maximum") key.now }
-{
-    is_one_off(b"maximum_us", key)
-        || is_one_off(b"maximum_usec", key)
-        || is_one_off(b"maximum_ms", key)
-        || is_one_off(b"maximum_msec", key)
-}
-
-/// Whether a key lies one letter from `maximum`, with or without a unit.
-fn is_near_maximum(key: &[u8], stem: &[u8]) -> bool
-    ensures { result ≡ is_near_timed (codes "maximum") key.now stem.now }
-{
-    is_one_off(b"maximum", key) || is_one_off(b"maximum", stem) || is_near_maximum_unit(key)
-}
-
-/// Whether a key lies one letter from `max_interval` with a unit.
-fn is_near_max_interval_unit(key: &[u8]) -> bool
-    ensures { result ≡ is_near_unit (codes "max_interval") key.now }
-{
-    is_one_off(b"max_interval_us", key)
-        || is_one_off(b"max_interval_usec", key)
-        || is_one_off(b"max_interval_ms", key)
-        || is_one_off(b"max_interval_msec", key)
-}
-
-/// Whether a key lies one letter from `max_interval`, with or without a unit.
-fn is_near_max_interval(key: &[u8], stem: &[u8]) -> bool
-    ensures { result ≡ is_near_timed (codes "max_interval") key.now stem.now }
-{
-    is_one_off(b"max_interval", key)
-        || is_one_off(b"max_interval", stem)
-        || is_near_max_interval_unit(key)
-}
-
-/// Whether a key lies one letter from `max_transmit_interval` with a unit.
-fn is_near_max_transmit_interval_unit(key: &[u8]) -> bool
-    ensures { result ≡ is_near_unit (codes "max_transmit_interval") key.now }
-{
-    is_one_off(b"max_transmit_interval_us", key)
-        || is_one_off(b"max_transmit_interval_usec", key)
-        || is_one_off(b"max_transmit_interval_ms", key)
-        || is_one_off(b"max_transmit_interval_msec", key)
-}
-
-/// Whether a key lies one letter from `max_transmit_interval`, with or without a unit.
-fn is_near_max_transmit_interval(key: &[u8], stem: &[u8]) -> bool
-    ensures { result ≡ is_near_timed (codes "max_transmit_interval") key.now stem.now }
-{
-    is_one_off(b"max_transmit_interval", key)
-        || is_one_off(b"max_transmit_interval", stem)
-        || is_near_max_transmit_interval_unit(key)
-}
-
-/// Whether a key lies one letter from `jitter` with a unit.
-fn is_near_jitter_unit(key: &[u8]) -> bool
-    ensures { result ≡ is_near_unit (codes "jitter") key.now }
-{
-    is_one_off(b"jitter_us", key)
-        || is_one_off(b"jitter_usec", key)
-        || is_one_off(b"jitter_ms", key)
-        || is_one_off(b"jitter_msec", key)
-}
-
-/// Whether a key lies one letter from `jitter`, with or without a unit.
-fn is_near_jitter(key: &[u8], stem: &[u8]) -> bool
-    ensures { result ≡ is_near_timed (codes "jitter") key.now stem.now }
-{
-    is_one_off(b"jitter", key) || is_one_off(b"jitter", stem) || is_near_jitter_unit(key)
-}
-
-/// Whether a key lies one letter from `max_age` with a unit.
-fn is_near_max_age_unit(key: &[u8]) -> bool
-    ensures { result ≡ is_near_unit (codes "max_age") key.now }
-{
-    is_one_off(b"max_age_us", key)
-        || is_one_off(b"max_age_usec", key)
-        || is_one_off(b"max_age_ms", key)
-        || is_one_off(b"max_age_msec", key)
-}
-
-/// Whether a key lies one letter from `max_age`, with or without a unit.
-fn is_near_max_age(key: &[u8], stem: &[u8]) -> bool
-    ensures { result ≡ is_near_timed (codes "max_age") key.now stem.now }
-{
-    is_one_off(b"max_age", key) || is_one_off(b"max_age", stem) || is_near_max_age_unit(key)
-}
-
-/// Whether a key lies one letter from `maximum_age` with a unit.
-fn is_near_maximum_age_unit(key: &[u8]) -> bool
-    ensures { result ≡ is_near_unit (codes "maximum_age") key.now }
-{
-    is_one_off(b"maximum_age_us", key)
-        || is_one_off(b"maximum_age_usec", key)
-        || is_one_off(b"maximum_age_ms", key)
-        || is_one_off(b"maximum_age_msec", key)
-}
-
-/// Whether a key lies one letter from `maximum_age`, with or without a unit.
-fn is_near_maximum_age(key: &[u8], stem: &[u8]) -> bool
-    ensures { result ≡ is_near_timed (codes "maximum_age") key.now stem.now }
-{
-    is_one_off(b"maximum_age", key)
-        || is_one_off(b"maximum_age", stem)
-        || is_near_maximum_age_unit(key)
-}
-
-/// Whether a key lies one letter from `timeout` with a unit.
-fn is_near_timeout_unit(key: &[u8]) -> bool
-    ensures { result ≡ is_near_unit (codes "timeout") key.now }
-{
-    is_one_off(b"timeout_us", key)
-        || is_one_off(b"timeout_usec", key)
-        || is_one_off(b"timeout_ms", key)
-        || is_one_off(b"timeout_msec", key)
-}
-
-/// Whether a key lies one letter from `timeout`, with or without a unit.
-fn is_near_timeout(key: &[u8], stem: &[u8]) -> bool
-    ensures { result ≡ is_near_timed (codes "timeout") key.now stem.now }
-{
-    is_one_off(b"timeout", key) || is_one_off(b"timeout", stem) || is_near_timeout_unit(key)
+    is_one_off(word, key) || is_one_off(word, stem) || is_near_unit(key, us, usec, ms, msec)
 }
 
 /// Whether a key lies one letter from `source` with a digit.
@@ -281,27 +125,6 @@ fn is_near_part(key: &[u8]) -> bool
         || is_one_off(b"source_8", key)
 }
 
-/// Whether a key lies one letter from a title of the column `bus`.
-fn is_near_bus(key: &[u8]) -> bool
-    ensures { result ≡ is_near_of col.Bus key.now [] }
-{
-    is_one_off(b"input_bus", key) || is_one_off(b"source_bus", key)
-}
-
-/// Whether a key lies one letter from a title of the column `output`.
-fn is_near_output(key: &[u8]) -> bool
-    ensures { result ≡ is_near_of col.Output key.now [] }
-{
-    is_one_off(b"output", key) || is_one_off(b"output_bus", key)
-}
-
-/// Whether a key lies one letter from a title of the column `speed`.
-fn is_near_speed(key: &[u8]) -> bool
-    ensures { result ≡ is_near_of col.Speed key.now [] }
-{
-    is_one_off(b"speed", key) || is_one_off(b"bus_speed", key)
-}
-
 /// Whether a key lies one letter from a title of the column `label`.
 fn is_near_label(key: &[u8]) -> bool
     ensures { result ≡ is_near_of col.Label key.now [] }
@@ -321,41 +144,6 @@ fn is_near_equipment(key: &[u8]) -> bool
         || is_one_off(b"eqpt_id_hex", key)
 }
 
-/// Whether a key lies one letter from a title of the column `format`.
-fn is_near_format(key: &[u8]) -> bool
-    ensures { result ≡ is_near_of col.Format key.now [] }
-{
-    is_one_off(b"format", key) || is_one_off(b"data_type", key)
-}
-
-/// Whether a key lies one letter from a title of the column `police`.
-fn is_near_police(key: &[u8]) -> bool
-    ensures { result ≡ is_near_of col.Police key.now [] }
-{
-    is_one_off(b"police", key) || is_one_off(b"policed", key)
-}
-
-/// Whether a key lies one letter from a title of the column `queue`.
-fn is_near_queue(key: &[u8]) -> bool
-    ensures { result ≡ is_near_of col.Queue key.now [] }
-{
-    is_one_off(b"queue", key)
-}
-
-/// Whether a key lies one letter from a title of the column `router`.
-fn is_near_router(key: &[u8]) -> bool
-    ensures { result ≡ is_near_of col.Router key.now [] }
-{
-    is_one_off(b"router", key)
-}
-
-/// Whether a key lies one letter from a title of the column `name`.
-fn is_near_name(key: &[u8]) -> bool
-    ensures { result ≡ is_near_of col.Name key.now [] }
-{
-    is_one_off(b"stream_name", key) || is_one_off(b"label_name", key)
-}
-
 /// Whether a key lies one letter from a title of the column `sources`.
 fn is_near_sources(key: &[u8]) -> bool
     ensures { result ≡ is_near_of col.Sources key.now [] }
@@ -364,6 +152,51 @@ fn is_near_sources(key: &[u8]) -> bool
         || is_one_off(b"source", key)
         || is_one_off(b"streams", key)
         || is_near_part(key)
+}
+
+/// Whether a key lies one letter from `minimum`, with or without a unit.
+fn is_near_minimum(key: &[u8], stem: &[u8]) -> bool
+    ensures { result ≡ is_near_timed_of (codes "minimum") key.now stem.now }
+{
+    is_near_timed(
+        key,
+        stem,
+        b"minimum",
+        b"minimum_us",
+        b"minimum_usec",
+        b"minimum_ms",
+        b"minimum_msec",
+    )
+}
+
+/// Whether a key lies one letter from `min_interval`, with or without a unit.
+fn is_near_min_interval(key: &[u8], stem: &[u8]) -> bool
+    ensures { result ≡ is_near_timed_of (codes "min_interval") key.now stem.now }
+{
+    is_near_timed(
+        key,
+        stem,
+        b"min_interval",
+        b"min_interval_us",
+        b"min_interval_usec",
+        b"min_interval_ms",
+        b"min_interval_msec",
+    )
+}
+
+/// Whether a key lies one letter from `min_transmit_interval`, with or without a unit.
+fn is_near_min_transmit_interval(key: &[u8], stem: &[u8]) -> bool
+    ensures { result ≡ is_near_timed_of (codes "min_transmit_interval") key.now stem.now }
+{
+    is_near_timed(
+        key,
+        stem,
+        b"min_transmit_interval",
+        b"min_transmit_interval_us",
+        b"min_transmit_interval_usec",
+        b"min_transmit_interval_ms",
+        b"min_transmit_interval_msec",
+    )
 }
 
 /// Whether a key lies one letter from a title of the column `min`.
@@ -375,6 +208,51 @@ fn is_near_min(key: &[u8], stem: &[u8]) -> bool
         || is_near_min_transmit_interval(key, stem)
 }
 
+/// Whether a key lies one letter from `maximum`, with or without a unit.
+fn is_near_maximum(key: &[u8], stem: &[u8]) -> bool
+    ensures { result ≡ is_near_timed_of (codes "maximum") key.now stem.now }
+{
+    is_near_timed(
+        key,
+        stem,
+        b"maximum",
+        b"maximum_us",
+        b"maximum_usec",
+        b"maximum_ms",
+        b"maximum_msec",
+    )
+}
+
+/// Whether a key lies one letter from `max_interval`, with or without a unit.
+fn is_near_max_interval(key: &[u8], stem: &[u8]) -> bool
+    ensures { result ≡ is_near_timed_of (codes "max_interval") key.now stem.now }
+{
+    is_near_timed(
+        key,
+        stem,
+        b"max_interval",
+        b"max_interval_us",
+        b"max_interval_usec",
+        b"max_interval_ms",
+        b"max_interval_msec",
+    )
+}
+
+/// Whether a key lies one letter from `max_transmit_interval`, with or without a unit.
+fn is_near_max_transmit_interval(key: &[u8], stem: &[u8]) -> bool
+    ensures { result ≡ is_near_timed_of (codes "max_transmit_interval") key.now stem.now }
+{
+    is_near_timed(
+        key,
+        stem,
+        b"max_transmit_interval",
+        b"max_transmit_interval_us",
+        b"max_transmit_interval_usec",
+        b"max_transmit_interval_ms",
+        b"max_transmit_interval_msec",
+    )
+}
+
 /// Whether a key lies one letter from a title of the column `max`.
 fn is_near_max(key: &[u8], stem: &[u8]) -> bool
     ensures { result ≡ is_near_of col.Max key.now stem.now }
@@ -384,27 +262,80 @@ fn is_near_max(key: &[u8], stem: &[u8]) -> bool
         || is_near_max_transmit_interval(key, stem)
 }
 
+/// Whether a key lies one letter from a title of the column `jitter`.
+fn is_near_jitter(key: &[u8], stem: &[u8]) -> bool
+    ensures { result ≡ is_near_of col.Jitter key.now stem.now }
+{
+    is_near_timed(
+        key,
+        stem,
+        b"jitter",
+        b"jitter_us",
+        b"jitter_usec",
+        b"jitter_ms",
+        b"jitter_msec",
+    )
+}
+
+/// Whether a key lies one letter from a title of the column `max_age`.
+fn is_near_max_age(key: &[u8], stem: &[u8]) -> bool
+    ensures { result ≡ is_near_of col.MaxAge key.now stem.now }
+{
+    is_near_timed(
+        key,
+        stem,
+        b"max_age",
+        b"max_age_us",
+        b"max_age_usec",
+        b"max_age_ms",
+        b"max_age_msec",
+    ) || is_near_timed(
+        key,
+        stem,
+        b"maximum_age",
+        b"maximum_age_us",
+        b"maximum_age_usec",
+        b"maximum_age_ms",
+        b"maximum_age_msec",
+    )
+}
+
+/// Whether a key lies one letter from a title of the column `timeout`.
+fn is_near_timeout(key: &[u8], stem: &[u8]) -> bool
+    ensures { result ≡ is_near_of col.Timeout key.now stem.now }
+{
+    is_near_timed(
+        key,
+        stem,
+        b"timeout",
+        b"timeout_us",
+        b"timeout_usec",
+        b"timeout_ms",
+        b"timeout_msec",
+    )
+}
+
 /// Whether a key lies one letter from a title of this column.
 fn is_near(column: Column, key: &[u8], stem: &[u8]) -> bool
     ensures { result ≡ is_near_of column key.now stem.now }
 {
     match column {
-        Column::Bus => is_near_bus(key),
-        Column::Output => is_near_output(key),
-        Column::Speed => is_near_speed(key),
+        Column::Bus => is_one_off(b"input_bus", key) || is_one_off(b"source_bus", key),
+        Column::Output => is_one_off(b"output", key) || is_one_off(b"output_bus", key),
+        Column::Speed => is_one_off(b"speed", key) || is_one_off(b"bus_speed", key),
         Column::Label => is_near_label(key),
         Column::Equipment => is_near_equipment(key),
-        Column::Format => is_near_format(key),
+        Column::Format => is_one_off(b"format", key) || is_one_off(b"data_type", key),
         Column::Sdi => false,
-        Column::Police => is_near_police(key),
-        Column::Queue => is_near_queue(key),
-        Column::Router => is_near_router(key),
-        Column::Name => is_near_name(key),
+        Column::Police => is_one_off(b"police", key) || is_one_off(b"policed", key),
+        Column::Queue => is_one_off(b"queue", key),
+        Column::Router => is_one_off(b"router", key),
+        Column::Name => is_one_off(b"stream_name", key) || is_one_off(b"label_name", key),
         Column::Sources => is_near_sources(key),
         Column::Min => is_near_min(key, stem),
         Column::Max => is_near_max(key, stem),
         Column::Jitter => is_near_jitter(key, stem),
-        Column::MaxAge => is_near_max_age(key, stem) || is_near_maximum_age(key, stem),
+        Column::MaxAge => is_near_max_age(key, stem),
         Column::Timeout => is_near_timeout(key, stem),
     }
 }
@@ -443,42 +374,76 @@ pub fn is_meant(column: Column, key: &[u8]) -> bool
     is_unitless(column, key) || is_near(column, key, stem(key))
 }
 
+/// Whether a key is a title of one of these columns.
+fn is_title_of_any(columns: &[Column], key: &[u8]) -> bool
+    ensures { result ≡ list_any (λ column. is_title_of column key.now) columns.now }
+{
+    for column in columns {
+        if is_title(*column, key) {
+            return true;
+        }
+    }
+    false
+}
+
+/// Whether one of these columns seems to be meant by a title.
+fn is_meant_of_any(columns: &[Column], key: &[u8]) -> bool
+    ensures { result ≡ list_any (λ column. is_meant_of column key.now) columns.now }
+{
+    for column in columns {
+        if is_meant(*column, key) {
+            return true;
+        }
+    }
+    false
+}
+
 /// Whether a key is a title of a column of the inputs.
 pub fn is_input_title(key: &[u8]) -> bool
     ensures { result ≡ is_any_of_inputs (λ column. is_title_of column key.now) }
 {
-    is_title(Column::Bus, key)
-        || is_title(Column::Speed, key)
-        || is_title(Column::Label, key)
-        || is_title(Column::Equipment, key)
-        || is_title(Column::Format, key)
-        || is_title(Column::Min, key)
-        || is_title(Column::Max, key)
-        || is_title(Column::Sdi, key)
-        || is_title(Column::Jitter, key)
-        || is_title(Column::Name, key)
-        || is_title(Column::Queue, key)
-        || is_title(Column::Police, key)
-        || is_title(Column::Router, key)
+    is_title_of_any(
+        &[
+            Column::Bus,
+            Column::Speed,
+            Column::Label,
+            Column::Equipment,
+            Column::Format,
+            Column::Min,
+            Column::Max,
+            Column::Sdi,
+            Column::Jitter,
+            Column::Name,
+            Column::Queue,
+            Column::Police,
+            Column::Router,
+        ],
+        key,
+    )
 }
 
 /// Whether a column of the inputs seems to be meant by a title.
 fn is_input_meant(key: &[u8]) -> bool
     ensures { result ≡ is_any_of_inputs (λ column. is_meant_of column key.now) }
 {
-    is_meant(Column::Bus, key)
-        || is_meant(Column::Speed, key)
-        || is_meant(Column::Label, key)
-        || is_meant(Column::Equipment, key)
-        || is_meant(Column::Format, key)
-        || is_meant(Column::Min, key)
-        || is_meant(Column::Max, key)
-        || is_meant(Column::Sdi, key)
-        || is_meant(Column::Jitter, key)
-        || is_meant(Column::Name, key)
-        || is_meant(Column::Queue, key)
-        || is_meant(Column::Police, key)
-        || is_meant(Column::Router, key)
+    is_meant_of_any(
+        &[
+            Column::Bus,
+            Column::Speed,
+            Column::Label,
+            Column::Equipment,
+            Column::Format,
+            Column::Min,
+            Column::Max,
+            Column::Sdi,
+            Column::Jitter,
+            Column::Name,
+            Column::Queue,
+            Column::Police,
+            Column::Router,
+        ],
+        key,
+    )
 }
 
 /// Whether a key is a title of the inputs that is read, or one by which no column of theirs can be meant.
@@ -492,36 +457,46 @@ pub fn is_clear_input(key: &[u8]) -> bool
 pub fn is_output_title(key: &[u8]) -> bool
     ensures { result ≡ is_any_of_outputs (λ column. is_title_of column key.now) }
 {
-    is_title(Column::Output, key)
-        || is_title(Column::Speed, key)
-        || is_title(Column::Label, key)
-        || is_title(Column::Equipment, key)
-        || is_title(Column::Sources, key)
-        || is_title(Column::Min, key)
-        || is_title(Column::Max, key)
-        || is_title(Column::Sdi, key)
-        || is_title(Column::MaxAge, key)
-        || is_title(Column::Timeout, key)
-        || is_title(Column::Name, key)
-        || is_title(Column::Format, key)
+    is_title_of_any(
+        &[
+            Column::Output,
+            Column::Speed,
+            Column::Label,
+            Column::Equipment,
+            Column::Sources,
+            Column::Min,
+            Column::Max,
+            Column::Sdi,
+            Column::MaxAge,
+            Column::Timeout,
+            Column::Name,
+            Column::Format,
+        ],
+        key,
+    )
 }
 
 /// Whether a column of the outputs seems to be meant by a title.
 fn is_output_meant(key: &[u8]) -> bool
     ensures { result ≡ is_any_of_outputs (λ column. is_meant_of column key.now) }
 {
-    is_meant(Column::Output, key)
-        || is_meant(Column::Speed, key)
-        || is_meant(Column::Label, key)
-        || is_meant(Column::Equipment, key)
-        || is_meant(Column::Sources, key)
-        || is_meant(Column::Min, key)
-        || is_meant(Column::Max, key)
-        || is_meant(Column::Sdi, key)
-        || is_meant(Column::MaxAge, key)
-        || is_meant(Column::Timeout, key)
-        || is_meant(Column::Name, key)
-        || is_meant(Column::Format, key)
+    is_meant_of_any(
+        &[
+            Column::Output,
+            Column::Speed,
+            Column::Label,
+            Column::Equipment,
+            Column::Sources,
+            Column::Min,
+            Column::Max,
+            Column::Sdi,
+            Column::MaxAge,
+            Column::Timeout,
+            Column::Name,
+            Column::Format,
+        ],
+        key,
+    )
 }
 
 /// Whether a key is a title of the outputs that is read, or one by which no column of theirs can be meant.

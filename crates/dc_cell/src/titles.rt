@@ -1,7 +1,8 @@
 //! Titles of columns.
 
-ghost use Rattle.std.specs.Prelude.{◌≡◌, [], codes, IfOk};
-ghost use Rattle.dc_cell.specs.Titles.{is_kept as is_kept_of, is_parted as is_parted_of, key_of as key_of_title, ends_in as ends_in_of, unit_of as unit_of_key, is_source_part as is_source_part_of, is_timed, is_title as is_title_of};
+ghost use Rattle.std.specs.Prelude.{◌≡◌, ◌||◌, [], IfOk};
+ghost use Rattle.dc_cell.specs.Titles.{is_kept as is_kept_of, is_parted as is_parted_of, key_of as key_of_title, ends_in as ends_in_of, unit_of as unit_of_key, is_source_part as is_source_part_of, is_title as is_title_of};
+ghost use Rattle.dc_cell.specs.Words.{is_word as is_word_of};
 ghost use Rattle.dc_cell.specs.declared.titles.Column.TheVariants as col;
 
 use crate::times::TimeUnit;
@@ -111,124 +112,11 @@ fn is_source_part(key: &[u8]) -> bool
     digit >= b'1' && digit <= b'8' && (is_word(front, b"source") || is_word(front, b"source_"))
 }
 
-/// Whether a key is `min` with a unit.
-fn is_min_timed(key: &[u8]) -> bool
-    ensures { result ≡ is_timed (codes "min") key.now }
+/// Whether a key is the name of a time with one of its units, as these four words have it.
+fn is_timed(key: &[u8], us: &[u8], usec: &[u8], ms: &[u8], msec: &[u8]) -> bool
+    ensures { result ≡ (is_word_of us.now key.now || is_word_of usec.now key.now || is_word_of ms.now key.now || is_word_of msec.now key.now) }
 {
-    is_word(key, b"min_us")
-        || is_word(key, b"min_usec")
-        || is_word(key, b"min_ms")
-        || is_word(key, b"min_msec")
-}
-
-/// Whether a key is `minimum` with a unit.
-fn is_minimum_timed(key: &[u8]) -> bool
-    ensures { result ≡ is_timed (codes "minimum") key.now }
-{
-    is_word(key, b"minimum_us")
-        || is_word(key, b"minimum_usec")
-        || is_word(key, b"minimum_ms")
-        || is_word(key, b"minimum_msec")
-}
-
-/// Whether a key is `min_interval` with a unit.
-fn is_min_interval_timed(key: &[u8]) -> bool
-    ensures { result ≡ is_timed (codes "min_interval") key.now }
-{
-    is_word(key, b"min_interval_us")
-        || is_word(key, b"min_interval_usec")
-        || is_word(key, b"min_interval_ms")
-        || is_word(key, b"min_interval_msec")
-}
-
-/// Whether a key is `min_transmit_interval` with a unit.
-fn is_min_transmit_interval_timed(key: &[u8]) -> bool
-    ensures { result ≡ is_timed (codes "min_transmit_interval") key.now }
-{
-    is_word(key, b"min_transmit_interval_us")
-        || is_word(key, b"min_transmit_interval_usec")
-        || is_word(key, b"min_transmit_interval_ms")
-        || is_word(key, b"min_transmit_interval_msec")
-}
-
-/// Whether a key is `max` with a unit.
-fn is_max_timed(key: &[u8]) -> bool
-    ensures { result ≡ is_timed (codes "max") key.now }
-{
-    is_word(key, b"max_us")
-        || is_word(key, b"max_usec")
-        || is_word(key, b"max_ms")
-        || is_word(key, b"max_msec")
-}
-
-/// Whether a key is `maximum` with a unit.
-fn is_maximum_timed(key: &[u8]) -> bool
-    ensures { result ≡ is_timed (codes "maximum") key.now }
-{
-    is_word(key, b"maximum_us")
-        || is_word(key, b"maximum_usec")
-        || is_word(key, b"maximum_ms")
-        || is_word(key, b"maximum_msec")
-}
-
-/// Whether a key is `max_interval` with a unit.
-fn is_max_interval_timed(key: &[u8]) -> bool
-    ensures { result ≡ is_timed (codes "max_interval") key.now }
-{
-    is_word(key, b"max_interval_us")
-        || is_word(key, b"max_interval_usec")
-        || is_word(key, b"max_interval_ms")
-        || is_word(key, b"max_interval_msec")
-}
-
-/// Whether a key is `max_transmit_interval` with a unit.
-fn is_max_transmit_interval_timed(key: &[u8]) -> bool
-    ensures { result ≡ is_timed (codes "max_transmit_interval") key.now }
-{
-    is_word(key, b"max_transmit_interval_us")
-        || is_word(key, b"max_transmit_interval_usec")
-        || is_word(key, b"max_transmit_interval_ms")
-        || is_word(key, b"max_transmit_interval_msec")
-}
-
-/// Whether a key is `jitter` with a unit.
-fn is_jitter_timed(key: &[u8]) -> bool
-    ensures { result ≡ is_timed (codes "jitter") key.now }
-{
-    is_word(key, b"jitter_us")
-        || is_word(key, b"jitter_usec")
-        || is_word(key, b"jitter_ms")
-        || is_word(key, b"jitter_msec")
-}
-
-/// Whether a key is `max_age` with a unit.
-fn is_max_age_timed(key: &[u8]) -> bool
-    ensures { result ≡ is_timed (codes "max_age") key.now }
-{
-    is_word(key, b"max_age_us")
-        || is_word(key, b"max_age_usec")
-        || is_word(key, b"max_age_ms")
-        || is_word(key, b"max_age_msec")
-}
-
-/// Whether a key is `maximum_age` with a unit.
-fn is_maximum_age_timed(key: &[u8]) -> bool
-    ensures { result ≡ is_timed (codes "maximum_age") key.now }
-{
-    is_word(key, b"maximum_age_us")
-        || is_word(key, b"maximum_age_usec")
-        || is_word(key, b"maximum_age_ms")
-        || is_word(key, b"maximum_age_msec")
-}
-
-/// Whether a key is `timeout` with a unit.
-fn is_timeout_timed(key: &[u8]) -> bool
-    ensures { result ≡ is_timed (codes "timeout") key.now }
-{
-    is_word(key, b"timeout_us")
-        || is_word(key, b"timeout_usec")
-        || is_word(key, b"timeout_ms")
-        || is_word(key, b"timeout_msec")
+    is_word(key, us) || is_word(key, usec) || is_word(key, ms) || is_word(key, msec)
 }
 
 /// Whether a key is a title of the column `bus`.
@@ -236,20 +124,6 @@ fn is_bus_title(key: &[u8]) -> bool
     ensures { result ≡ is_title_of col.Bus key.now }
 {
     is_word(key, b"bus") || is_word(key, b"input_bus") || is_word(key, b"source_bus")
-}
-
-/// Whether a key is a title of the column `output`.
-fn is_output_title(key: &[u8]) -> bool
-    ensures { result ≡ is_title_of col.Output key.now }
-{
-    is_word(key, b"output") || is_word(key, b"output_bus")
-}
-
-/// Whether a key is a title of the column `speed`.
-fn is_speed_title(key: &[u8]) -> bool
-    ensures { result ≡ is_title_of col.Speed key.now }
-{
-    is_word(key, b"speed") || is_word(key, b"bus_speed")
 }
 
 /// Whether a key is a title of the column `label`.
@@ -280,34 +154,6 @@ fn is_format_title(key: &[u8]) -> bool
     is_word(key, b"format") || is_word(key, b"type") || is_word(key, b"data_type")
 }
 
-/// Whether a key is a title of the column `sdi`.
-fn is_sdi_title(key: &[u8]) -> bool
-    ensures { result ≡ is_title_of col.Sdi key.now }
-{
-    is_word(key, b"sdi")
-}
-
-/// Whether a key is a title of the column `police`.
-fn is_police_title(key: &[u8]) -> bool
-    ensures { result ≡ is_title_of col.Police key.now }
-{
-    is_word(key, b"police") || is_word(key, b"policed")
-}
-
-/// Whether a key is a title of the column `queue`.
-fn is_queue_title(key: &[u8]) -> bool
-    ensures { result ≡ is_title_of col.Queue key.now }
-{
-    is_word(key, b"queue")
-}
-
-/// Whether a key is a title of the column `router`.
-fn is_router_title(key: &[u8]) -> bool
-    ensures { result ≡ is_title_of col.Router key.now }
-{
-    is_word(key, b"router")
-}
-
 /// Whether a key is a title of the column `name`.
 fn is_name_title(key: &[u8]) -> bool
     ensures { result ≡ is_title_of col.Name key.now }
@@ -329,41 +175,101 @@ fn is_sources_title(key: &[u8]) -> bool
 fn is_min_title(key: &[u8]) -> bool
     ensures { result ≡ is_title_of col.Min key.now }
 {
-    is_min_timed(key)
-        || is_minimum_timed(key)
-        || is_min_interval_timed(key)
-        || is_min_transmit_interval_timed(key)
+    is_timed(key, b"min_us", b"min_usec", b"min_ms", b"min_msec")
+        || is_timed(
+            key,
+            b"minimum_us",
+            b"minimum_usec",
+            b"minimum_ms",
+            b"minimum_msec",
+        )
+        || is_timed(
+            key,
+            b"min_interval_us",
+            b"min_interval_usec",
+            b"min_interval_ms",
+            b"min_interval_msec",
+        )
+        || is_timed(
+            key,
+            b"min_transmit_interval_us",
+            b"min_transmit_interval_usec",
+            b"min_transmit_interval_ms",
+            b"min_transmit_interval_msec",
+        )
 }
 
 /// Whether a key is a title of the column `max`.
 fn is_max_title(key: &[u8]) -> bool
     ensures { result ≡ is_title_of col.Max key.now }
 {
-    is_max_timed(key)
-        || is_maximum_timed(key)
-        || is_max_interval_timed(key)
-        || is_max_transmit_interval_timed(key)
+    is_timed(key, b"max_us", b"max_usec", b"max_ms", b"max_msec")
+        || is_timed(
+            key,
+            b"maximum_us",
+            b"maximum_usec",
+            b"maximum_ms",
+            b"maximum_msec",
+        )
+        || is_timed(
+            key,
+            b"max_interval_us",
+            b"max_interval_usec",
+            b"max_interval_ms",
+            b"max_interval_msec",
+        )
+        || is_timed(
+            key,
+            b"max_transmit_interval_us",
+            b"max_transmit_interval_usec",
+            b"max_transmit_interval_ms",
+            b"max_transmit_interval_msec",
+        )
 }
 
 /// Whether a key is a title of the column `jitter`.
 fn is_jitter_title(key: &[u8]) -> bool
     ensures { result ≡ is_title_of col.Jitter key.now }
 {
-    is_jitter_timed(key)
+    is_timed(
+        key,
+        b"jitter_us",
+        b"jitter_usec",
+        b"jitter_ms",
+        b"jitter_msec",
+    )
 }
 
 /// Whether a key is a title of the column `max_age`.
 fn is_max_age_title(key: &[u8]) -> bool
     ensures { result ≡ is_title_of col.MaxAge key.now }
 {
-    is_max_age_timed(key) || is_maximum_age_timed(key)
+    is_timed(
+        key,
+        b"max_age_us",
+        b"max_age_usec",
+        b"max_age_ms",
+        b"max_age_msec",
+    ) || is_timed(
+        key,
+        b"maximum_age_us",
+        b"maximum_age_usec",
+        b"maximum_age_ms",
+        b"maximum_age_msec",
+    )
 }
 
 /// Whether a key is a title of the column `timeout`.
 fn is_timeout_title(key: &[u8]) -> bool
     ensures { result ≡ is_title_of col.Timeout key.now }
 {
-    is_timeout_timed(key)
+    is_timed(
+        key,
+        b"timeout_us",
+        b"timeout_usec",
+        b"timeout_ms",
+        b"timeout_msec",
+    )
 }
 
 /// Whether a key is a title of this column; those of times have their unit.
@@ -372,15 +278,15 @@ pub fn is_title(column: Column, key: &[u8]) -> bool
 {
     match column {
         Column::Bus => is_bus_title(key),
-        Column::Output => is_output_title(key),
-        Column::Speed => is_speed_title(key),
+        Column::Output => is_word(key, b"output") || is_word(key, b"output_bus"),
+        Column::Speed => is_word(key, b"speed") || is_word(key, b"bus_speed"),
         Column::Label => is_label_title(key),
         Column::Equipment => is_equipment_title(key),
         Column::Format => is_format_title(key),
-        Column::Sdi => is_sdi_title(key),
-        Column::Police => is_police_title(key),
-        Column::Queue => is_queue_title(key),
-        Column::Router => is_router_title(key),
+        Column::Sdi => is_word(key, b"sdi"),
+        Column::Police => is_word(key, b"police") || is_word(key, b"policed"),
+        Column::Queue => is_word(key, b"queue"),
+        Column::Router => is_word(key, b"router"),
         Column::Name => is_name_title(key),
         Column::Sources => is_sources_title(key),
         Column::Min => is_min_title(key),
