@@ -89,7 +89,12 @@ fn columns_of(sheet: Sheet) -> &'static [Column] {
 
 /// Whether a column is one of these.
 fn is_among(column: Column, columns: &[Column]) -> bool {
-    columns.iter().any(|other| *other == column)
+    for other in columns {
+        if *other == column {
+            return true;
+        }
+    }
+    false
 }
 
 /// The column of a sheet that a title is of.
@@ -231,7 +236,8 @@ impl Titles {
     }
 }
 
-/// Reads the titles from the left; false where a column seems to be meant by one that is not read.
+/// Reads the titles from the left, and adds the faults of the header; false where a column seems to be meant by one that is
+/// not read.
 fn read_titles(
     alloc: Global,
     sheet: Sheet,
@@ -248,6 +254,7 @@ fn read_titles(
         clear = is_still_clear(clear, sheet, &key);
         titles.push(sheet, place, title, &key, faults)?;
     }
+    titles.tell_absent(sheet, faults)?;
     Ok(clear)
 }
 
@@ -276,7 +283,6 @@ fn read_heading(
         meant: Vec::new(alloc),
     };
     let clear = read_titles(alloc, sheet, header, &mut titles, faults)?;
-    titles.tell_absent(sheet, faults)?;
     if !clear {
         return Ok(None);
     }
@@ -303,19 +309,12 @@ pub(crate) fn titles_of(
     }
 }
 
-/// Why a time that may be empty is not read.
-fn time_fault(text: &[u8], unit: TimeUnit, commas: bool, least: u32) -> Option<CellFault> {
-    if text.is_empty() {
-        return None;
-    }
-    time_cell(text, unit, commas, least).err()
-}
-
-/// Why a format is not read.
-fn format_fault(text: &[u8], sheet: Sheet) -> Option<CellFault> {
-    match sheet {
-        Sheet::Outputs if text.is_empty() => None,
-        _ => format_cell(text).err(),
+/// Whether an empty cell of a column says that nothing is asked there.
+fn may_be_empty(column: Column, sheet: Sheet) -> bool {
+    match column {
+        Column::Jitter | Column::MaxAge | Column::Timeout | Column::Queue => true,
+        Column::Format => matches!(sheet, Sheet::Outputs),
+        _ => false,
     }
 }
 
@@ -337,30 +336,25 @@ fn sources_fault(alloc: Global, text: &[u8]) -> Result<Option<CellFault>, AllocE
     }
 }
 
-/// Why the length of a queue is not read.
-fn queue_fault(text: &[u8]) -> Option<CellFault> {
-    if text.is_empty() {
-        None
-    } else {
-        queue_cell(text).err()
-    }
-}
-
 /// Why a cell that holds one value is not read.
 fn value_fault(text: &[u8], title: &ReadTitle, sheet: Sheet, commas: bool) -> Option<CellFault> {
+    if text.is_empty() && may_be_empty(title.column, sheet) {
+        return None;
+    }
     match title.column {
         Column::Bus | Column::Output => name_cell(text).err(),
         Column::Router | Column::Name => name_if_any_cell(text).err(),
         Column::Speed => speed_cell(text).err(),
         Column::Label => label_cell(text).err(),
         Column::Equipment => equipment_cell(text).err(),
-        Column::Format => format_fault(text, sheet),
-        Column::Min | Column::Max => time_cell(text, title.unit, commas, 1).err(),
-        Column::Jitter => time_fault(text, title.unit, commas, 0),
-        Column::MaxAge | Column::Timeout => time_fault(text, title.unit, commas, 1),
+        Column::Format => format_cell(text).err(),
+        Column::Min | Column::Max | Column::MaxAge | Column::Timeout => {
+            time_cell(text, title.unit, commas, 1).err()
+        }
+        Column::Jitter => time_cell(text, title.unit, commas, 0).err(),
         Column::Sdi => sdi_fault(text, sheet),
         Column::Police => police_cell(text).err(),
-        Column::Queue => queue_fault(text),
+        Column::Queue => queue_cell(text).err(),
         Column::Sources => None,
     }
 }

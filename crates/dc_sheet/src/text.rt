@@ -1,6 +1,7 @@
 //! The records of a text.
 
-ghost use Rattle.std.specs.Prelude.{◌≡◌, ◌==◌, ◌<◌, IfOk, IfSome, map, count_by, length, position};
+ghost use Rattle.std.specs.Prelude.{◌≡◌, ◌==◌, ◌<◌, IfOk, IfSome, map, count_by, length};
+ghost use Rattle.std.specs.List.{position_from};
 ghost use Rattle.csv.specs.Records.{fields_of};
 ghost use Rattle.dc_sheet.specs.Texts.{is_line_end as is_line_end_of, first_line as first_line_of, separator_of, IsSheetText};
 
@@ -16,10 +17,15 @@ fn is_line_end(byte: u8) -> bool
 
 /// Where the first line ends.
 fn line_end(text: &[u8]) -> Option<usize>
-    ensures value { result ≡ position is_line_end_of text.now }
+    ensures value { result ≡ position_from is_line_end_of 0 text.now }
     ensures within { IfSome result (λ end. end < length text.now) }
 {
-    text.iter().position(|byte| is_line_end(*byte))
+    for (end, byte) in text.iter().enumerate() {
+        if is_line_end(*byte) {
+            return Some(end);
+        }
+    }
+    None
 }
 
 /// The bytes before the first end of a line.
