@@ -76,12 +76,12 @@ fn knobs_of(wish: &Wish, tick_us: u32) -> Knobs {
         Some(percent) => Some(u64::from(percent)),
         None => None,
     };
-    Knobs::new(
-        u64::from(tick_us),
-        headroom,
-        wish.tick_us.is_some(),
-        wish.is_prompt,
-    )
+    let knobs = Knobs::new(u64::from(tick_us), headroom, wish.tick_us.is_some());
+    if wish.is_prompt {
+        knobs.promptly()
+    } else {
+        knobs
+    }
 }
 
 /// The text of tables with these numbers.

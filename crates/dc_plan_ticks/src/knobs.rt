@@ -22,8 +22,8 @@ pub struct Knobs {
 
 impl Knobs {
     /// For ticks of this length, with so many percent to be left free where that is asked; `is_only` where no other
-    /// tick is tried, `is_prompt` where timeouts are to be kept that are not kept by the way.
-    pub fn new(tick: u64, headroom: Option<u64>, is_only: bool, is_prompt: bool) -> Knobs {
+    /// tick is tried.
+    pub fn new(tick: u64, headroom: Option<u64>, is_only: bool) -> Knobs {
         let (leave, is_hard) = match headroom {
             Some(percent) => (percent.min(90), true),
             None => (SOFT, false),
@@ -42,7 +42,15 @@ impl Knobs {
             } else {
                 ""
             },
-            is_prompt,
+            is_prompt: false,
+        }
+    }
+
+    /// The same with buses that are visited by timeouts too.
+    pub fn promptly(self) -> Knobs {
+        Knobs {
+            is_prompt: true,
+            ..self
         }
     }
 
