@@ -18,6 +18,21 @@ struct Slowest {
     name: Letters,
 }
 
+/// What a label asks of its sources that may be too little for one of them.
+#[derive(Clone, Copy)]
+struct Asked {
+    /// What is told, up to how far apart words of that source may lie.
+    sentence: &'static str,
+    /// What else takes time, and what would do.
+    remedy: &'static str,
+    /// The microseconds that are asked.
+    us: u64,
+    /// So many ticks they leave.
+    ticks: u64,
+    /// So many ticks would do.
+    least: u64,
+}
+
 /// The age that a label may have in ticks, by the microseconds that its data may be old and those of a tick.
 pub fn age_of(max_age: u64, tick: u64) -> u64 {
     part(max_age, tick).saturating_sub(1)
@@ -47,131 +62,105 @@ fn slowest_of(document: &Document, paces: &[Pace], label: &Label) -> Slowest {
     slowest
 }
 
-/// Tells that the words of a source lie too far apart for the age of a label.
-fn tell_age(
+/// Tells that the words of a source lie too far apart for what a label asks.
+fn tell_late(
     label: &Label,
-    max_age: u64,
+    asked: &Asked,
     slowest: &Slowest,
     knobs: &Knobs,
     obstacles: &mut Obstacles,
 ) {
-    let left = share_of(age_of(max_age, knobs.tick), knobs.share);
-    let least = whole_of(slowest.most.saturating_add(2), knobs.share).saturating_add(1);
     obstacles.lines.begin("");
     obstacles.lines.say(
-        "outputs row {} column max_age: {} us leave {} ticks of {} us, but words of {} may lie {} apart, ",
+        asked.sentence,
         &[
             Fact::Number(label.row),
-            Fact::Number(max_age),
-            Fact::Number(left),
+            Fact::Number(asked.us),
+            Fact::Number(asked.ticks),
             Fact::Number(knobs.tick),
             Fact::Name(slowest.name),
             Fact::Number(slowest.most),
         ],
     );
     obstacles.lines.line(
-        "and its bus and the choice take one more each (C11, C12); a max_age of {} us, or a quicker {}{}",
+        asked.remedy,
         &[
-            Fact::Number(least.saturating_mul(knobs.tick)),
+            Fact::Number(asked.least.saturating_mul(knobs.tick)),
             Fact::Name(slowest.name),
             Fact::Word(knobs.shorter),
         ],
     );
-}
-
-/// Lets a bus be no later than this, or than 1.
-fn limit_bus(bus: usize, spare: u64, wanted: &mut Vec<u64>) {
-    if let Some(most) = wanted.get_mut(bus) {
-        let least = spare.min(*most).max(1);
-        *most = least;
-    }
-}
-
-/// Lets the buses of the sources of a label be no later than this.
-fn limit(document: &Document, label: &Label, spare: u64, wanted: &mut Vec<u64>) {
-    for place in label.sources.first..label.sources.end {
-        let number = document.sources.get(place).copied().unwrap_or(0);
-        if let Some(stream) = document.streams.get(number) {
-            limit_bus(stream.bus, spare, wanted);
-        }
-    }
 }
 
 /// How late the buses of a label's sources may be, by its age.
-fn limit_by_age(
-    document: &Document,
-    paces: &[Pace],
-    label: &Label,
-    knobs: &Knobs,
-    wanted: &mut Vec<u64>,
-    obstacles: &mut Obstacles,
-) {
+fn spare_by_age(label: &Label, slowest: &Slowest, knobs: &Knobs, obstacles: &mut Obstacles) -> u64 {
     let Some(max_age) = label.max_age else {
-        return;
+        return u64::MAX;
     };
-    let slowest = slowest_of(document, paces, label);
-    let left = share_of(age_of(max_age, knobs.tick), knobs.share);
-    let spare = left.saturating_sub(slowest.most) / 2;
+    let ticks = share_of(age_of(max_age, knobs.tick), knobs.share);
+    let spare = ticks.saturating_sub(slowest.most) / 2;
     if spare < 1 {
-        tell_age(label, max_age, &slowest, knobs, obstacles);
+        let asked = Asked {
+            sentence: "outputs row {} column max_age: {} us leave {} ticks of {} us, but words of {} may lie {} apart, ",
+            remedy: "and its bus and the choice take one more each (C11, C12); a max_age of {} us, or a quicker {}{}",
+            us: max_age,
+            ticks,
+            least: whole_of(slowest.most.saturating_add(2), knobs.share).saturating_add(1),
+        };
+        tell_late(label, &asked, slowest, knobs, obstacles);
     }
-    limit(document, label, spare, wanted);
+    spare
 }
 
-/// Tells that the words of a source lie too far apart for the timeout of a label.
-fn tell_timeout(
+/// How long a source of a label may be silent with the delay of its bus, by its timeout, in a prompt plan.
+fn ticks_by_timeout(
     label: &Label,
-    timeout: u64,
     slowest: &Slowest,
     knobs: &Knobs,
     obstacles: &mut Obstacles,
-) {
-    obstacles.lines.begin("");
-    obstacles.lines.say(
-        "outputs row {} column timeout: {} us are {} ticks of {} us, but words of {} may lie {} apart, ",
-        &[
-            Fact::Number(label.row),
-            Fact::Number(timeout),
-            Fact::Number(part(timeout, knobs.tick)),
-            Fact::Number(knobs.tick),
-            Fact::Name(slowest.name),
-            Fact::Number(slowest.most),
-        ],
-    );
-    obstacles.lines.line(
-        "and its bus takes one more (C12); a timeout of {} us, or a quicker {}{}",
-        &[
-            Fact::Number(slowest.most.saturating_add(1).saturating_mul(knobs.tick)),
-            Fact::Name(slowest.name),
-            Fact::Word(knobs.shorter),
-        ],
-    );
+) -> u64 {
+    let Some(timeout) = label.timeout else {
+        return u64::MAX;
+    };
+    if !knobs.is_prompt {
+        return u64::MAX;
+    }
+    let ticks = part(timeout, knobs.tick);
+    if ticks <= slowest.most {
+        let asked = Asked {
+            sentence: "outputs row {} column timeout: {} us are {} ticks of {} us, but words of {} may lie {} apart, ",
+            remedy: "and its bus takes one more (C12); a timeout of {} us, or a quicker {}{}",
+            us: timeout,
+            ticks,
+            least: slowest.most.saturating_add(1),
+        };
+        tell_late(label, &asked, slowest, knobs, obstacles);
+    }
+    ticks
 }
 
-/// How late the buses of a label's sources may be, by its timeout: each by what the intervals of its own source leave.
-fn limit_by_timeout(
+/// Lets the bus of each source of a label be no later than this, and than so many ticks leave beside the intervals of that
+/// source; or than 1.
+fn limit(
     document: &Document,
     paces: &[Pace],
     label: &Label,
-    knobs: &Knobs,
+    spare: u64,
+    ticks: u64,
     wanted: &mut Vec<u64>,
-    obstacles: &mut Obstacles,
 ) {
-    let Some(timeout) = label.timeout else {
-        return;
-    };
-    let ticks = part(timeout, knobs.tick);
-    let slowest = slowest_of(document, paces, label);
-    if ticks <= slowest.most {
-        tell_timeout(label, timeout, &slowest, knobs, obstacles);
-    }
     for place in label.sources.first..label.sources.end {
         let number = document.sources.get(place).copied().unwrap_or(0);
         let Some(stream) = document.streams.get(number) else {
             continue;
         };
-        if let Some(pace) = paces.get(number) {
-            limit_bus(stream.bus, ticks.saturating_sub(pace.most), wanted);
+        let Some(pace) = paces.get(number) else {
+            continue;
+        };
+        if let Some(most) = wanted.get_mut(stream.bus) {
+            let left = ticks.saturating_sub(pace.most);
+            let least = left.min(spare).min(*most).max(1);
+            *most = least;
         }
     }
 }
@@ -194,10 +183,10 @@ pub fn limit_all(
     }
     for number in &document.on_output {
         if let Some(label) = document.labels.get(*number) {
-            limit_by_age(document, paces, label, knobs, wanted, obstacles);
-            if knobs.is_prompt {
-                limit_by_timeout(document, paces, label, knobs, wanted, obstacles);
-            }
+            let slowest = slowest_of(document, paces, label);
+            let spare = spare_by_age(label, &slowest, knobs, obstacles);
+            let ticks = ticks_by_timeout(label, &slowest, knobs, obstacles);
+            limit(document, paces, label, spare, ticks, wanted);
         }
     }
     Ok(())
