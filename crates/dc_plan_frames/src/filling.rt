@@ -247,21 +247,16 @@ fn list_needs(
     Ok(())
 }
 
-/// Empties what was filled, with room for so many labels.
-fn empty(filling: &mut Filling, labels: usize) -> Result<(), AllocError> {
-    filling.spots.truncate(0);
-    filling.spans.truncate(0);
-    for _ in 0..labels {
-        filling.spans.push(Span { first: 0, end: 0 })?;
-    }
-    Ok(())
-}
-
-/// Makes a frame ready to be filled once more.
+/// Makes a frame ready to be filled once more, and empties what was filled, with room for all labels.
 fn begin(trial: &mut Trial, filling: &mut Filling) -> Result<(), AllocError> {
     trial.board.clear();
     trial.starts.truncate(0);
-    empty(filling, trial.needs.len())
+    filling.spots.truncate(0);
+    filling.spans.truncate(0);
+    for _ in 0..trial.needs.len() {
+        filling.spans.push(Span { first: 0, end: 0 })?;
+    }
+    Ok(())
 }
 
 /// Fills a frame in so many orders.

@@ -71,7 +71,7 @@ fn tell_wire(scene: &Scene<'_>, words: u64, obstacles: &mut Obstacles) {
     );
 }
 
-/// Which labels of an output decide about its frames.
+/// Which labels of an output decide about its frames, and how much all of them want at least.
 #[derive(Clone, Copy)]
 struct Deciding {
     /// The first one with the greatest least gap.
@@ -80,17 +80,26 @@ struct Deciding {
     fast: usize,
     /// The first one with the fewest gaps.
     narrow: usize,
+    /// So many words a tick, in billionths.
+    words: u64,
+    /// So many entries in a frame as long as the greatest least gap.
+    entries: u64,
 }
 
-/// Which labels decide.
-fn deciding_of(windows: &[Window]) -> Deciding {
+/// Which labels decide, and how much all want.
+fn deciding_of(windows: &Windows) -> Deciding {
     let mut found = Deciding {
         slow: 0,
         fast: 0,
         narrow: 0,
+        words: 0,
+        entries: 0,
     };
     let (mut slow, mut fast, mut narrow) = (0u64, u64::MAX, u64::MAX);
-    for (number, window) in windows.iter().enumerate() {
+    for (number, window) in windows.of_labels.iter().enumerate() {
+        let entries = up(windows.slowest, window.high);
+        found.words = found.words.saturating_add(part(WORD, window.high));
+        found.entries = found.entries.saturating_add(entries);
         if window.low > slow {
             slow = window.low;
             found.slow = number;
@@ -105,24 +114,6 @@ fn deciding_of(windows: &[Window]) -> Deciding {
         }
     }
     found
-}
-
-/// How many words a tick the labels want at least, in billionths.
-fn words_of(windows: &[Window]) -> u64 {
-    let mut words = 0u64;
-    for window in windows {
-        words = words.saturating_add(part(WORD, window.high));
-    }
-    words
-}
-
-/// How many entries the labels want at least in a frame of so many ticks.
-fn entries_in(windows: &[Window], frame: u64) -> u64 {
-    let mut entries = 0u64;
-    for window in windows {
-        entries = entries.saturating_add(up(frame, window.high));
-    }
-    entries
 }
 
 /// Tells that one label wants too many entries beside a slow one.
@@ -150,20 +141,14 @@ fn tell_fast(
 }
 
 /// Tells that all labels together want too many entries beside a slow one.
-fn tell_entries(
-    scene: &Scene<'_>,
-    found: &Deciding,
-    slowest: u64,
-    entries: u64,
-    obstacles: &mut Obstacles,
-) {
+fn tell_entries(scene: &Scene<'_>, found: &Deciding, slowest: u64, obstacles: &mut Obstacles) {
     begin(scene, obstacles);
     say_label(scene, found.slow, obstacles);
     obstacles.lines.say(
         " lies at least {} ticks apart, and in a frame of so many all labels want {} entries, at most {} (T08); ",
         &[
             Fact::Number(slowest),
-            Fact::Number(entries),
+            Fact::Number(found.entries),
             Fact::Number(ENTRIES),
         ],
     );
@@ -195,19 +180,17 @@ fn tell_frames(scene: &Scene<'_>, found: &Deciding, windows: &[Window], obstacle
 
 /// Tells why no frame has room for the least numbers of entries: the first necessary condition that fails.
 pub(crate) fn tell_no_frame(scene: &Scene<'_>, windows: &Windows, obstacles: &mut Obstacles) {
-    let words = words_of(&windows.of_labels);
+    let found = deciding_of(windows);
     let share = (WORD / 100).saturating_mul(scene.knobs.share);
-    if words.saturating_mul(scene.gap) >= share {
-        return tell_wire(scene, words, obstacles);
+    if found.words.saturating_mul(scene.gap) >= share {
+        return tell_wire(scene, found.words, obstacles);
     }
-    let found = deciding_of(&windows.of_labels);
     let (slowest, fastest) = (windows.slowest, windows.fastest);
     if slowest > fastest.saturating_mul(LABEL_ENTRIES) {
         return tell_fast(scene, &found, slowest, fastest, obstacles);
     }
-    let entries = entries_in(&windows.of_labels, slowest);
-    if entries > ENTRIES {
-        return tell_entries(scene, &found, slowest, entries, obstacles);
+    if found.entries > ENTRIES {
+        return tell_entries(scene, &found, slowest, obstacles);
     }
     tell_frames(scene, &found, &windows.of_labels, obstacles)
 }
