@@ -119,12 +119,13 @@ pub fn make_plan(alloc: Global, document: &Document, knobs: &Knobs) -> Result<Pl
         labels: Vec::new(alloc),
         frames: Frames::new(alloc),
     };
-    if go_through(alloc, document, knobs, &mut plan, &mut obstacles).is_err() {
-        return Err(Unplanned::NoMemory);
+    let is_whole = go_through(alloc, document, knobs, &mut plan, &mut obstacles).is_ok();
+    if is_whole && !obstacles.is_any() {
+        return Ok(plan);
     }
-    if obstacles.is_any() {
+    if is_whole {
         Err(Unplanned::Obstacles(obstacles))
     } else {
-        Ok(plan)
+        Err(Unplanned::NoMemory)
     }
 }

@@ -175,6 +175,8 @@ pub fn plan_routers(
     let mut names = Vec::new(alloc);
     let mut taken = Vec::new(alloc);
     let mut group = Vec::new(alloc);
-    name_all(document, &mut names, &mut taken)?;
-    add_routers(&names, &mut group, visits, obstacles)
+    match name_all(document, &mut names, &mut taken) {
+        Ok(()) => add_routers(&names, &mut group, visits, obstacles),
+        Err(error) => Err(error),
+    }
 }
