@@ -1,10 +1,10 @@
 //! The rows of the inputs that have their streams.
-ghost use Rattle.std.specs.Prelude.{MatchOption, not, ◌≡◌, ◌&&◌, nat_le, position, slice_get};
+ghost use Rattle.std.specs.Prelude.{MatchOption, not, ◌≡◌, ◌&&◌, nat_le, slice_get};
 ghost use Rattle.std.specs.Str.{bytes_eq};
 ghost use Rattle.dc_dict.specs.Rows.{row_of};
-ghost use Rattle.std.specs.List.{All};
+ghost use Rattle.std.specs.List.{All, list_any, position_from};
 ghost use Rattle.dc_rows_kept.specs.KeepsRows.{HasStream, IsFirstWithout};
-ghost use Rattle.dc_rows_kept.specs.Tests.{has_stream, is_bus_of, is_stream_of, keeps_input, lets_come, passes_if_some, some_passes};
+ghost use Rattle.dc_rows_kept.specs.Tests.{is_bus_of, is_stream_of, keeps_input, lets_come, passes_if_some, some_passes};
 
 use crate::same::{is_at_most, is_called, parameter_of};
 use dc_cell::{InputRow, Inputs};
@@ -66,26 +66,33 @@ fn keeps_input(parts: &Parts, row: &InputRow, stream: &StreamPart) -> bool
     is_on_bus(parts, row, stream) && is_let_come(parts, row, stream)
 }
 
-/// Whether a row has its stream.
-fn has_stream(parts: &Parts, row: &InputRow) -> bool
-    ensures { result ≡ has_stream parts.now row.now }
+/// Whether a row has one of these as its stream.
+fn has_stream(parts: &Parts, streams: &[StreamPart], row: &InputRow) -> bool
+    ensures { result ≡ list_any (keeps_input parts.now row.now) streams.now }
 {
-    parts
-        .streams()
-        .iter()
-        .any(|stream| keeps_input(parts, row, stream))
+    for stream in streams {
+        if keeps_input(parts, row, stream) {
+            return true;
+        }
+    }
+    false
 }
 
-/// The place of the first row that has no stream.
-fn place_without(parts: &Parts, sheet: &Inputs) -> Option<usize>
-    ensures { result ≡ position (λ row. not (has_stream parts.now row)) sheet.now.rows.items }
+/// The place of the first of these rows that has none of these as its stream.
+fn place_without(parts: &Parts, streams: &[StreamPart], rows: &[InputRow]) -> Option<usize>
+    ensures { result ≡ position_from (λ row. not (list_any (keeps_input parts.now row) streams.now)) 0 rows.now }
 {
-    sheet.rows.iter().position(|row| !has_stream(parts, row))
+    for (place, row) in rows.iter().enumerate() {
+        if !has_stream(parts, streams, row) {
+            return Some(place);
+        }
+    }
+    None
 }
 
 /// The first row that has no stream.
 pub(crate) fn first_unkept_input(parts: &Parts, sheet: &Inputs) -> Option<usize>
     ensures { MatchOption result (All (HasStream parts.now) sheet.now.rows.items) (λ k. IsFirstWithout (HasStream parts.now) sheet.now.rows.items k) }
 {
-    place_without(parts, sheet)
+    place_without(parts, parts.streams(), &sheet.rows)
 }

@@ -1,9 +1,9 @@
 //! The rows of the outputs that have their labels.
-ghost use Rattle.std.specs.Prelude.{MatchOption, not, position, ◌≡◌, ◌+◌, ◌*◌, nat_le, ◌^◌, ◌≤◌, slice_get};
+ghost use Rattle.std.specs.Prelude.{MatchOption, not, ◌≡◌, ◌+◌, ◌*◌, nat_le, ◌^◌, ◌≤◌, slice_get};
 ghost use Rattle.dc_dict.specs.Rows.{row_of};
-ghost use Rattle.std.specs.List.{All};
+ghost use Rattle.std.specs.List.{All, list_any, position_from};
 ghost use Rattle.dc_rows_kept.specs.KeepsRows.{HasLabel, IsFirstWithout};
-ghost use Rattle.dc_rows_kept.specs.Tests.{has_label, is_format, is_label_of, keeps_output, passes_if_some, same_names, sends_data, sends_within, some_passes};
+ghost use Rattle.dc_rows_kept.specs.Tests.{is_format, is_label_of, keeps_output, passes_if_some, same_names, sends_data, sends_within, some_passes};
 
 use crate::same::{is_called, parameter_of};
 use dc_cell::{OutputRow, Outputs};
@@ -98,26 +98,33 @@ fn keeps_output(parts: &Parts, row: &OutputRow, label: &LabelPart) -> bool
         && sends_data(parts.tick_us(), row, label)
 }
 
-/// Whether a row has its label.
-fn has_label(parts: &Parts, row: &OutputRow) -> bool
-    ensures { result ≡ has_label parts.now row.now }
+/// Whether a row has one of these as its label.
+fn has_label(parts: &Parts, labels: &[LabelPart], row: &OutputRow) -> bool
+    ensures { result ≡ list_any (keeps_output parts.now row.now) labels.now }
 {
-    parts
-        .labels()
-        .iter()
-        .any(|label| keeps_output(parts, row, label))
+    for label in labels {
+        if keeps_output(parts, row, label) {
+            return true;
+        }
+    }
+    false
 }
 
-/// The place of the first row that has no label.
-fn place_without(parts: &Parts, sheet: &Outputs) -> Option<usize>
-    ensures { result ≡ position (λ row. not (has_label parts.now row)) sheet.now.rows.items }
+/// The place of the first of these rows that has none of these as its label.
+fn place_without(parts: &Parts, labels: &[LabelPart], rows: &[OutputRow]) -> Option<usize>
+    ensures { result ≡ position_from (λ row. not (list_any (keeps_output parts.now row) labels.now)) 0 rows.now }
 {
-    sheet.rows.iter().position(|row| !has_label(parts, row))
+    for (place, row) in rows.iter().enumerate() {
+        if !has_label(parts, labels, row) {
+            return Some(place);
+        }
+    }
+    None
 }
 
 /// The first row that has no label.
 pub(crate) fn first_unkept_output(parts: &Parts, sheet: &Outputs) -> Option<usize>
     ensures { MatchOption result (All (HasLabel parts.now) sheet.now.rows.items) (λ k. IsFirstWithout (HasLabel parts.now) sheet.now.rows.items k) }
 {
-    place_without(parts, sheet)
+    place_without(parts, parts.labels(), &sheet.rows)
 }

@@ -1,7 +1,7 @@
 //! What rows of sheets and parts of a document are compared by.
 ghost use Rattle.std.specs.Prelude.{◌≡◌, nat_le, option_copied};
 ghost use Rattle.std.specs.Str.{bytes_eq};
-ghost use Rattle.dc_dict.specs.Rows.{row_of};
+ghost use Rattle.dc_dict.specs.Rows.{is_row_of, row_of};
 ghost use Rattle.dc_rows_kept.specs.Tests.{passes_if_some};
 
 use dc_dict::{Equipment, Parameter};
@@ -28,12 +28,28 @@ pub(crate) fn is_at_most(number: u32, most: Option<u32>) -> bool
     }
 }
 
+/// Whether a parameter is that of a label and an equipment code.
+fn is_row_of(row: &Parameter, label: Label, equipment: Equipment) -> bool
+    ensures { result ≡ is_row_of label equipment row.now }
+{
+    label == row.label && equipment == row.equipment
+}
+
+/// The first of some parameters that is that of a label and an equipment code.
+fn row_in(rows: &[Parameter], label: Label, equipment: Equipment) -> Option<&Parameter>
+    ensures { option_copied result ≡ row_of rows.now label equipment }
+{
+    for row in rows {
+        if is_row_of(row, label, equipment) {
+            return Some(row);
+        }
+    }
+    None
+}
+
 /// The parameter of a label and an equipment code.
 pub(crate) fn parameter_of(parts: &Parts, label: Label, equipment: Equipment) -> Option<&Parameter>
     ensures { option_copied result ≡ row_of parts.now.parameters label equipment }
 {
-    parts
-        .parameters()
-        .iter()
-        .find(|row| label == row.label && equipment == row.equipment)
+    row_in(parts.parameters(), label, equipment)
 }
