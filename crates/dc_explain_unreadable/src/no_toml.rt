@@ -58,6 +58,15 @@ const NO_TABLES: &str =
 const NO_SYSTEM: &str =
     "this is JSON, as a certificate is, and a system is wanted here, which is TOML{}\nhelp: name the text that lists the concentrators";
 
+/// What is told of what the program printed, in the place of tables.
+const PRINTED: &str =
+    "this is what was printed where no tables were made, and not tables{}\nhelp: mend what its lines say, run `dc429 design INPUTS OUTPUTS > FILE` again, and see that it ends with status 0";
+
+/// Whether a text begins as what the program prints where it refuses.
+fn is_printed(text: &str) -> bool {
+    text.starts_with("refused") || text.starts_with("unreadable ") || text.starts_with("failed ")
+}
+
 /// The word of letters and digits round a place; empty where none is.
 fn word_at(text: &[u8], at: usize) -> Span {
     let mut from = 0usize;
@@ -112,12 +121,15 @@ fn tell_error(refused: &mut Refused<'_>, text: &[u8], error: &Error) {
     }
 }
 
-/// Tells of a text that is no TOML document: that it is JSON, or what TOML's reader says of it.
+/// Tells of a text that is no TOML document: that it is JSON, or what the program printed, or what TOML's reader says of it.
 pub(crate) fn tell_no_toml(refused: &mut Refused<'_>, text: &str) {
     if text.trim_start().starts_with('{') {
         let is_system = refused.kind(0) == Kind::System;
         let sentence = if is_system { NO_SYSTEM } else { NO_TABLES };
         return refused.say(sentence, &[Fact::Here(Span { from: 0, to: 0 })]);
+    }
+    if refused.kind(0) == Kind::Top && is_printed(text) {
+        return refused.say(PRINTED, &[Fact::Here(Span { from: 0, to: 0 })]);
     }
     match toml::table_from_str(refused.alloc, text) {
         Ok(_) => refused.say("this is no TOML document", &[]),
