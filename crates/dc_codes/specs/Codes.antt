@@ -3,7 +3,7 @@ use Rattle.std.specs.Prelude.{ℕ, Bool, true, List, [], ◌∷◌, ◌++◌, �
 use Rattle.std.specs.List.{list_any}
 use Rattle.std.specs.Char.{to_ascii_lowercase}
 use Rattle.dc_codes.specs.declared.kind.Kind.{Kind}
-use Rattle.dc_codes.specs.declared.kind.Kind.TheVariants.{Decoded, Failure, Table, Certificate, Condition, Finder, Trace, Reply, Step, Audit, Bench, Capture, Survey, System, Link}
+use Rattle.dc_codes.specs.declared.kind.Kind.TheVariants.{Decoded, Failure, Table, Certificate, Condition, Finder, Trace, Reply, Step, Audit, Observed, Bench, Capture, Survey, System, Link}
 
 -- the two texts are one in lower case, and so in upper case
 abbrev pub is_same : List ℕ → List ℕ → Bool
@@ -31,6 +31,7 @@ listed =
     ++ of_kind Reply (codes "parity" ∷ codes "undeclared" ∷ codes "early" ∷ codes "overrun" ∷ codes "latched" ∷ codes "queued" ∷ codes "took" ∷ codes "empty" ∷ codes "idle" ∷ codes "tick" ∷ [])
     ++ of_kind Step (codes "spent" ∷ codes "early" ∷ codes "owed" ∷ codes "ticks" ∷ [])
     ++ of_kind Audit (codes "budgets" ∷ codes "sources" ∷ codes "claim" ∷ [])
+    ++ of_kind Observed (codes "E1" ∷ codes "E2" ∷ codes "E3" ∷ codes "E4" ∷ codes "E5" ∷ codes "E6" ∷ [])
     ++ of_kind Bench (codes "hub" ∷ [])
     ++ of_kind Capture (codes "E1" ∷ codes "E6" ∷ codes "E3" ∷ codes "E7" ∷ codes "E4" ∷ codes "E5" ∷ codes "E8" ∷ [])
     ++ of_kind Survey (codes "broken" ∷ codes "early" ∷ codes "silent" ∷ [])
@@ -53,11 +54,12 @@ kind_number Trace = 6
 kind_number Reply = 7
 kind_number Step = 8
 kind_number Audit = 9
-kind_number Bench = 10
-kind_number Capture = 11
-kind_number Survey = 12
-kind_number System = 13
-kind_number Link = 14
+kind_number Observed = 10
+kind_number Bench = 11
+kind_number Capture = 12
+kind_number Survey = 13
+kind_number System = 14
+kind_number Link = 15
 
 -- no two of these are the same
 abbrev pub each_once : List (List ℕ) → Bool

@@ -23,6 +23,8 @@ pub enum Kind {
     Step,
     /// A line of `audit`.
     Audit,
+    /// A fault of the lines of `observe` that a report reads.
+    Observed,
     /// A line of `bench`.
     Bench,
     /// A fault of a capture.
@@ -49,6 +51,7 @@ impl Kind {
             Kind::Reply => "a reply of `replay`",
             Kind::Step => "a step that may not follow those before it",
             Kind::Audit => "a line of `audit`",
+            Kind::Observed => "a fault of the lines that `report --observed` reads",
             Kind::Bench => "a line of `bench`",
             Kind::Capture => "a fault of a capture",
             Kind::Survey => "a word of a line of `survey`",
@@ -65,6 +68,7 @@ impl Kind {
             | Kind::Certificate
             | Kind::Finder
             | Kind::Trace
+            | Kind::Observed
             | Kind::Capture
             | Kind::System
             | Kind::Link => { "Refused where: " }
@@ -86,6 +90,9 @@ impl Kind {
             }
             Kind::Trace | Kind::Reply | Kind::Step | Kind::Audit => {
                 "For example, a trace for examples/small.toml: "
+            }
+            Kind::Observed => {
+                "For example, a change of what `observe` writes of examples/small.trace: "
             }
             Kind::Capture | Kind::Survey => "For example, a capture for examples/small.toml: ",
             Kind::System | Kind::Link => {

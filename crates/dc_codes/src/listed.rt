@@ -4,7 +4,7 @@ ghost use Rattle.dc_codes.specs.Codes.{listed, listed_once, names};
 
 use crate::kind::Kind;
 
-static LISTED: [(Kind, &str); 104] = [
+static LISTED: [(Kind, &str); 110] = [
     (Kind::Decoded, "E1"),
     (Kind::Decoded, "E6"),
     (Kind::Decoded, "E5"),
@@ -79,6 +79,12 @@ static LISTED: [(Kind, &str); 104] = [
     (Kind::Audit, "budgets"),
     (Kind::Audit, "sources"),
     (Kind::Audit, "claim"),
+    (Kind::Observed, "E1"),
+    (Kind::Observed, "E2"),
+    (Kind::Observed, "E3"),
+    (Kind::Observed, "E4"),
+    (Kind::Observed, "E5"),
+    (Kind::Observed, "E6"),
     (Kind::Bench, "hub"),
     (Kind::Capture, "E1"),
     (Kind::Capture, "E6"),

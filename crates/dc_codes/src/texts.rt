@@ -16,6 +16,7 @@ pub(crate) fn texts_of(kind: Kind) -> &'static str {
         Kind::Reply => REPLY,
         Kind::Step => STEP,
         Kind::Audit => AUDIT,
+        Kind::Observed => OBSERVED,
         Kind::Bench => BENCH,
         Kind::Capture => CAPTURE,
         Kind::Survey => SURVEY,
@@ -413,6 +414,38 @@ claim
 the least claim that fails at the first event at which any does. 1: a receive queue overruns. 2: a word leaves that copies one older than the age of the certificate. 3: a live first source whose recent words are usable is left aside, or a word leaves that is not usable though the recent words of a live source are. 4: a label leaves too soon after its last time, or has not left for longer than its greatest interval
 `T` 21 times: `claim 4 fails at 21`
 see which of the two lines above fails, and mend that";
+
+/// Of the faults of the lines that `report --observed` reads.
+const OBSERVED: &str = "\
+E1
+the line has over 256 bytes, its line feed not counted; or the text has over 1,048,576, which is told at line 1
+257 letters `A` as the first line: E1 at line 1
+hand in what `observe` wrote and nothing else: it writes a line for each input, output and label
+
+E2
+the first field is not `input`, `output` or `label` (an empty line too)
+`inputs` in the first line: E2 at line 1
+hand in what `observe` wrote and nothing else: no heading, no comments, no empty lines. Where it wrote `refused`, `unreadable` or `failed` there is nothing to show: mend what that says first
+
+E3
+the fields are not those of the line's kind: their number is another, or a word between them
+the second line ends behind `late 0`: E3 at line 2
+write the line as `observe` does, with one space between fields and none at the end
+
+E4
+the kind or the name is not that of the row that is next in the tables: each input, then each output, then each label; or a line is missing, at the line behind the last, or is one too many
+the first two lines exchanged: E4 at line 1
+hand in all lines that `observe` wrote for these tables, in its order
+
+E5
+a number is not below 2^64 in decimal digits, without a sign and leading zeros (`-` is one of an age and of a least interval alone); or one behind `of` is not that of the certificate or of the tables
+`late 0 of 3` in the second line, where the certificate's delay is 2: E5 at line 2
+let `observe` read the run beside this certificate and these tables, and hand in what it writes then
+
+E6
+the text ends inside a line that has at least one byte
+the last line without its line feed: E6 at line 3
+end the last line with a line feed";
 
 /// Of the lines of `bench`.
 const BENCH: &str = "\
