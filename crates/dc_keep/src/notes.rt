@@ -143,8 +143,8 @@ impl Slot {
     }
 }
 
-/// What is kept of a run: of its two files in the order in which it opens them, of the last two that a text named and of
-/// the first of each pair before, of standard input and of what it writes.
+/// What is kept of a run: of its files, three at most, in the order in which it opens them, of the last two that a text
+/// named and of the first of each pair before, of standard input and of what it writes.
 #[derive(Drop)]
 pub struct Notes {
     alloc: Global,
@@ -152,6 +152,8 @@ pub struct Notes {
     pub first: Slot,
     /// The file that is opened next.
     pub second: Slot,
+    /// The file that is opened behind these two.
+    pub third: Slot,
     /// Of the last pair of files that a text named, the one that was opened first.
     pub named_first: Slot,
     /// The one that was opened next.
@@ -177,6 +179,7 @@ impl Notes {
             alloc,
             first: Slot::new(alloc, MOST_OF_FILE),
             second: Slot::new(alloc, MOST_OF_FILE),
+            third: Slot::new(alloc, MOST_OF_FILE),
             named_first: Slot::new(alloc, MOST_OF_FILE),
             named_second: Slot::new(alloc, MOST_OF_FILE),
             earlier: RefCell::new(Vec::new(alloc)),
@@ -195,6 +198,7 @@ impl Notes {
         }
         self.first.want();
         self.second.want();
+        self.third.want();
         self.named_first.want();
         self.named_second.want();
         self.input.want();
