@@ -12,6 +12,10 @@ use Rattle.dc_command.specs.declared.explained.When.{When}
 pub text_given : (f : Found) (id text : Text) → Some text ≡ first_value f id → first_of id (rows_of f) ≡ Some text
 text_given f id text is = sym (is ∙ first_value-rows f id)
 
+-- none that is given
+pub none_given : (f : Found) (id : Text) → None ≡ first_value f id → first_of id (rows_of f) ≡ None
+none_given f id is = sym (is ∙ first_value-rows f id)
+
 -- the number of workers
 pub workers_given : (f : Found) (id : Text) (workers : Option ℕ) → AreGiven (first_value f id) workers → AreGiven (first_of id (rows_of f)) workers
 workers_given f id workers given = subst (λ o. AreGiven o workers) (first_value-rows f id) given

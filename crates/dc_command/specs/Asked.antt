@@ -10,7 +10,7 @@ use Rattle.dc_word.specs.declared.format.Format.{Format}
 use Rattle.dc_word.specs.declared.format.Format.TheVariants.{Bnr, Bcd, Disc}
 use Rattle.dc_command.specs.Program.{program_app}
 use Rattle.dc_command.specs.declared.asked.Order.{Order}
-use Rattle.dc_command.specs.declared.asked.Order.TheVariants.{Decode, Check, Find, Report, ReportNetwork, Margins, Survey, Trace, Replay, Audit, Observe, Bench, Network, Design, Explain}
+use Rattle.dc_command.specs.declared.asked.Order.TheVariants.{Decode, Check, Find, Report, ReportObserved, ReportNetwork, Margins, Survey, Trace, Replay, Audit, Observe, Bench, Network, Design, Explain}
 use Rattle.dc_command.specs.declared.explained.When.{When}
 use Rattle.dc_command.specs.declared.explained.When.TheVariants.{Always, Never, Auto}
 use Rattle.dc_command.specs.declared.limits.TheConstants.{LAST_BEGIN, LONGEST_TICK, MOST_DRIFT, MOST_HEADROOM, MOST_TICKS, MOST_WORKERS, SHORTEST_TICK, USUAL_TICKS}
@@ -119,7 +119,10 @@ AsksBy name rows (Check tables certificate workers digest) =
 AsksBy name rows (Find tables) = (name ≡ codes "find") × (first_of (codes "TABLES") rows ≡ Some tables.now)
 AsksBy name rows (Report tables certificate drift) =
     (name ≡ codes "report") × (first_of (codes "TABLES") rows ≡ Some tables.now) × (option_map (λ s. s.now) certificate ≡ first_of (codes "CERT") rows)
-    × DriftIs (first_of (codes "drift") rows) drift
+    × DriftIs (first_of (codes "drift") rows) drift × (first_of (codes "observed") rows ≡ None)
+AsksBy name rows (ReportObserved tables certificate observed drift) =
+    (name ≡ codes "report") × (first_of (codes "TABLES") rows ≡ Some tables.now) × (first_of (codes "CERT") rows ≡ Some certificate.now)
+    × DriftIs (first_of (codes "drift") rows) drift × (first_of (codes "observed") rows ≡ Some observed.now)
 AsksBy name rows (ReportNetwork system) = (name ≡ codes "report") × (first_of (codes "network") rows ≡ Some system.now)
 AsksBy name rows (Margins tables certificate microseconds drift json) =
     (name ≡ codes "margins") × (first_of (codes "TABLES") rows ≡ Some tables.now) × (option_map (λ s. s.now) certificate ≡ first_of (codes "CERT") rows)
@@ -181,6 +184,7 @@ IsInRange (Check tables certificate workers digest) = IfSome workers (λ n. (1 �
 IsInRange (Network system workers) = IfSome workers (λ n. (1 ≤ n) × (n ≤ MOST_WORKERS))
 IsInRange (Bench tables certificate ticks marks) = (1 ≤ ticks) × (ticks ≤ MOST_TICKS)
 IsInRange (Report tables certificate drift) = IfSome drift (λ n. n ≤ MOST_DRIFT)
+IsInRange (ReportObserved tables certificate observed drift) = IfSome drift (λ n. n ≤ MOST_DRIFT)
 IsInRange (Margins tables certificate microseconds drift json) = IfSome drift (λ n. n ≤ MOST_DRIFT)
 IsInRange (Trace tables from) = IfSome from (λ n. n ≤ LAST_BEGIN)
 IsInRange (Design inputs outputs tick headroom police certificate) = IfSome tick (λ n. (SHORTEST_TICK ≤ n) × (n ≤ LONGEST_TICK)) × IfSome headroom (λ n. n ≤ MOST_HEADROOM)

@@ -138,9 +138,17 @@ reported_tables_rule = tied_rule (new_rule (codes "TABLES"))
 abbrev pub network_rule : Rule
 network_rule = record (new_rule (codes "network")) { long = Some (codes "network"); value_names = 1 }
 
--- `report`, which reads tables, and a certificate where one is given, and may be told a drift; or reads the text of a system
+-- `--observed`
+abbrev pub observed_rule : Rule
+observed_rule = record (new_rule (codes "observed")) { long = Some (codes "observed"); value_names = 1 }
+
+-- `report` on tables, and on a certificate where one is given
+abbrev pub certified_report_app : App
+certified_report_app = with_rule (explaining_app (codes "report") reported_tables_rule) some_certificate_rule
+
+-- `report`, which may be told a drift too, and what was observed; or reads the text of a system
 abbrev pub report_app : App
-report_app = with_rule (with_rule (with_rule (explaining_app (codes "report") reported_tables_rule) some_certificate_rule) drift_rule) (tied_rule network_rule)
+report_app = with_rule (with_rule (with_rule certified_report_app drift_rule) (tied_rule observed_rule)) (tied_rule network_rule)
 
 -- `margins`, which reads tables, and a certificate where one is given, and may be told to tell microseconds, a drift, and
 -- objects of JSON

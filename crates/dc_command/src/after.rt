@@ -40,9 +40,11 @@ Exit status:
 pub(crate) const AFTER_REPORT: &str =
     "Example: dc429 report tables.toml certificate.json > report.html
 
-A file named - is standard input, which only one of the two can be; one of that
-name is ./-. With --network SYSTEM the system's files are taken as network takes
-them: dc429 report --network system.toml > network.html
+A file named - is standard input, which only one of the files can be; one of
+that name is ./-. With --observed FILE the page shows what observe wrote of a
+run for these tables and this certificate, each number beside the certificate's.
+With --network SYSTEM the system's files are taken as network takes them:
+dc429 report --network system.toml > network.html
 
 Exit status:
   0  accepted

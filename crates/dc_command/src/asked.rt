@@ -48,6 +48,17 @@ pub enum Order<'a> {
         /// The drift of clocks, in millionths, 0 to [`MOST_DRIFT`](crate::MOST_DRIFT), where one is said.
         drift: Option<u16>,
     },
+    /// Report on the certificate in a file for the tables in another, beside what a run was observed to do by a third.
+    ReportObserved {
+        /// The path of the tables.
+        tables: &'a str,
+        /// The path of the certificate.
+        certificate: &'a str,
+        /// The path of the lines that `observe` wrote of the run.
+        observed: &'a str,
+        /// The drift of clocks, in millionths, 0 to [`MOST_DRIFT`](crate::MOST_DRIFT), where one is said.
+        drift: Option<u16>,
+    },
     /// Report on the network of certified concentrators that a text of a system says.
     ReportNetwork {
         /// The path of the text of the system.
@@ -336,19 +347,40 @@ fn find_in<'a>(matches: &ArgMatches<'a>) -> Option<Order<'a>>
     Some(Order::Find { tables })
 }
 
+/// What the matches of `report` ask of tables and of what a run was observed to do.
+fn observed_report_in<'a>(matches: &ArgMatches<'a>) -> Option<Order<'a>>
+    ensures { IfSome result (AsksBy (codes "report") (rows_of (found_of matches.now))) }
+{
+    let tables = matches.get_str("TABLES")?;
+    let certificate = matches.get_str("CERT")?;
+    let observed = matches.get_str("observed")?;
+    match drift_in(matches) {
+        Ok(drift) => Some(Order::ReportObserved {
+            tables,
+            certificate,
+            observed,
+            drift,
+        }),
+        Err(_) => None,
+    }
+}
+
 /// What the matches of `report` ask of tables.
 fn tables_report_in<'a>(matches: &ArgMatches<'a>) -> Option<Order<'a>>
     ensures { IfSome result (AsksBy (codes "report") (rows_of (found_of matches.now))) }
 {
     let tables = matches.get_str("TABLES")?;
     let certificate = matches.get_str("CERT");
-    match drift_in(matches) {
-        Ok(drift) => Some(Order::Report {
-            tables,
-            certificate,
-            drift,
-        }),
-        Err(_) => None,
+    match matches.get_str("observed") {
+        Some(_) => observed_report_in(matches),
+        None => match drift_in(matches) {
+            Ok(drift) => Some(Order::Report {
+                tables,
+                certificate,
+                drift,
+            }),
+            Err(_) => None,
+        },
     }
 }
 

@@ -1,6 +1,6 @@
 //! Which orders would read standard input twice.
 ghost use Rattle.std.specs.Prelude.{◌≡◌, codes, MatchResult};
-ghost use Rattle.dc_command.specs.Inputs.{AreNotBothInput, HasOneInput, IsNotInput};
+ghost use Rattle.dc_command.specs.Inputs.{AreNotBothInput, AreNotTwoInput, HasOneInput, IsNotInput};
 
 use crate::asked::Order;
 
@@ -8,6 +8,8 @@ use crate::asked::Order;
 const STANDARD_INPUT: &str = "-";
 
 const BOTH: &str = "standard input can be one of the two files, not both";
+
+const TWO: &str = "standard input can be one of the three files, not two";
 
 const REPLAYED: &str = "replay reads its trace from standard input: name its tables by a file";
 
@@ -35,15 +37,32 @@ fn refuse_input(path: &str, words: &'static str) -> Result<(), &'static str>
     }
 }
 
+/// Refuses standard input as both of two files, in these words.
+fn refuse_twice(one: &str, other: &str, words: &'static str) -> Result<(), &'static str>
+    ensures { MatchResult result (λ _. AreNotBothInput one.now other.now) (λ _. (one.now ≡ codes "-") × (other.now ≡ codes "-")) }
+{
+    if one == STANDARD_INPUT {
+        refuse_input(other, words)
+    } else {
+        Ok(())
+    }
+}
+
 /// Refuses standard input as both files of a command.
 fn refuse_both(tables: &str, certificate: &str) -> Result<(), &'static str>
     ensures { MatchResult result (λ _. AreNotBothInput tables.now certificate.now) (λ _. (tables.now ≡ codes "-") × (certificate.now ≡ codes "-")) }
 {
-    if tables == STANDARD_INPUT {
-        refuse_input(certificate, BOTH)
-    } else {
-        Ok(())
-    }
+    refuse_twice(tables, certificate, BOTH)
+}
+
+/// Refuses standard input as two of the three files of a command.
+fn refuse_two(tables: &str, certificate: &str, observed: &str) -> Result<(), &'static str>
+    ensures { MatchResult result (λ _. AreNotTwoInput tables.now certificate.now observed.now)
+        (λ _. AreNotTwoInput tables.now certificate.now observed.now → ⊥) }
+{
+    refuse_twice(tables, certificate, TWO)?;
+    refuse_twice(tables, observed, TWO)?;
+    refuse_twice(certificate, observed, TWO)
 }
 
 /// Refuses an order that would read standard input twice.
@@ -69,6 +88,12 @@ pub(crate) fn refuse_second_input(order: &Order<'_>) -> Result<(), &'static str>
             Some(certificate) => refuse_both(tables, certificate),
             None => Ok(()),
         },
+        Order::ReportObserved {
+            tables,
+            certificate,
+            observed,
+            ..
+        } => refuse_two(tables, certificate, observed),
         Order::Margins {
             tables,
             certificate,

@@ -1,7 +1,7 @@
 //! The commands that there are, with their arguments and what is said of them.
 ghost use Rattle.std.specs.Prelude.{◌≡◌, false, codes, IfOk};
 ghost use Rattle.clap.specs.Words.{App, Rule, new_app, new_rule, rule_of, with_rule, with_subcommand};
-ghost use Rattle.dc_command.specs.Program.{IsDecode, IsProgram, IsRead, IsReadOf, audit_app, bare_app, bench_app, certificate_app, certificate_rule, check_app, design_app, drift_rule, explain_app, explain_rule, file_rule, flag_rule, from_rule, headroom_rule, margins_app, network_app, network_rule, replay_app, report_app, reported_tables_rule, sheets_app, some_certificate_rule, tables_app, tick_rule, ticks_rule, tied_rule, trace_app, workers_rule};
+ghost use Rattle.dc_command.specs.Program.{IsDecode, IsProgram, IsRead, IsReadOf, audit_app, bare_app, bench_app, certificate_app, certificate_rule, certified_report_app, check_app, design_app, drift_rule, explain_app, explain_rule, file_rule, flag_rule, from_rule, headroom_rule, margins_app, network_app, network_rule, observed_rule, replay_app, report_app, reported_tables_rule, sheets_app, some_certificate_rule, tables_app, tick_rule, ticks_rule, tied_rule, trace_app, workers_rule};
 
 use crate::after::{
     AFTER_AUDIT, AFTER_BENCH, AFTER_CHECK, AFTER_DECODE, AFTER_DESIGN, AFTER_EXPLAIN, AFTER_FIND,
@@ -203,6 +203,24 @@ fn reported_tables<'a>(alloc: Global) -> Result<Arg<'a>, Error>
     Ok(optional(alloc, "TABLES", "The tables, in TOML").required_unless_present("network")?)
 }
 
+/// The option `--observed`.
+fn observed<'a>(alloc: Global) -> Arg<'a>
+    ensures rule { rule_of result ≡ observed_rule }
+    ensures local { result.global ≡ false }
+{
+    Arg::new(alloc, "observed")
+        .long("observed")
+        .value_name("FILE")
+        .help("Shows what observe wrote into this file beside CERT")
+}
+
+/// The option `--observed`, which wants a certificate.
+fn observed_beside<'a>(alloc: Global) -> Result<Arg<'a>, Error>
+    ensures { IfOk result (IsReadOf (tied_rule observed_rule)) }
+{
+    Ok(observed(alloc).requires_arg("CERT")?)
+}
+
 /// The option `--network`.
 fn reported<'a>(alloc: Global) -> Arg<'a>
     ensures rule { rule_of result ≡ network_rule }
@@ -220,15 +238,15 @@ fn reported_alone<'a>(alloc: Global) -> Result<Arg<'a>, Error>
 {
     let no_tables = reported(alloc).conflicts_with("TABLES")?;
     let no_certificate = no_tables.conflicts_with("CERT")?;
-    Ok(no_certificate.conflicts_with("drift")?)
+    let no_observed = no_certificate.conflicts_with("observed")?;
+    Ok(no_observed.conflicts_with("drift")?)
 }
 
-/// The command `report`.
-fn report<'a>(alloc: Global) -> Result<Command<'a>, Error>
-    ensures { IfOk result (IsRead report_app) }
+/// The command `report` on tables, and on a certificate where one is given.
+fn certified_report<'a>(alloc: Global) -> Result<Command<'a>, Error>
+    ensures { IfOk result (IsRead certified_report_app) }
 {
     let tables = reported_tables(alloc)?;
-    let network = reported_alone(alloc)?;
     let report = named(
         alloc,
         "report",
@@ -237,8 +255,17 @@ fn report<'a>(alloc: Global) -> Result<Command<'a>, Error>
     );
     let explaining = with_argument(Ok(report), explained(alloc));
     let reading = with_argument(explaining, tables);
-    let certified = with_argument(reading, some_certificate(alloc));
-    with_argument(with_argument(certified, drift(alloc)), network)
+    with_argument(reading, some_certificate(alloc))
+}
+
+/// The command `report`.
+fn report<'a>(alloc: Global) -> Result<Command<'a>, Error>
+    ensures { IfOk result (IsRead report_app) }
+{
+    let observed = observed_beside(alloc)?;
+    let network = reported_alone(alloc)?;
+    let drifting = with_argument(certified_report(alloc), drift(alloc));
+    with_argument(with_argument(drifting, observed), network)
 }
 
 /// The command `margins`.

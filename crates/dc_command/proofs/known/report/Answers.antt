@@ -2,10 +2,8 @@ use Rattle.dc_command.proofs.known.report.Goals as goal
 
 pub returns : goal.returns
 returns c =
-    let tables = c.in_ok-tables.ensures in
+    let observed = c.in_ok-observed.ensures in
     let network = c.in_ok-network.ensures in
-    let explaining = c.with_argument-explaining.ensures _ _ c.named-report.ensures c.explained.ensures.rule c.explained.ensures.local in
-    let reading = c.with_argument-reading.ensures _ _ explaining tables.0 tables.1 in
-    let certified = c.with_argument-certified.ensures _ _ reading c.some_certificate.ensures.rule c.some_certificate.ensures.local in
-    let drifting = c.with_argument.ensures _ _ certified c.drift.ensures.rule c.drift.ensures.local in
-    c.with_argument-2.ensures _ _ drifting network.0 network.1
+    let drifting = c.with_argument-drifting.ensures _ _ c.certified_report.ensures c.drift.ensures.rule c.drift.ensures.local in
+    let beside = c.with_argument.ensures _ _ drifting observed.0 observed.1 in
+    c.with_argument-2.ensures _ _ beside network.0 network.1
