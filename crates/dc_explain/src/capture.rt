@@ -1,12 +1,11 @@
 //! Lines of a capture that can't be read, and what a survey found wanting.
 use crate::lines::Line;
-use crate::plain::explain_plainly;
+use crate::plain::{explain_plainly, tell_meaning};
 use crate::ran::Ran;
 use crate::trace::field;
 use crate::words::tell_no_word;
-use dc_codes::{Kind, meaning_of};
+use dc_codes::Kind;
 use dc_tell::Explanation;
-use dc_tell::Value::Text;
 
 /// Tells why a line of a capture says no word, by the code of its fault: by what that means, but where its word is none.
 pub(crate) fn tell_captured(out: &mut Explanation, code: &str, line: Line<'_>) {
@@ -19,15 +18,7 @@ pub(crate) fn tell_captured(out: &mut Explanation, code: &str, line: Line<'_>) {
     if number == 2 {
         return tell_no_word(out, line, at);
     }
-    match meaning_of(Kind::Capture, code) {
-        Some(meaning) => line.tell(
-            out,
-            at,
-            "{}\n{}",
-            &[Text(meaning.means), Text(meaning.mend)],
-        ),
-        None => out.lose(),
-    }
+    tell_meaning(out, Kind::Capture, code, line, at)
 }
 
 /// Explains what a survey found broken, or early, as far as its lines were kept.

@@ -1,6 +1,6 @@
 //! What kept the program from its work.
 use crate::ran::Ran;
-use crate::task::CERTIFICATE;
+use crate::task::{CERTIFICATE, OBSERVED};
 use dc_keep::Kept;
 use dc_tell::Explanation;
 use dc_tell::Value::Text;
@@ -53,6 +53,12 @@ fn tell_cause(out: &mut Explanation, name: &str, wanted: &str, cause: &str, kind
     if wanted == CERTIFICATE && kind == ErrorKind::NotFound {
         out.help("or let `dc429 find TABLES > FILE` write one", &[]);
     }
+    if wanted == OBSERVED && kind == ErrorKind::NotFound {
+        out.help(
+            "or let `dc429 observe TABLES CERT < TRACE > FILE` write them",
+            &[],
+        );
+    }
 }
 
 /// Explains that a call on what has this name failed, and what was wanted of it.
@@ -68,9 +74,10 @@ fn explain_cause(alloc: Global, name: &str, wanted: &str, error: Error) -> Optio
 /// Explains that a call on a file or a device failed.
 fn explain_device(ran: &Ran<'_>) -> Option<String> {
     let (names, wanted) = (ran.names, ran.task.wanted);
-    let places: [(&str, &str, &Kept); 4] = [
+    let places: [(&str, &str, &Kept); 5] = [
         (names.0, wanted.0, ran.first),
         (names.1, wanted.1, ran.second),
+        (ran.third_name, OBSERVED, ran.third),
         ("<stdin>", "", ran.input),
         ("<stdout>", "", ran.output),
     ];

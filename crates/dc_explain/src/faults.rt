@@ -1,8 +1,9 @@
-//! Lines of standard input: those that can't be read, and events that were refused.
+//! Lines that can't be read, and events that were refused.
 use crate::audits::tell_failing;
 use crate::capture::tell_captured;
 use crate::judged::explain_by_tables;
-use crate::lines::{Line, line_of};
+use crate::lines::{INPUT, Line, line_of};
+use crate::observed::tell_observed;
 use crate::output::{last_number, word};
 use crate::plain::{explain_plainly, or_plainly};
 use crate::ran::Ran;
@@ -19,7 +20,7 @@ fn code_of<'a>(line: &'a str, kind: Kind) -> &'a str {
     word(line, number)
 }
 
-/// Explains what is wrong at an event of a trace, by the tables.
+/// Explains what is wrong at an event of a trace, or at a line of `observe`, by the tables.
 pub(crate) fn explain_event(
     ran: &Ran<'_>,
     kind: Kind,
@@ -31,6 +32,8 @@ pub(crate) fn explain_event(
     out.begin(code);
     if kind == Kind::Trace {
         tell_event(&mut out, ran, code, line, tables);
+    } else if kind == Kind::Observed {
+        tell_observed(&mut out, code, line, tables);
     } else if kind == Kind::Step {
         tell_step(&mut out, ran, line, tables);
     } else {
@@ -53,10 +56,19 @@ fn explain_word(ran: &Ran<'_>, code: &str, line: Line<'_>, kind: Kind) -> Option
     out.finish()
 }
 
-/// Explains what is wrong at a line of standard input, by what its code is a code of.
+/// The line that was refused, by what its code is a code of: one of the third file, or of standard input.
+fn refused_line<'a>(ran: &Ran<'a>, kind: Kind) -> Option<Line<'a>> {
+    let number = last_number(ran.line);
+    if kind == Kind::Observed {
+        return line_of(ran.third_name, ran.third, number);
+    }
+    line_of(INPUT, ran.input, number)
+}
+
+/// Explains what is wrong at a line, by what its code is a code of.
 pub(crate) fn explain_line(ran: &Ran<'_>, kind: Kind) -> Option<String> {
     let code = code_of(ran.line, kind);
-    let Some(line) = line_of(ran.input, last_number(ran.line)) else {
+    let Some(line) = refused_line(ran, kind) else {
         return explain_plainly(ran.alloc, kind, code);
     };
     if kind == Kind::Decoded || kind == Kind::Capture {

@@ -15,6 +15,7 @@ mod lines;
 mod links;
 mod members;
 mod network;
+mod observed;
 mod output;
 mod plain;
 mod ran;

@@ -1,4 +1,4 @@
-//! The lines of standard input.
+//! The lines of standard input, and of a file that has lines.
 use dc_keep::Kept;
 use dc_tell::{Explanation, Value, place_at};
 
@@ -8,9 +8,11 @@ pub(crate) const INPUT: &str = "<stdin>";
 /// A line that ends a tick.
 pub(crate) const TICK: &[u8] = b"T";
 
-/// A line of standard input.
+/// A line of standard input, or of a file.
 #[derive(Clone, Copy)]
 pub(crate) struct Line<'a> {
+    /// What its text is called.
+    pub(crate) file: &'a str,
     /// Its bytes, without its line feed.
     pub(crate) bytes: &'a [u8],
     /// Its number, from 1.
@@ -21,6 +23,7 @@ pub(crate) struct Line<'a> {
 
 /// No line: of what is of none.
 pub(crate) const NO_LINE: Line<'static> = Line {
+    file: "",
     bytes: b"",
     number: 0,
     tick: 0,
@@ -43,7 +46,7 @@ impl<'a> Line<'a> {
             Ok(_) => place_at(before, offset).column,
             Err(_) => offset.saturating_add(1),
         };
-        out.show("-->", INPUT, self.number, self.bytes, column);
+        out.show("-->", self.file, self.number, self.bytes, column);
     }
 
     /// Tells of the line: the first line of a sentence; where the line has what was told, behind so many of its bytes;
@@ -72,8 +75,8 @@ impl<'a> Line<'a> {
     }
 }
 
-/// The line of this number, from 1, where it was kept.
-pub(crate) fn line_of(kept: &Kept, number: u64) -> Option<Line<'_>> {
+/// The line of this number, from 1, of the text that is called so, where it was kept.
+pub(crate) fn line_of<'k>(file: &'k str, kept: &'k Kept, number: u64) -> Option<Line<'k>> {
     let text = kept.text.as_slice();
     let mut now = kept.before.lines.saturating_add(1);
     let mut tick = kept.before.ticks;
@@ -85,6 +88,7 @@ pub(crate) fn line_of(kept: &Kept, number: u64) -> Option<Line<'_>> {
         let bytes = text.get(from..at).unwrap_or(b"");
         if now == number {
             return Some(Line {
+                file,
                 bytes,
                 number,
                 tick,
@@ -98,6 +102,7 @@ pub(crate) fn line_of(kept: &Kept, number: u64) -> Option<Line<'_>> {
         return None;
     }
     Some(Line {
+        file,
         bytes: text.get(from..).unwrap_or(b""),
         number,
         tick,

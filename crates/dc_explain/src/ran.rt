@@ -25,12 +25,16 @@ pub(crate) struct Ran<'a> {
     pub(crate) alloc: Global,
     /// What it was to do.
     pub(crate) task: Task<'a>,
-    /// The names of its files, in the order in which it opens them; an empty one where it has none.
+    /// The names of its first two files, in the order in which it opens them; an empty one where it has none.
     pub(crate) names: (&'a str, &'a str),
+    /// The name of its third file, likewise.
+    pub(crate) third_name: &'a str,
     /// Its first file.
     pub(crate) first: &'a Kept,
     /// Its second file.
     pub(crate) second: &'a Kept,
+    /// Its third file.
+    pub(crate) third: &'a Kept,
     /// The tables of the concentrator of a network that was read last.
     pub(crate) named_first: &'a Kept,
     /// Its certificate.
@@ -50,7 +54,7 @@ pub(crate) struct Ran<'a> {
 }
 
 impl<'a> Ran<'a> {
-    /// Its files, as far as they were kept.
+    /// Its first two files, as far as they were kept.
     pub(crate) fn files(&self) -> (File<'a>, File<'a>) {
         (
             File {
@@ -130,7 +134,7 @@ fn explain_behind(
     alloc: Global,
     order: Order<'_>,
     exit: Exit,
-    files: (&Kept, &Kept),
+    files: (&Kept, &Kept, &Kept),
     named: (&Kept, &Kept),
     notes: &Notes,
 ) -> Result<Option<String>, AllocError> {
@@ -139,12 +143,15 @@ fn explain_behind(
     let earlier = notes.earlier();
     let lines = said_in(&output);
     let said = lines.unwrap_or("");
+    let (first_name, second_name, third_name) = names_of(order);
     let ran = Ran {
         alloc,
         task: task_of(order),
-        names: names_of(order),
+        names: (first_name, second_name),
+        third_name,
         first: files.0,
         second: files.1,
+        third: files.2,
         named_first: named.0,
         named_second: named.1,
         earlier: earlier.as_slice(),
@@ -161,12 +168,12 @@ fn explain_behind(
     })
 }
 
-/// What there is to say of the end of a run of which both files of the command line were kept.
+/// What there is to say of the end of a run of which the files of the command line were kept.
 fn explain_with(
     alloc: Global,
     order: Order<'_>,
     exit: Exit,
-    files: (&Kept, &Kept),
+    files: (&Kept, &Kept, &Kept),
     notes: &Notes,
 ) -> Result<Option<String>, AllocError> {
     let named_first = notes.named_first.end(alloc)?;
@@ -193,5 +200,6 @@ pub fn explain_end(
 ) -> Result<Option<String>, AllocError> {
     let first = notes.first.end(alloc)?;
     let second = notes.second.end(alloc)?;
-    explain_with(alloc, order, exit, (&first, &second), notes)
+    let third = notes.third.end(alloc)?;
+    explain_with(alloc, order, exit, (&first, &second, &third), notes)
 }

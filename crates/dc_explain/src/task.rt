@@ -8,6 +8,9 @@ const STANDARD_INPUT: &str = "-";
 /// What a certificate is called.
 pub(crate) const CERTIFICATE: &str = "the certificate";
 
+/// What a third file is to be.
+pub(crate) const OBSERVED: &str = "the lines that `observe` wrote";
+
 /// What two files are to be that are judged.
 pub(crate) const JUDGED: (&'static str, &'static str) = ("the tables", CERTIFICATE);
 
@@ -21,7 +24,7 @@ pub(crate) struct Task<'a> {
     pub(crate) wanted: (&'static str, &'static str),
     /// The text of the system of the network that it was to judge or to report on, as the command line names it.
     pub(crate) system: Option<&'a str>,
-    /// Of what the codes are with which lines of its standard input are refused.
+    /// Of what the codes are with which lines are refused, of its standard input or of its third file.
     pub(crate) lines: Kind,
     /// How many events it reads, where it reads no more of what is not long.
     pub(crate) most_events: u64,
@@ -64,6 +67,7 @@ pub(crate) fn task_of(order: Order<'_>) -> Task<'_> {
             task.is_audit = true;
             task.most_events = MOST_EVENTS;
         }
+        Order::ReportObserved { .. } => task.lines = Kind::Observed,
         Order::Network { system, .. } | Order::ReportNetwork { system } => {
             task.system = Some(system);
             task.wanted = ("the system", "");
@@ -96,14 +100,20 @@ pub(crate) fn told(name: &str) -> &str {
 }
 
 /// The names of the files of an order, in the order in which it opens them; an empty one where it has none.
-pub(crate) fn names_of(order: Order<'_>) -> (&str, &str) {
-    let (first, second) = match order {
-        Order::Decode(_) | Order::Explain { .. } => ("", ""),
-        Order::Network { system, .. } | Order::ReportNetwork { system } => (system, ""),
+pub(crate) fn names_of(order: Order<'_>) -> (&str, &str, &str) {
+    let (first, second, third) = match order {
+        Order::Decode(_) | Order::Explain { .. } => ("", "", ""),
+        Order::Network { system, .. } | Order::ReportNetwork { system } => (system, "", ""),
         Order::Find { tables, .. }
         | Order::Survey { tables }
         | Order::Trace { tables, .. }
-        | Order::Replay { tables, .. } => (tables, ""),
+        | Order::Replay { tables, .. } => (tables, "", ""),
+        Order::ReportObserved {
+            tables,
+            certificate,
+            observed,
+            ..
+        } => (tables, certificate, observed),
         Order::Report {
             tables,
             certificate,
@@ -113,7 +123,7 @@ pub(crate) fn names_of(order: Order<'_>) -> (&str, &str) {
             tables,
             certificate,
             ..
-        } => (tables, certificate.unwrap_or("")),
+        } => (tables, certificate.unwrap_or(""), ""),
         Order::Check {
             tables,
             certificate,
@@ -132,12 +142,12 @@ pub(crate) fn names_of(order: Order<'_>) -> (&str, &str) {
             tables,
             certificate,
             ..
-        } => (tables, certificate),
+        } => (tables, certificate, ""),
         Order::Design {
             inputs,
             outputs,
             ..
-        } => (inputs, outputs),
+        } => (inputs, outputs, ""),
     };
-    (told(first), told(second))
+    (told(first), told(second), told(third))
 }

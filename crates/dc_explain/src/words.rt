@@ -14,7 +14,7 @@ fn before(line: &[u8], wanted: u8) -> usize {
 }
 
 /// Tells what of a line is not seen and keeps it from being read, where there is such.
-fn tell_unseen(out: &mut Explanation, line: Line<'_>) -> bool {
+pub(crate) fn tell_unseen(out: &mut Explanation, line: Line<'_>) -> bool {
     let bytes = line.bytes;
     let tab = before(bytes, b'\t');
     let last = bytes.len().saturating_sub(1);
