@@ -1,0 +1,2 @@
+-- What was seen, by rows.
+pub mod Rows
