@@ -112,6 +112,31 @@ fn headed(alloc: Global, identity: Option<&Identity<'_>>) -> Html {
     html
 }
 
+/// The page as [`page_of`] makes it, with this section behind its parts. No clause says what stands in it: it is tested.
+///
+/// # Errors
+/// `AllocError` where an allocation failed.
+pub fn page_with_section(
+    alloc: Global,
+    tables: &Tables,
+    certificate: &Certificate,
+    fault: Option<CheckFault>,
+    drift: Option<&Drift<'_>>,
+    identity: Option<&Identity<'_>>,
+    section: &str,
+) -> Result<String, AllocError>
+    requires { fault ≡ verdict_of tables.now (named_rows certificate.now) }
+{
+    let mut html = headed(alloc, identity);
+    push_page(alloc, &mut html, tables, certificate, fault)?;
+    html.add(section);
+    if let Some(drift) = drift {
+        push_drift(&mut html, tables, drift, fault.is_none());
+    }
+    html.add(FOOT);
+    html.end()
+}
+
 /// The page on a certificate for tables, given the fault of its verdict, as HTML; with a section on clocks that drift
 /// behind its parts where one is given, of which labels are left out where the certificate is refused, and with what it is
 /// of at its head where that is given. No clause says what stands in it: it is tested.
@@ -128,13 +153,7 @@ pub fn page_of(
 ) -> Result<String, AllocError>
     requires { fault ≡ verdict_of tables.now (named_rows certificate.now) }
 {
-    let mut html = headed(alloc, identity);
-    push_page(alloc, &mut html, tables, certificate, fault)?;
-    if let Some(drift) = drift {
-        push_drift(&mut html, tables, drift, fault.is_none());
-    }
-    html.add(FOOT);
-    html.end()
+    page_with_section(alloc, tables, certificate, fault, drift, identity, "")
 }
 
 /// The page as [`page_of`] makes it, that does not say what it is of.

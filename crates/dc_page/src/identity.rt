@@ -19,6 +19,8 @@ pub struct Identity<'a> {
     pub tables: NamedText<'a>,
     /// The certificate, where one was given; else it is the least one.
     pub certificate: Option<NamedText<'a>>,
+    /// What was observed of a run, where it was given: the page has a section on it, to which its head leads.
+    pub observed: Option<NamedText<'a>>,
     /// The version of the program.
     pub version: &'a str,
     /// The sum of the logic that it was proved by.
@@ -44,6 +46,10 @@ pub fn push_identity(html: &mut Html, identity: &Identity<'_>) {
                 "<p>Certificate: none given; where one is accepted, the least one is shown</p>\n",
             )
         }
+    }
+    if let Some(observed) = identity.observed {
+        push_text(html, "Observed", observed);
+        html.add("<p><a href='#seen'>What was seen beside what is certified</a></p>\n");
     }
     html.put(
         "<p class='s'>dc429 {}, proved by the logic <code>{}</code></p></div>\n",

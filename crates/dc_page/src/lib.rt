@@ -24,5 +24,5 @@ mod time;
 mod verdict;
 
 pub use drift::{Drift, Drifted, LabelDrift, SourceDrift, WireDrift};
-pub use html::{page, page_of, page_with_drift, sought_back, sought_front};
+pub use html::{page, page_of, page_with_drift, page_with_section, sought_back, sought_front};
 pub use identity::{Identity, NamedText};
