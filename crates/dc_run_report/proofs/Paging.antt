@@ -63,7 +63,7 @@ abbrev pub LeastFrame : List ℕ → Answer → Type 0
 LeastFrame rows = AnswersWritten (λ w texts answer. AnswersRows w.tables answer) (rows ∷ [])
 
 -- the tables beside a document are its tables
-tables_alone : (reading : Reading Written) (w : WrittenRows) → AreWrittenBy reading w → AreTablesOf reading w.tables
+pub tables_alone : (reading : Reading Written) (w : WrittenRows) → AreWrittenBy reading w → AreTablesOf reading w.tables
 tables_alone reading w by = record { parts = w.parts; said = by.said; valid = by.valid; rows_of = by.rows_of }
 
 claims_as : (t : TableRows) (reading : CertificateReading NamedRows) (answer : Answer) → FrameClaims (λ c texts a. IsPage (outcome_of (verdict_of t (named_rows c))) a) [] answer reading

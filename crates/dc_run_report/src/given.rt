@@ -11,7 +11,7 @@ ghost use Rattle.dc_toml.specs.Reading.{tables_of};
 ghost use Rattle.dc_run_report.specs.Paper.{IsPage, ReportsPage, outcome_of};
 
 use crate::identity::{PageOf, Shown};
-use crate::pages::keep_page;
+use crate::pages::keep_page_with;
 use dc_answer::{End, Exit, Outcome, Page, ReadCertificate, ReadWritten, Tell, Then, With, run};
 use dc_build::WrittenTables;
 use dc_cert::Certificate;
@@ -19,18 +19,19 @@ use dc_check::verdict;
 use dc_device::{Sink, Source};
 use std::alloc::{AllocError, Global};
 
-/// Keeps the page on a certificate with the outcome of its verdict.
-fn keep_judged(
+/// Keeps the page on a certificate with the outcome of its verdict, and this section behind its parts.
+pub(crate) fn keep_judged(
     alloc: Global,
     written: &WrittenTables,
     certificate: &Certificate,
     shown: Shown<'_, '_>,
+    section: &str,
     page: &mut Page,
 ) -> Result<Outcome, AllocError>
     ensures outcome { IfOk result (λ o. o ≡ outcome_of (verdict_of written.now.tables (named_rows certificate.now))) }
 {
     let fault = verdict(written.tables(), certificate).err();
-    keep_page(alloc, written, certificate, fault, shown, page)
+    keep_page_with(alloc, written, certificate, fault, shown, section, page)
 }
 
 /// Judges a certificate, and keeps the page on it.
@@ -43,7 +44,7 @@ fn report_on(
 ) -> Result<Outcome, AllocError>
     ensures { Keeps (IsPage (outcome_of (verdict_of written.now.tables (named_rows certificate.now)))) page.new result }
 {
-    keep_judged(alloc, written, certificate, shown, page)
+    keep_judged(alloc, written, certificate, shown, "", page)
 }
 
 /// Makes the page on a certificate for tables, with the outcome of its verdict. No clause says what stands in the page:

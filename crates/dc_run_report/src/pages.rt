@@ -10,7 +10,7 @@ use dc_answer::{Outcome, Page};
 use dc_build::WrittenTables;
 use dc_cert::Certificate;
 use dc_check::CheckFault;
-use dc_page::{Identity, page_of};
+use dc_page::{Identity, page_with_section};
 use std::alloc::{AllocError, Global};
 
 /// The outcome of a verdict: accepted, or a fault.
@@ -31,6 +31,7 @@ fn drifting_page(
     fault: Option<CheckFault>,
     drift: u16,
     identity: Option<&Identity<'_>>,
+    section: &str,
 ) -> Result<String, AllocError>
     requires { fault ≡ verdict_of written.now.tables (named_rows certificate.now) }
 {
@@ -39,13 +40,14 @@ fn drifting_page(
         Some(_) => None,
     };
     let rows = rows_shown(alloc, written, accepted, drift)?;
-    page_of(
+    page_with_section(
         alloc,
         written.tables(),
         certificate,
         fault,
         Some(&rows.drift(drift)),
         identity,
+        section,
     )
 }
 
@@ -57,12 +59,21 @@ fn page_beside(
     fault: Option<CheckFault>,
     drift: Option<u16>,
     identity: Option<&Identity<'_>>,
+    section: &str,
 ) -> Result<String, AllocError>
     requires { fault ≡ verdict_of written.now.tables (named_rows certificate.now) }
 {
     match drift {
-        None => page_of(alloc, written.tables(), certificate, fault, None, identity),
-        Some(drift) => drifting_page(alloc, written, certificate, fault, drift, identity),
+        None => page_with_section(
+            alloc,
+            written.tables(),
+            certificate,
+            fault,
+            None,
+            identity,
+            section,
+        ),
+        Some(drift) => drifting_page(alloc, written, certificate, fault, drift, identity, section),
     }
 }
 
@@ -74,12 +85,21 @@ fn identified_page(
     fault: Option<CheckFault>,
     drift: Option<u16>,
     of: PageOf<'_, '_>,
+    section: &str,
 ) -> Result<String, AllocError>
     requires { fault ≡ verdict_of written.now.tables (named_rows certificate.now) }
 {
     let digits = of.digits(alloc)?;
     let identity = identity_of(of, &digits);
-    page_beside(alloc, written, certificate, fault, drift, Some(&identity))
+    page_beside(
+        alloc,
+        written,
+        certificate,
+        fault,
+        drift,
+        Some(&identity),
+        section,
+    )
 }
 
 /// The page on a certificate, with what is shown beside it.
@@ -89,13 +109,44 @@ fn page_text(
     certificate: &Certificate,
     fault: Option<CheckFault>,
     shown: Shown<'_, '_>,
+    section: &str,
 ) -> Result<String, AllocError>
     requires { fault ≡ verdict_of written.now.tables (named_rows certificate.now) }
 {
     match shown.of {
-        None => page_beside(alloc, written, certificate, fault, shown.drift, None),
-        Some(of) => identified_page(alloc, written, certificate, fault, shown.drift, of),
+        None => page_beside(
+            alloc,
+            written,
+            certificate,
+            fault,
+            shown.drift,
+            None,
+            section,
+        ),
+        Some(of) => identified_page(alloc, written, certificate, fault, shown.drift, of, section),
     }
+}
+
+/// Keeps the page on a certificate, given the fault of its verdict, with the outcome of that; with what is shown beside
+/// it, and this section behind its parts.
+///
+/// # Errors
+/// `AllocError` where memory was refused.
+pub fn keep_page_with(
+    alloc: Global,
+    written: &WrittenTables,
+    certificate: &Certificate,
+    fault: Option<CheckFault>,
+    shown: Shown<'_, '_>,
+    section: &str,
+    page: &mut Page,
+) -> Result<Outcome, AllocError>
+    requires { fault ≡ verdict_of written.now.tables (named_rows certificate.now) }
+    ensures outcome { IfOk result (λ o. o ≡ outcome_of fault) }
+{
+    let text = page_text(alloc, written, certificate, fault, shown, section)?;
+    page.keep(text.as_bytes())?;
+    Ok(outcome(fault))
 }
 
 /// Keeps the page on a certificate, given the fault of its verdict, with the outcome of that; and with what is shown
@@ -114,7 +165,5 @@ pub fn keep_page(
     requires { fault ≡ verdict_of written.now.tables (named_rows certificate.now) }
     ensures outcome { IfOk result (λ o. o ≡ outcome_of fault) }
 {
-    let text = page_text(alloc, written, certificate, fault, shown)?;
-    page.keep(text.as_bytes())?;
-    Ok(outcome(fault))
+    keep_page_with(alloc, written, certificate, fault, shown, "", page)
 }
