@@ -35,6 +35,18 @@ two_texts P s t text more same too h =
     subst (λ (x : SourceState). (rows claims : List ℕ) → x.remaining ≡ Some rows → more ≡ Some claims → P rows claims (x.failed + 0)) same
     (subst (λ (y : SourceState). (rows claims : List ℕ) → s.remaining ≡ Some rows → y.remaining ≡ Some claims → P rows claims (s.failed + y.failed)) too h)
 
+pub of_three : (P : ℕ → Type 0) (s t u : SourceState) (text more last : Option (List ℕ)) → s ≡ new_source text → t ≡ new_source more → u ≡ new_source last → P (s.failed + (t.failed + u.failed)) → P 0
+of_three P s t u text more last one two three h =
+    subst (λ (x : SourceState). P (x.failed + (0 + 0))) one (subst (λ (y : SourceState). P (s.failed + (y.failed + 0))) two (subst (λ (z : SourceState). P (s.failed + (t.failed + z.failed))) three h))
+
+pub three_texts : (P : List ℕ → List ℕ → List ℕ → ℕ → Type 0) (s t u : SourceState) (text more last : Option (List ℕ)) → s ≡ new_source text → t ≡ new_source more → u ≡ new_source last
+    → ((rows claims lines : List ℕ) → s.remaining ≡ Some rows → t.remaining ≡ Some claims → u.remaining ≡ Some lines → P rows claims lines (s.failed + (t.failed + u.failed)))
+    → (rows claims lines : List ℕ) → text ≡ Some rows → more ≡ Some claims → last ≡ Some lines → P rows claims lines 0
+three_texts P s t u text more last one two three h =
+    subst (λ (x : SourceState). (rows claims lines : List ℕ) → x.remaining ≡ Some rows → more ≡ Some claims → last ≡ Some lines → P rows claims lines (x.failed + (0 + 0))) one
+    (subst (λ (y : SourceState). (rows claims lines : List ℕ) → s.remaining ≡ Some rows → y.remaining ≡ Some claims → last ≡ Some lines → P rows claims lines (s.failed + (y.failed + 0))) two
+    (subst (λ (z : SourceState). (rows claims lines : List ℕ) → s.remaining ≡ Some rows → t.remaining ≡ Some claims → z.remaining ≡ Some lines → P rows claims lines (s.failed + (t.failed + z.failed))) three h))
+
 -- ---- standard input beside them
 
 pub one_input : (P : List ℕ → Type 0) (more : Option (List ℕ)) → IfSome more P → (text : List ℕ) → more ≡ Some text → P text

@@ -7,7 +7,7 @@ use Rattle.dc_answer.specs.declared.exit.Exit.{Exit}
 use Rattle.dc_answer.specs.declared.exit.Exit.TheVariants.{Failed}
 use Rattle.dc_command.specs.declared.asked.Order.{Order}
 use Rattle.dc_capture.specs.declared.capture_lines.TheConstants.{CAPTURE_LIMIT}
-use Rattle.dc_command.specs.declared.asked.Order.TheVariants.{Decode, Check, Find, Report, Margins, Survey, Trace, Replay, Audit, Observe, Bench, Design, Explain, Network, ReportNetwork}
+use Rattle.dc_command.specs.declared.asked.Order.TheVariants.{Decode, Check, Find, Report, ReportObserved, Margins, Survey, Trace, Replay, Audit, Observe, Bench, Design, Explain, Network, ReportNetwork}
 use Rattle.dc_device.specs.States.{AsksUpTo, SinkState, SourceState}
 use Rattle.dc_program.specs.declared.world.Crew.{Crew}
 use Rattle.dc_program.specs.declared.world.Crew.TheVariants.{Workers, Actors}
@@ -23,7 +23,7 @@ use Rattle.dc_run_explain.specs.Explain.{ReportsExplain}
 use Rattle.dc_run_observe.specs.Answer.{ReportsObserve}
 use Rattle.dc_run.specs.declared.limits.TheConstants.{LONG_TRACE_LIMIT}
 use Rattle.dc_run_margins.specs.Margins.{ReportsMargins, ReportsLeast as ReportsMarginsLeast}
-use Rattle.dc_run_report.specs.Paper.{ReportsPage, ReportsLeast as ReportsPageLeast}
+use Rattle.dc_run_report.specs.Paper.{ReportsPage, ReportsLeast as ReportsPageLeast, ReportsObserved as ReportsPageObserved}
 use Rattle.dc_run_survey.specs.Answer.{ReportsSurvey}
 use Rattle.dc_run_trace.specs.Answer.{ReportsTrace}
 
@@ -36,6 +36,7 @@ files_of (Check tables certificate workers digest) = tables.now ∷ certificate.
 files_of (Find tables) = tables.now ∷ []
 files_of (Report tables None drift) = tables.now ∷ []
 files_of (Report tables (Some certificate) drift) = tables.now ∷ certificate.now ∷ []
+files_of (ReportObserved tables certificate observed drift) = tables.now ∷ certificate.now ∷ observed.now ∷ []
 files_of (Margins tables None microseconds drift json) = tables.now ∷ []
 files_of (Margins tables (Some certificate) microseconds drift json) = tables.now ∷ certificate.now ∷ []
 files_of (Survey tables) = tables.now ∷ []
@@ -114,6 +115,9 @@ ReportsOrder (Report tables None drift) holds failed input input' sink sink' exi
 ReportsOrder (Report tables (Some certificate) drift) holds failed input input' sink sink' exit =
     (rows claims : List ℕ) → holds tables.now ≡ Some rows → holds certificate.now ≡ Some claims
     → ReportsPage rows claims sink.contents sink'.contents 0 failed sink.failed sink'.failed exit
+ReportsOrder (ReportObserved tables certificate observed drift) holds failed input input' sink sink' exit =
+    (rows claims lines : List ℕ) → holds tables.now ≡ Some rows → holds certificate.now ≡ Some claims → holds observed.now ≡ Some lines
+    → ReportsPageObserved rows claims lines sink.contents sink'.contents 0 failed sink.failed sink'.failed exit
 ReportsOrder (Margins tables None microseconds drift json) holds failed input input' sink sink' exit =
     (rows : List ℕ) → holds tables.now ≡ Some rows → ReportsMarginsLeast (record { json = json; microseconds = microseconds; drift = drift }) rows sink.contents sink'.contents 0 failed sink.failed sink'.failed exit
 ReportsOrder (Margins tables (Some certificate) microseconds drift json) holds failed input input' sink sink' exit =

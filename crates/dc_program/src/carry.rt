@@ -15,7 +15,7 @@ use crate::engines::{
     audit, bench, check, check_by, decode, explain, find, network, network_by, network_page,
     observe, replay, survey, trace,
 };
-use crate::optional::{margins, page};
+use crate::optional::{margins, page, page_observed};
 use crate::world::World;
 use dc_answer::Exit;
 use dc_command::Order;
@@ -76,6 +76,12 @@ fn obey<'a, W: World<'a>, S: Source, K: Sink, H: ByThreads>(
             certificate,
             drift,
         } => page(alloc, world, sink, tables, certificate, drift),
+        Order::ReportObserved {
+            tables,
+            certificate,
+            observed,
+            drift,
+        } => page_observed(alloc, world, sink, tables, certificate, observed, drift),
         Order::Margins {
             tables,
             certificate,

@@ -113,10 +113,10 @@ impl<'a, R: Files<File = File> + Input> Disk<'a, R> {
 
     /// The notes of the file that is opened next.
     fn slot(&self) -> &'a Slot {
-        if self.opened.is_empty() {
-            &self.notes.first
-        } else {
-            &self.notes.second
+        match self.opened.len() {
+            0 => &self.notes.first,
+            1 => &self.notes.second,
+            _ => &self.notes.third,
         }
     }
 }

@@ -1,4 +1,4 @@
 //! The limit of files.
 
 /// The most files that a command opens.
-pub const MOST_FILES: usize = 2;
+pub const MOST_FILES: usize = 3;

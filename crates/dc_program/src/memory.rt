@@ -30,12 +30,13 @@ struct Saved<'a> {
     text: Vec<u8>,
 }
 
-/// Two files in memory. The opening or making of a given number is refused, and so is the opening of a file
+/// Three files in memory. The opening or making of a given number is refused, and so is the opening of a file
 /// that is not there.
 #[derive(Drop)]
 pub struct MemWorld<'a> {
     first: MemFile<'a>,
     second: MemFile<'a>,
+    third: MemFile<'a>,
     fails_in: u64,
     why: NotOpened,
     opened: ArrayVec<&'a str, MOST_FILES>,
@@ -46,9 +47,16 @@ pub struct MemWorld<'a> {
 
 impl<'a> MemWorld<'a> {
     /// These files. The opening of number `fails_at`, from 1 on, is refused for this reason; for 0 none is so.
-    pub fn new(first: MemFile<'a>, second: MemFile<'a>, fails_at: u64, why: NotOpened) -> Self
+    pub fn new(
+        first: MemFile<'a>,
+        second: MemFile<'a>,
+        third: MemFile<'a>,
+        fails_at: u64,
+        why: NotOpened,
+    ) -> Self
         ensures first { result.first ≡ first.entry }
         ensures second { result.second ≡ second.entry }
+        ensures third { result.third ≡ third.entry }
         ensures fails { result.fails_in ≡ fails_at }
         ensures why { result.why ≡ why }
         ensures opened { result.opened.items ≡ [] }
@@ -59,6 +67,7 @@ impl<'a> MemWorld<'a> {
         MemWorld {
             first,
             second,
+            third,
             fails_in: fails_at,
             why,
             opened: ArrayVec::new(),
@@ -92,12 +101,14 @@ impl<'a> MemWorld<'a> {
 
     /// The text of the file of this name, where there is one.
     fn text_of(&self, name: &str) -> Option<&'a str>
-        ensures { option_map (λ s. s.now) result ≡ held_by self.now.first (held_by self.now.second (λ _. None)) name.now }
+        ensures { option_map (λ s. s.now) result ≡ held_by self.now.first (held_by self.now.second (held_by self.now.third (λ _. None))) name.now }
     {
         if self.first.name == name {
             Some(self.first.text)
         } else if self.second.name == name {
             Some(self.second.text)
+        } else if self.third.name == name {
+            Some(self.third.text)
         } else {
             None
         }
@@ -107,13 +118,13 @@ impl<'a> MemWorld<'a> {
 impl<'a> Shelf for MemWorld<'a> {
     type File = MemSource<'a>;
 
-    ghost holds = { λ w. held_by w.first (held_by w.second (λ _. None)) };
+    ghost holds = { λ w. held_by w.first (held_by w.second (held_by w.third (λ _. None))) };
 
-    ghost keeps = { λ w w'. (w'.first ≡ w.first) × (w'.second ≡ w.second) × (w'.opened ≡ w.opened) × (w'.crew ≡ w.crew) × (w'.saved ≡ w.saved) };
+    ghost keeps = { λ w w'. (w'.first ≡ w.first) × (w'.second ≡ w.second) × (w'.third ≡ w.third) × (w'.opened ≡ w.opened) × (w'.crew ≡ w.crew) × (w'.saved ≡ w.saved) };
 
-    ghost keeps_same = { λ s. (refl, refl, refl, refl, refl) };
+    ghost keeps_same = { λ s. (refl, refl, refl, refl, refl, refl) };
 
-    ghost keeps_on = { λ r s t one next. (next.0 ∙ one.0, next.1 ∙ one.1, next.2 ∙ one.2, next.3 ∙ one.3, next.4 ∙ one.4) };
+    ghost keeps_on = { λ r s t one next. (next.0 ∙ one.0, next.1 ∙ one.1, next.2 ∙ one.2, next.3 ∙ one.3, next.4 ∙ one.4, next.5 ∙ one.5) };
 
     fn open_named(&mut self, name: &str) -> Result<MemSource<'a>, Failure> {
         match self.text_of(name) {
@@ -125,7 +136,7 @@ impl<'a> Shelf for MemWorld<'a> {
 
 impl<'a> World<'a> for MemWorld<'a> {
     ghost state = { λ w. record {
-      holds = held_by w.first (held_by w.second (λ _. None));
+      holds = held_by w.first (held_by w.second (held_by w.third (λ _. None)));
       opened = map (λ name. name.now) w.opened.items;
       refused = w.refused;
       crew = w.crew;

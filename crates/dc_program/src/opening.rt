@@ -45,6 +45,29 @@ pub fn open_both<'a, W: World<'a>>(
     Ok((first, second))
 }
 
+/// The files of these three names, the first one opened first.
+///
+/// # Errors
+/// Where one could not be opened: no file behind it was then asked for.
+pub fn open_three<'a, W: World<'a>>(
+    world: &mut W,
+    first: &'a str,
+    second: &'a str,
+    third: &'a str,
+) -> Result<(W::File, W::File, W::File), NotOpened>
+    requires { IsNew (W.state world.old) }
+    ensures opened { IfOk result (λ f. AreOpened (first.now ∷ second.now ∷ third.now ∷ []) (W.state world.new)) }
+    ensures first { IfOk result (λ f. W.File.state f.0 ≡ new_source ((W.state world.old).holds first.now)) }
+    ensures second { IfOk result (λ f. W.File.state f.1 ≡ new_source ((W.state world.old).holds second.now)) }
+    ensures third { IfOk result (λ f. W.File.state f.2 ≡ new_source ((W.state world.old).holds third.now)) }
+    ensures refused { IfErr result (λ why. AreNotOpened (first.now ∷ second.now ∷ third.now ∷ []) why (W.state world.new)) }
+{
+    let one = world.open(first)?;
+    let two = world.open(second)?;
+    let three = world.open(third)?;
+    Ok((one, two, three))
+}
+
 /// The files of these names, the first one opened first, and threads asked for these then.
 ///
 /// # Errors

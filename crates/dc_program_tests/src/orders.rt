@@ -1,4 +1,4 @@
-//! Command lines that are carried out over two files in memory, where each opening is refused in turn.
+//! Command lines that are carried out over three files in memory, where each opening is refused in turn.
 
 use dc_answer::Exit;
 use dc_device::{MemSink, MemSource};
@@ -48,7 +48,8 @@ fn words_of<R: AllocGlobal>(rt: &R, line: &str) -> Result<Vec<String>, AllocErro
     Ok(words)
 }
 
-/// Whether a command line does so over these texts, as files `T` and `C`.
+/// Whether a command line does so over these texts, as files `T` and `C`, and over a third file `O` in whose first line stands no
+/// number that was observed.
 fn does<R: AllocGlobal + Threads + Wait + Sync>(
     rt: &R,
     trial: &Trial<'_>,
@@ -65,7 +66,11 @@ fn does<R: AllocGlobal + Threads + Wait + Sync>(
         text: certificate,
     };
     let mut sink = MemSink::new(rt.alloc(), 2000, 0)?;
-    let mut world = MemWorld::new(first, second, trial.fails_at, trial.why);
+    let third = MemFile {
+        name: "O",
+        text: "queue A\n",
+    };
+    let mut world = MemWorld::new(first, second, third, trial.fails_at, trial.why);
     let mut input = MemSource::new(trial.input.as_bytes(), 7, 0);
     let exit = match run_words(
         rt.alloc(),
@@ -192,6 +197,21 @@ fn the_second_opening_is_refused(rt: HostRuntime) -> Result<(), Fail> {
     assert!(rt; stops(&rt, "dc429 margins T C", 2, 2)?);
     assert!(rt; stops(&rt, "dc429 audit T C", 2, 2)?);
     assert!(rt; stops(&rt, "dc429 bench T C", 2, 2)?);
+    Ok(())
+}
+
+#[test]
+fn each_of_three_openings_is_refused(rt: HostRuntime) -> Result<(), Fail> {
+    assert!(rt; stops(&rt, "dc429 report T C --observed O", 1, 1)?);
+    assert!(rt; stops(&rt, "dc429 report T C --observed O", 2, 2)?);
+    assert!(rt; stops(&rt, "dc429 report T C --observed O", 3, 3)?);
+    let unread = usual(
+        "dc429 report T C --observed O",
+        3,
+        Exit::Unreadable,
+        "unreadable E2 at line 1\n",
+    );
+    assert!(rt; does_so(&rt, &unread)?);
     Ok(())
 }
 
