@@ -13,25 +13,56 @@ use std::alloc::Global;
 use std::rt::HostRuntime;
 use std::test::Fail;
 
-/// The tables of a row, beside their document.
-fn written_of(alloc: Global, row: &str) -> Result<WrittenTables, Fail> {
+/// The small tables beside their document; nothing where they can't be read.
+fn written(alloc: Global) -> Option<WrittenTables> {
     let mut text = String::new(alloc);
-    push_small_tables(&mut text, row)?;
-    Ok(read_written(alloc, text.as_bytes())?)
+    match push_small_tables(&mut text, "") {
+        Ok(()) => read_written(alloc, text.as_bytes()).ok(),
+        Err(_) => None,
+    }
 }
 
-/// The certificate of a row.
-fn certificate_for(alloc: Global, row: &str) -> Result<Certificate, Fail> {
+/// Their certificate; nothing where it can't be read.
+fn certificate(alloc: Global) -> Option<Certificate> {
     let mut text = String::new(alloc);
-    push_small_certificate(&mut text, row)?;
-    Ok(certificate_of(alloc, text.as_str())?)
+    match push_small_certificate(&mut text, "") {
+        Ok(()) => certificate_of(alloc, text.as_str()).ok(),
+        Err(_) => None,
+    }
 }
 
-/// The small concentrator of a row.
-fn member(alloc: Global, row: &str) -> Result<Member, Fail> {
-    let written = written_of(alloc, row)?;
-    let certificate = certificate_for(alloc, row)?;
-    Ok(Member::judge(written, certificate).ok().ok_or("refused")?)
+/// The small concentrator with this certificate; nothing where it is refused.
+fn certified(alloc: Global, certificate: Certificate) -> Option<Member> {
+    match written(alloc) {
+        Some(written) => Member::judge(written, certificate).ok(),
+        None => None,
+    }
+}
+
+/// The small concentrator.
+fn member(alloc: Global) -> Option<Member> {
+    match certificate(alloc) {
+        Some(certificate) => certified(alloc, certificate),
+        None => None,
+    }
+}
+
+/// Adds a small concentrator. Whether it was made.
+fn add_member(alloc: Global, members: &mut Vec<Member>) -> bool {
+    match member(alloc) {
+        Some(member) => members.push(member).is_ok(),
+        None => false,
+    }
+}
+
+/// Adds so many small concentrators. Whether all were made.
+fn add_members(alloc: Global, count: usize, members: &mut Vec<Member>) -> bool {
+    for _ in 0..count {
+        if !add_member(alloc, members) {
+            return false;
+        }
+    }
+    true
 }
 
 /// Whether these are links of so many concentrators.
@@ -59,7 +90,7 @@ fn link(from: usize, to: usize, latency: u32) -> Connection {
 }
 
 /// What is told of a network.
-#[derive(Clone, Copy, Debug, PartialEq)]
+#[derive(Clone, Copy, PartialEq)]
 enum Answer {
     /// The way of the first label of the last concentrator.
     Way(u64),
@@ -67,7 +98,7 @@ enum Answer {
     Ring(usize),
     /// The first link that does not fit, with its first fault.
     Link(usize, LinkFault),
-    /// Nothing.
+    /// Nothing: it could not be made or judged.
     Nothing,
 }
 
@@ -92,28 +123,36 @@ fn last_way(ways: &[Ways]) -> Answer {
     }
 }
 
-/// What is told of three small concentrators.
-fn told_of_three(alloc: Global, links: &[Connection]) -> Result<Answer, Fail> {
-    let members = [member(alloc, "")?, member(alloc, "")?, member(alloc, "")?];
-    Ok(told(alloc, &members, links))
+/// What is told of so many small concentrators, which are added where none is there, and these links.
+fn told_into(
+    alloc: Global,
+    count: usize,
+    links: &[Connection],
+    members: &mut Vec<Member>,
+) -> Answer {
+    if !add_members(alloc, count, members) {
+        return Answer::Nothing;
+    }
+    told(alloc, members.as_slice(), links)
 }
 
-/// What is told of two, the second of a row, and a link from the first to it.
-fn told_of_two(alloc: Global, row: &str, link: Connection) -> Result<Answer, Fail> {
-    let members = [member(alloc, "")?, member(alloc, row)?];
-    Ok(told(alloc, &members, &[link]))
+/// What is told of so many small concentrators and these links.
+fn told_of(alloc: Global, count: usize, links: &[Connection]) -> Answer {
+    let mut members = Vec::new(alloc);
+    told_into(alloc, count, links, &mut members)
 }
 
 #[test]
 fn a_way_through_three(rt: HostRuntime) -> Result<(), Fail> {
-    let told = told_of_three(rt.alloc(), &[link(0, 1, 700), link(1, 2, 800)])?;
+    let told = told_of(rt.alloc(), 3, &[link(0, 1, 700), link(1, 2, 800)]);
     assert!(rt; told == Answer::Way(76_500));
     Ok(())
 }
 
 #[test]
 fn the_first_on_a_ring(rt: HostRuntime) -> Result<(), Fail> {
-    let told = told_of_three(rt.alloc(), &[link(0, 1, 0), link(1, 2, 0), link(2, 1, 0)])?;
+    let links = [link(0, 1, 0), link(1, 2, 0), link(2, 1, 0)];
+    let told = told_of(rt.alloc(), 3, &links);
     assert!(rt; told == Answer::Ring(1));
     Ok(())
 }
@@ -121,7 +160,7 @@ fn the_first_on_a_ring(rt: HostRuntime) -> Result<(), Fail> {
 #[test]
 fn an_end_that_is_not_there(rt: HostRuntime) -> Result<(), Fail> {
     let to = link(0, 1, 700);
-    let told = told_of_two(rt.alloc(), "", Connection { bus: 1, ..to })?;
+    let told = told_of(rt.alloc(), 2, &[Connection { bus: 1, ..to }]);
     assert!(rt; told == Answer::Link(0, LinkFault::NoEnd));
     Ok(())
 }
@@ -129,14 +168,11 @@ fn an_end_that_is_not_there(rt: HostRuntime) -> Result<(), Fail> {
 #[test]
 fn words_that_can_come_too_soon(rt: HostRuntime) -> Result<(), Fail> {
     let to = link(0, 1, 700);
-    let told = told_of_two(
-        rt.alloc(),
-        "",
-        Connection {
-            least_us: 699,
-            ..to
-        },
-    )?;
+    let sooner = Connection {
+        least_us: 699,
+        ..to
+    };
+    let told = told_of(rt.alloc(), 2, &[sooner]);
     assert!(rt; told == Answer::Link(0, LinkFault::Stream(0, StreamRule::TooSoon)));
     Ok(())
 }
