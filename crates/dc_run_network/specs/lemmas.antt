@@ -4,4 +4,5 @@ pub mod Ends
 pub mod Feeds
 pub mod Halting
 pub mod Long
+pub mod Numbers
 pub mod Yes

@@ -1,5 +1,5 @@
 //! The links of a system by the numbers of their ends.
-ghost use Rattle.std.specs.Prelude.{◌≡◌, IfOk, length, map, position, unwrap_or};
+ghost use Rattle.std.specs.Prelude.{◌≡◌, IfOk, length, map, unwrap_or};
 ghost use Rattle.std.specs.Str.{bytes_eq};
 ghost use Rattle.dc_document.specs.Names.{number_of};
 ghost use Rattle.dc_ways.specs.Members.{rows_of};
@@ -18,21 +18,16 @@ fn is_named(concentrator: &ConcentratorText, name: Name) -> bool
     name == concentrator.name()
 }
 
-/// The number of the concentrator of this name, where there is one.
-fn found_in(concentrators: &[ConcentratorText], name: Name) -> Option<usize>
-    ensures { result ≡ position (is_named name) concentrators.now }
-{
-    concentrators.iter().position(|one| is_named(one, name))
-}
-
 /// The number of the concentrator of this name; one past the last where there is none.
 fn number_in(concentrators: &[ConcentratorText], name: Name) -> usize
     ensures { result ≡ number_in concentrators.now name }
 {
-    match found_in(concentrators, name) {
-        Some(number) => number,
-        None => concentrators.len(),
+    for (number, concentrator) in concentrators.iter().enumerate() {
+        if is_named(concentrator, name) {
+            return number;
+        }
     }
+    concentrators.len()
 }
 
 /// From where to where a link leads.
