@@ -1,13 +1,14 @@
 -- The concentrators of a system by the texts of their files.
-use Rattle.std.specs.Prelude.{◌≡◌, ◌≢◌, ℕ, ◌<◌, List, Option, Some, Ok, Err, Result, length, slice_index_or, codes}
+use Rattle.std.specs.Prelude.{◌≡◌, ◌≢◌, ℕ, ◌<◌, List, Option, Some, None, Ok, Err, Result, length, slice_index_or, codes}
 use Rattle.dc_answer.specs.Answer.{one_line}
 use Rattle.dc_answer.specs.declared.exit.Outcome.TheVariants.{Done}
 use Rattle.dc_build.specs.Reported.{AreWrittenBy}
 use Rattle.dc_build.specs.Written.{WrittenRows}
-use Rattle.dc_cert.specs.NamedRows.{named_rows}
+use Rattle.dc_cert.specs.NamedRows.{NamedRows, named_rows}
 use Rattle.dc_cert.specs.Reading.{certificate_of}
 use Rattle.dc_cert.specs.declared.certificate.Certificate.{Certificate}
 use Rattle.dc_check.specs.Accepts.{Accepts}
+use Rattle.dc_check.specs.Verdict.{verdict_of}
 use Rattle.dc_run.specs.Check.{AnswersCheck}
 use Rattle.dc_system_text.specs.System.{ConcentratorRow}
 use Rattle.dc_toml.specs.Reading.{tables_of}
@@ -52,6 +53,11 @@ ReadsTables tables line (Err halt) = (certificate : List ℕ) → AnswersHalt ta
 abbrev pub ReadsCertificate : (certificate line : List ℕ) → Result Certificate Halt → Type 0
 ReadsCertificate certificate line (Ok c) = certificate_of certificate ≡ Ok (named_rows c)
 ReadsCertificate certificate line (Err halt) = (tables : List ℕ) (w : WrittenRows) → AreWrittenBy (tables_of tables) w → AnswersHalt tables certificate line halt
+
+-- what was judged of a certificate for these tables: it is accepted; or the line says that it is not, whatever texts they are of
+abbrev pub JudgesClaims : WrittenRows → NamedRows → (line : List ℕ) → Result (Unit {0}) Halt → Type 0
+JudgesClaims w claims line (Ok x) = verdict_of w.tables claims ≡ None
+JudgesClaims w claims line (Err halt) = (tables certificate : List ℕ) → AreWrittenBy (tables_of tables) w → certificate_of certificate ≡ Ok claims → AnswersHalt tables certificate line halt
 
 -- the texts of its files, where they are known
 abbrev pub OfTexts : Holds → (folder : List ℕ) → ConcentratorRow → (List ℕ → List ℕ → Type 0) → Type 0

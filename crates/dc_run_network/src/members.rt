@@ -1,12 +1,13 @@
 //! The concentrators of a system: their files are opened, read and judged.
-ghost use Rattle.std.specs.Prelude.{◌≡◌, ◌≢◌, ℕ, List, IfErr, IfOk, IfSome, MatchResult, Ok, Some, []};
+ghost use Rattle.std.specs.Prelude.{◌≡◌, ◌≢◌, ℕ, List, IfErr, IfOk, IfSome, MatchResult, None, Ok, Some, []};
 ghost use Rattle.dc_cert.specs.NamedRows.{named_rows};
 ghost use Rattle.dc_cert.specs.Reading.{certificate_of};
 ghost use Rattle.dc_build.specs.Reported.{AreWrittenBy};
+ghost use Rattle.dc_check.specs.Accepts.{Accepts};
 ghost use Rattle.dc_check.specs.Verdict.{verdict_of};
 ghost use Rattle.dc_device.specs.States.{IsCountable};
 ghost use Rattle.dc_toml.specs.Reading.{tables_of};
-ghost use Rattle.dc_run_network.specs.Members.{AnswersHalt, AreMembers, Halts, IsHaltAt, IsMemberAt, IsMemberOf, IsSaid, OfTexts, ReadsCertificate, ReadsTables, TellsBehind};
+ghost use Rattle.dc_run_network.specs.Members.{AnswersHalt, AreMembers, Halts, IsHaltAt, IsMemberAt, IsMemberOf, IsSaid, JudgesClaims, OfTexts, ReadsCertificate, ReadsTables, TellsBehind};
 ghost use Rattle.dc_run_network.specs.Paths.{path_of};
 
 use crate::lines::tell_at;
@@ -16,7 +17,6 @@ use crate::verdicts::{Undecided, Verdicts};
 use dc_answer::{Failure, Outcome, Page, Unloaded, load_certificate, load_written};
 use dc_build::WrittenTables;
 use dc_cert::Certificate;
-use dc_check::CheckFault;
 use dc_device::Source;
 use dc_document::Name;
 use dc_print::{Text, append, print_cert_fault, print_refused, print_table_fault};
@@ -25,7 +25,7 @@ use dc_ways::Member;
 use std::alloc::Global;
 
 /// What ended the judging of concentrators.
-#[derive(Clone, Copy, Debug, PartialEq, Eq)]
+#[derive(Clone, Copy)]
 pub enum Halt {
     /// What `check` answers was told.
     Told(Outcome),
@@ -95,69 +95,67 @@ fn read_certificate<S: Source>(
     }
 }
 
-/// The concentrator of tables and a certificate of which this is the verdict.
-fn judged(
-    written: WrittenTables,
-    certificate: Certificate,
-    fault: Option<CheckFault>,
-    line: &mut Text,
-) -> Result<Member, Halt>
-    requires { fault ≡ verdict_of written.tables (named_rows certificate) }
-    ensures said { IfErr result (IsSaid line.new.items) }
-    ensures judged { (rows text : List ℕ) → AreWrittenBy (tables_of rows) written → certificate_of text ≡ Ok (named_rows certificate)
-        → MatchResult result (IsMemberOf rows text) (AnswersHalt rows text line.new.items) }
-    ensures threads { IfErr result (λ halt. halt ≢ Halt.Threads) }
-{
-    match Member::of_verdict(written, certificate, fault) {
-        Ok(member) => {
-            member.judged();
-            Ok(member)
-        }
-        Err(refused) => {
-            print_refused(line, refused.written.tables(), refused.fault);
-            Err(Halt::Told(Outcome::Refused))
-        }
-    }
-}
-
-/// Judges the certificate of a concentrator.
+/// Judges a certificate for tables; where it is refused, the line says so.
 fn judge<J: Verdicts>(
     verdicts: &J,
-    written: WrittenTables,
-    certificate: Certificate,
+    written: &WrittenTables,
+    certificate: &Certificate,
     line: &mut Text,
-) -> Result<Member, Halt>
+) -> Result<(), Halt>
     requires { J.may_judge verdicts.now }
     ensures said { IfErr result (IsSaid line.new.items) }
-    ensures judged { (rows text : List ℕ) → AreWrittenBy (tables_of rows) written → certificate_of text ≡ Ok (named_rows certificate)
-        → MatchResult result (IsMemberOf rows text) (AnswersHalt rows text line.new.items) }
+    ensures judged { JudgesClaims written.now (named_rows certificate.now) line.new.items result }
     ensures threads { IfErr result (λ halt. halt ≡ Halt.Threads → J.starts_threads verdicts.now) }
 {
-    match verdicts.verdict(written.tables(), &certificate) {
-        Ok(fault) => judged(written, certificate, fault, line),
+    let tables = written.tables();
+    match verdicts.verdict(tables, certificate) {
+        Ok(None) => Ok(()),
+        Ok(Some(fault)) => {
+            print_refused(line, tables, fault);
+            Err(Halt::Told(Outcome::Refused))
+        }
         Err(Undecided::Memory) => Err(Halt::Memory),
         Err(Undecided::Threads) => Err(Halt::Threads),
     }
 }
 
-/// The concentrator of tables and of the text of a certificate.
-fn read_behind<J: Verdicts, C: Source>(
+/// The certificate of a text, where it is accepted for these tables.
+fn read_accepted<J: Verdicts, C: Source>(
     alloc: Global,
     verdicts: &J,
-    written: WrittenTables,
+    written: &WrittenTables,
     certificate: &mut C,
     line: &mut Text,
-) -> Result<Member, Halt>
+) -> Result<Certificate, Halt>
     requires may { J.may_judge verdicts.now }
     requires certificate { IsCountable (C.state certificate.old) }
     ensures said { IfErr result (IsSaid line.new.items) }
-    ensures judged { (rows text : List ℕ) → AreWrittenBy (tables_of rows) written → (C.state certificate.old).remaining ≡ Some text
-        → MatchResult result (IsMemberOf rows text) (AnswersHalt rows text line.new.items) }
+    ensures accepted { IfOk result (λ c. verdict_of written.now.tables (named_rows c) ≡ None) }
+    ensures judged { (rows text : List ℕ) → AreWrittenBy (tables_of rows) written.now → (C.state certificate.old).remaining ≡ Some text
+        → MatchResult result (λ c. certificate_of text ≡ Ok (named_rows c)) (AnswersHalt rows text line.new.items) }
     ensures threads { IfErr result (λ halt. halt ≡ Halt.Threads → J.starts_threads verdicts.now) }
 {
     match read_certificate(alloc, certificate, line) {
-        Ok(certificate) => judge(verdicts, written, certificate, line),
+        Ok(certificate) => match judge(verdicts, written, &certificate, line) {
+            Ok(()) => Ok(certificate),
+            Err(halt) => Err(halt),
+        },
         Err(halt) => Err(halt),
+    }
+}
+
+/// The concentrator of tables and a certificate that is accepted for them.
+fn accepted(written: WrittenTables, certificate: Certificate) -> Member
+    requires { verdict_of written.tables (named_rows certificate) ≡ None }
+    ensures is { result ≡ record { written = written; claims = named_rows certificate } }
+    ensures accepted { Accepts written.tables (named_rows certificate) }
+{
+    match Member::of_verdict(written, certificate, None) {
+        Ok(member) => {
+            member.judged();
+            member
+        }
+        Err(_) => unreachable!(),
     }
 }
 
@@ -178,7 +176,10 @@ fn read_both<J: Verdicts, T: Source, C: Source>(
     ensures threads { IfErr result (λ halt. halt ≡ Halt.Threads → J.starts_threads verdicts.now) }
 {
     match read_tables(alloc, tables, line) {
-        Ok(written) => read_behind(alloc, verdicts, written, certificate, line),
+        Ok(written) => match read_accepted(alloc, verdicts, &written, certificate, line) {
+            Ok(certificate) => Ok(accepted(written, certificate)),
+            Err(halt) => Err(halt),
+        },
         Err(halt) => Err(halt),
     }
 }
@@ -201,25 +202,7 @@ fn open<F: Shelf>(
     }
 }
 
-/// Both files of a concentrator; the tables are opened first.
-fn open_both<F: Shelf>(
-    alloc: Global,
-    shelf: &mut F,
-    folder: &str,
-    concentrator: &ConcentratorText,
-) -> Result<(F::File, F::File), Failure>
-    ensures same { F.holds shelf.new ≡ F.holds shelf.old }
-    ensures keeps { F.keeps shelf.old shelf.new }
-    ensures tables { IfOk result (λ f. (F.File.state f.0).remaining ≡ F.holds shelf.old (path_of folder.now concentrator.now.tables)) }
-    ensures certificate { IfOk result (λ f. (F.File.state f.1).remaining ≡ F.holds shelf.old (path_of folder.now concentrator.now.certificate)) }
-    ensures countable { IfOk result (λ f. IsCountable (F.File.state f.0) × IsCountable (F.File.state f.1)) }
-{
-    let tables = open(alloc, shelf, folder, concentrator.tables())?;
-    let certificate = open(alloc, shelf, folder, concentrator.certificate())?;
-    Ok((tables, certificate))
-}
-
-/// The concentrator of its files; where it is none, its line.
+/// The concentrator of its files; where it is none, its line. Both are opened before either is read, the tables first.
 fn read_one<J: Verdicts, F: Shelf>(
     alloc: Global,
     verdicts: &J,
@@ -236,10 +219,13 @@ fn read_one<J: Verdicts, F: Shelf>(
         (λ rows text. MatchResult result (IsMemberOf rows text) (AnswersHalt rows text line.new.items)) }
     ensures threads { IfErr result (λ halt. halt ≡ Halt.Threads → J.starts_threads verdicts.now) }
 {
-    match open_both(alloc, shelf, folder, concentrator) {
-        Ok((mut tables, mut certificate)) => {
-            read_both(alloc, verdicts, &mut tables, &mut certificate, line)
-        }
+    match open(alloc, shelf, folder, concentrator.tables()) {
+        Ok(mut tables) => match open(alloc, shelf, folder, concentrator.certificate()) {
+            Ok(mut certificate) => {
+                read_both(alloc, verdicts, &mut tables, &mut certificate, line)
+            }
+            Err(failure) => Err(halt_by(failure, line)),
+        },
         Err(failure) => Err(halt_by(failure, line)),
     }
 }

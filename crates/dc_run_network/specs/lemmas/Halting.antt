@@ -13,6 +13,7 @@ use Rattle.dc_cert.specs.Faults.{fault_text}
 use Rattle.dc_cert.specs.NamedRows.{NamedRows}
 use Rattle.dc_cert.specs.Reading.{certificate_of}
 use Rattle.dc_cert.specs.declared.fault.Fault.{Fault}
+use Rattle.dc_check.specs.Accepts.{Accepts}
 use Rattle.dc_check.specs.Verdict.{verdict_of}
 use Rattle.dc_check.specs.declared.fault.CheckFault.{CheckFault}
 use Rattle.dc_document.specs.FaultText.{table_fault_text}
@@ -24,7 +25,7 @@ use Rattle.dc_system_text.specs.System.{ConcentratorRow}
 use Rattle.dc_toml.specs.Reading.{tables_of}
 use Rattle.dc_ways.specs.Members.{MemberRows, concentrator, no_member}
 use Rattle.dc_run_network.specs.Lines.{at_text}
-use Rattle.dc_run_network.specs.Members.{AnswersHalt, AreMembersTo, Halts, Holds, IsHaltAt, IsMemberAt, IsSaid, OfTexts, ReadsCertificate, ReadsTables, TellsBehind, row_at}
+use Rattle.dc_run_network.specs.Members.{AnswersHalt, AreMembersTo, Halts, Holds, IsHaltAt, IsMemberAt, IsMemberOf, IsSaid, OfTexts, ReadsCertificate, ReadsTables, TellsBehind, row_at}
 use Rattle.dc_run_network.specs.declared.members.Halt.{Halt}
 use Rattle.dc_run_network.specs.declared.members.Halt.TheVariants.{Told, NoFile, Memory, Threads}
 
@@ -69,6 +70,13 @@ certificate-refused (Some text) fault line is read = λ tables w are. subst (λ 
 pub certificate-failed : (known : Option (List ℕ)) (line : List ℕ) (halt : Halt) → ((tables certificate : List ℕ) → AnswersHalt tables certificate line halt) → IfSome known (λ text. ReadsCertificate text line (Err halt))
 certificate-failed None line halt untold = tt
 certificate-failed (Some text) line halt untold = λ tables w are. untold tables text
+
+-- what was made of both is a concentrator of these texts
+pub member-is : (tables certificate : List ℕ) (w : WrittenRows) (claims : NamedRows) (m : MemberRows) → m ≡ record { written = w; claims = claims } → AreWrittenBy (tables_of tables) w → certificate_of certificate ≡ Ok claims → Accepts w.tables claims
+    → IsMemberOf tables certificate m
+member-is tables certificate w claims m is are read accepts =
+    let P : MemberRows → Type 0 = λ z. IsMemberOf tables certificate z in
+    subst P (sym is) (record { tables_read = are; certificate_read = read; accepted = accepts })
 
 -- what is known of a text that is known
 pub at-known : (known : Option (List ℕ)) (P : List ℕ → Type 0) (text : List ℕ) → IfSome known P → known ≡ Some text → P text
