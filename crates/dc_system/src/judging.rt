@@ -94,13 +94,14 @@ fn order_of(
 fn hops_of(alloc: Global, connections: &[Connection]) -> Result<Vec<Hop>, AllocError>
     ensures { IfOk result (λ v. v.items ≡ hops_of connections.now) }
 {
-    connections
-        .iter()
-        .map(|c| Hop {
-            from: c.from,
-            to: c.to,
-        })
-        .collect(alloc)
+    let mut hops = Vec::new(alloc);
+    for link in connections {
+        hops.push(Hop {
+            from: link.from,
+            to: link.to,
+        })?;
+    }
+    Ok(hops)
 }
 
 /// Judges the links, and computes the ways.
