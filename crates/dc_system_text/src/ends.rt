@@ -20,7 +20,12 @@ pub fn end_of(text: &[u8]) -> Option<End>
 fn dot_in(text: &[u8]) -> Option<usize>
     ensures { result ≡ position (λ b. b == 46) text.now }
 {
-    text.iter().position(|byte| *byte == b'.')
+    for (index, byte) in text.iter().enumerate() {
+        if *byte == b'.' {
+            return Some(index);
+        }
+    }
+    None
 }
 
 /// The end of these names, where they are spelled as names.

@@ -33,14 +33,24 @@ pub fn first_broken(concentrators: &[ConcentratorText], links: &[LinkText]) -> O
 fn first_absent(concentrators: &[ConcentratorText], links: &[LinkText]) -> Option<usize>
     ensures { result ≡ position (is_absent (map (λ c. c.name) concentrators.now)) links.now }
 {
-    links.iter().position(|link| is_absent(concentrators, link))
+    for (index, link) in links.iter().enumerate() {
+        if is_absent(concentrators, link) {
+            return Some(index);
+        }
+    }
+    None
 }
 
 /// The first link whose least latency is over its greatest.
 fn first_reversed(links: &[LinkText]) -> Option<usize>
     ensures { result ≡ position is_reversed links.now }
 {
-    links.iter().position(|link| link.most_us < link.least_us)
+    for (index, link) in links.iter().enumerate() {
+        if link.most_us < link.least_us {
+            return Some(index);
+        }
+    }
+    None
 }
 
 /// The fault that this rule is broken there.
