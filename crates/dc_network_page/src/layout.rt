@@ -121,6 +121,19 @@ fn count_ends(boxes: &mut [Slot], link: &Connection) -> Ends {
     ends
 }
 
+/// Counts each link at both of its boxes.
+fn count_all(
+    alloc: Global,
+    boxes: &mut [Slot],
+    connections: &[Connection],
+) -> Result<Vec<Ends>, AllocError> {
+    let mut ends = Vec::new(alloc);
+    for link in connections {
+        ends.push(count_ends(boxes, link))?;
+    }
+    Ok(ends)
+}
+
 /// Puts the boxes of each column one below the other, given where the next one of each column begins, and how far links
 /// are from one another.
 fn stack(boxes: &mut [Slot], feet: &mut [u64], pitch: u64, step: u64) {
@@ -192,13 +205,10 @@ impl Layout {
     pub fn of(alloc: Global, shown: &Shown<'_>) -> Result<Layout, AllocError> {
         let mut boxes = vec![in alloc; EMPTY; shown.concentrators.len()]?;
         put_in_columns(&mut boxes, shown.connections);
-        let mut ends = Vec::new(alloc);
-        for link in shown.connections {
-            ends.push(count_ends(&mut boxes, link))?;
-        }
+        let ends = count_all(alloc, &mut boxes, shown.connections)?;
         let has_texts = shown.connections.len() <= MOST_TEXTS;
         let (bend, run, pitch) = if has_texts { (50, 120, 30) } else { (65, 0, 5) };
-        let mut feet = vec![in alloc; MARGIN; MOST_COLUMNS]?;
+        let mut feet = [MARGIN; MOST_COLUMNS];
         stack(&mut boxes, &mut feet, pitch, BOX_WIDTH + 2 * bend + run);
         let height = greatest(&feet);
         center(&mut boxes, &feet, height);

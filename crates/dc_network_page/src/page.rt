@@ -15,7 +15,7 @@ use dc_page_text::Html;
 use std::alloc::{AllocError, Global};
 
 /// Adds the verdict, the promise, the drawing and the bars, given the longest ways.
-fn push_whole(
+fn push_longest(
     alloc: Global,
     html: &mut Html,
     shown: &Shown<'_>,
@@ -29,21 +29,60 @@ fn push_whole(
     push_bars(alloc, html, shown, parts, longest)
 }
 
+/// Adds all before the table of links.
+fn push_whole(alloc: Global, html: &mut Html, shown: &Shown<'_>, layout: &Layout, parts: &Parts) {
+    html.add(HEAD);
+    match longest(alloc, parts.all(), MOST_BARS) {
+        Ok(longest) => push_longest(alloc, html, shown, layout, parts, longest.as_slice()),
+        Err(error) => html.lose(error),
+    }
+}
+
+/// The page, given what brings the words of streams, what ways are made of, and where boxes and links stand.
+fn page_of(
+    alloc: Global,
+    shown: &Shown<'_>,
+    feeds: &Feeds,
+    parts: &Parts,
+    layout: &Layout,
+) -> Result<String, AllocError> {
+    let mut html = Html::new(alloc);
+    push_whole(alloc, &mut html, shown, layout, parts);
+    push_links(&mut html, shown, feeds);
+    push_sections(alloc, &mut html, shown, layout, parts);
+    html.add(FOOT);
+    html.end()
+}
+
+/// The page, given what brings the words of streams, and what ways are made of.
+fn page_with(
+    alloc: Global,
+    shown: &Shown<'_>,
+    feeds: &Feeds,
+    parts: &Parts,
+) -> Result<String, AllocError> {
+    match Layout::of(alloc, shown) {
+        Ok(layout) => page_of(alloc, shown, feeds, parts, &layout),
+        Err(error) => Err(error),
+    }
+}
+
+/// The page, given what brings the words of streams.
+fn page_behind(alloc: Global, shown: &Shown<'_>, feeds: &Feeds) -> Result<String, AllocError> {
+    match Parts::of(alloc, shown, feeds) {
+        Ok(parts) => page_with(alloc, shown, feeds, &parts),
+        Err(error) => Err(error),
+    }
+}
+
 /// The page on a network that is accepted, as HTML, with no line feed behind its end. No clause says what stands in it:
 /// it is tested.
 ///
 /// # Errors
 /// `AllocError` where an allocation failed.
 pub fn network_page(alloc: Global, shown: &Shown<'_>) -> Result<String, AllocError> {
-    let feeds = Feeds::of(alloc, shown)?;
-    let parts = Parts::of(alloc, shown, &feeds)?;
-    let layout = Layout::of(alloc, shown)?;
-    let longest = longest(alloc, parts.all(), MOST_BARS)?;
-    let mut html = Html::new(alloc);
-    html.add(HEAD);
-    push_whole(alloc, &mut html, shown, &layout, &parts, longest.as_slice());
-    push_links(&mut html, shown, &feeds);
-    push_sections(alloc, &mut html, shown, &layout, &parts);
-    html.add(FOOT);
-    html.end()
+    match Feeds::of(alloc, shown) {
+        Ok(feeds) => page_behind(alloc, shown, &feeds),
+        Err(error) => Err(error),
+    }
 }
