@@ -1,7 +1,7 @@
 -- What policed buses let in.
 use Rattle.std.proofs.Common.{◌≡◌, ℕ, ◌+◌, ◌<◌, ◌≤◌, ◌&&◌, Bool, true, false, Some, None, List, [], ◌∷◌, ◌++◌, length, get_or, set, refl, sym, ap, ◌∙◌, subst, arith, inl, inr}
 use Rattle.std.proofs.lemmas.List.{get_or-set_same, get_or-set_other}
-use Rattle.std.proofs.lemmas.Bool.{cases_eq}
+use Rattle.std.proofs.lemmas.Bool.{cases_eq, cases_Bool}
 use Rattle.dc_bound.specs.Window.{ticks_of}
 use Rattle.dc_bound.specs.Run.{ticks}
 use Rattle.dc_word.specs.Word.{is_odd}
@@ -77,6 +77,16 @@ module _ (t : TableRows) (old new : Police) (run : List Event) (b w : ℕ) (same
     ]) h;
     answer = rw (odd, some, free) refl;
   }
+
+  -- whatever the word is
+  pub judges-unpoliced : is_policed t b ≡ false → new.paces.items ≡ old.paces.items → Judges t new run (Arrive w b) false
+  judges-unpoliced free same = elim (cases_Bool (is_odd w)) [
+    | inl odd ↦ elim (stream_of t b w) as (λ o. stream_of t b w ≡ o → Judges t new run (Arrive w b) false) [
+      | None ↦ λ none. judges-undeclared odd none same
+      | Some k ↦ λ some. judges-free odd k some free same
+    ] refl
+    | inr even ↦ judges-even even same
+  ]
 
   module _ (v : AreValid t) (k : ℕ) (odd : is_odd w ≡ true) (some : stream_of t b w ≡ Some k) (policed : is_policed t b ≡ true) where
     own : (k < length t.streams) × ((stream_row t k).bus ≡ b)

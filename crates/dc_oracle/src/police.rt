@@ -40,18 +40,18 @@ impl Police {
             → Judges tables.now self.new run (Event.Arrive word bus) result }
     {
         tables.valid();
-        if !word.is_odd() {
-            return false;
-        }
-        let Some(stream) = tables.stream_of(bus, word) else {
-            return false;
-        };
         if bus >= tables.bus_count() {
             return false;
         }
         if !tables.bus(bus).police {
             return false;
         }
+        if !word.is_odd() {
+            return false;
+        }
+        let Some(stream) = tables.stream_of(bus, word) else {
+            return false;
+        };
         let row = tables.stream(stream);
         self.paces[stream].refuses(self.tick, row.minimum, row.jitter)
     }

@@ -75,12 +75,12 @@ impl SourceWatch {
         if bus >= self.wires.len() || !word.is_odd() {
             return true;
         }
-        let Some(stream) = tables.stream_of(bus, word) else {
-            return true;
-        };
         if tables.bus(bus).police {
             return true;
         }
+        let Some(stream) = tables.stream_of(bus, word) else {
+            return true;
+        };
         let row = tables.stream(stream);
         if self.streams[stream].refuses(self.tick, row.minimum, row.jitter) {
             return false;

@@ -7,7 +7,7 @@ use Rattle.dc_tables.specs.TableRows.{stream_row, is_policed}
 use Rattle.dc_tables.specs.declared.rows.Bus.{Bus}
 use Rattle.dc_tables.specs.declared.rows.Stream.{Stream}
 use Rattle.dc_oracle.specs.Pace.{is_early_at, moved, no_pace}
-use Rattle.dc_oracle.proofs.Policing.{judges-even, judges-undeclared, judges-free, judges-refused, judges-let_in}
+use Rattle.dc_oracle.proofs.Policing.{judges-even, judges-undeclared, judges-unpoliced, judges-refused, judges-let_in}
 use Rattle.dc_oracle.proofs.police.Police.arrive.Goals as goal
 
 pub returns-then-not-is_odd-clause-judges : goal.returns-then-not-is_odd-clause-judges
@@ -18,8 +18,7 @@ returns-in_default-clause-judges c = λ run h l. judges-undeclared c.args.tables
 
 pub returns-then-not-bus-clause-judges : goal.returns-then-not-bus-clause-judges
 returns-then-not-bus-clause-judges c = λ run h l.
-    judges-free c.args.tables.now c.args.self.now c.args.self.now run c.args.bus c.args.word refl h (sym c.is_odd.ensures.test ∙ c.if-not-is_odd.false) c.in-Some.stream (sym c.in-Some.ensures.stream)
-    (ap (λ (r : Bus). r.police) (sym c.bus.ensures) ∙ c.if-not-bus.true) refl
+    judges-unpoliced c.args.tables.now c.args.self.now c.args.self.now run c.args.bus c.args.word refl h (ap (λ (r : Bus). r.police) (sym c.bus.ensures) ∙ c.if-not-bus.true) refl
 
 pub returns-clause-judges : goal.returns-clause-judges
 returns-clause-judges c = λ run h l.
