@@ -16,7 +16,7 @@ use Rattle.dc_event.specs.Latest.{is_of_stream, latest, latest_arrived}
 use Rattle.dc_event.specs.declared.event.Event.{Event}
 use Rattle.dc_oracle.specs.declared.arrivals.ArrivalWatch.{ArrivalWatch}
 use Rattle.dc_oracle.specs.Arrivals.{Follows}
-use Rattle.dc_oracle.specs.Claims.{IsAnyGood}
+use Rattle.dc_oracle.specs.Claims.{IsAnyGood, IsWhether}
 use Rattle.dc_oracle.specs.Life.{alive_at, good_at, no_life}
 use Rattle.dc_oracle.proofs.Living.{beats-alive, beats-dead, fine-usable, fine-useless}
 use Rattle.dc_oracle.proofs.Taking.{last_below-passes}
@@ -77,10 +77,6 @@ copied-there t x now a v there is =
 
 -- ---- ages
 
--- two numbers whose test says that they differ
-pub differs : (a b m n : ℕ) (answer : Bool) → a ≡ m → b ≡ n → answer ≡ (a == b) → answer ≡ false → m ≡ n → ⊥
-differs a b m n answer am bn is no' same = let both : true ≡ false = sym (eq-eqb a b (am ∙ same ∙ sym bn)) ∙ sym is ∙ no' in cc
-
 pub young-fallback : (t : TableRows) (x age : ℕ) (now : List Event) (o : Option (ℕ × ℕ)) → o ≡ chosen_source t x now → word_for t x o ≡ word_for t x None → IsYoung t x age now
 young-fallback t x age now o is same = inl (ap (word_for t x) (sym is) ∙ same)
 
@@ -100,14 +96,33 @@ module _ (t : TableRows) (v : AreValid t) (w : ArrivalWatch) (x age : ℕ) (now 
       let at : latest_arrived t a.0 now ≡ Some k = subst P (sym same) c.arrived in
       omega (arith, c.aged, old k (sym some ∙ came-of ∙ at))
 
-  pub young-reported : (k tick limit : ℕ) → get_or w.latest.items a.0 None ≡ Some k → limit ≡ min (k + age) (2 ^ 64 - 1) → tick < 2 ^ 64 → tick ≡ tick_after now → (word_for t x (Some a) ≡ word_for t x None → ⊥)
-      → MatchBool (leb tick limit) (IsYoung t x age now) (IsYoung t x age now → ⊥)
-  young-reported k tick limit some is_limit short clock other =
+  -- the latest word of its source did not come in time: it is young where it is the fallback
+  pub young-else : (answer : Bool) (m n : ℕ) → answer ≡ (m == n) → m ≡ word_for t x (Some a) → n ≡ word_for t x None
+      → ((came : ℕ) × (get_or w.latest.items a.0 None ≡ Some came) × (tick_after now ≤ came + age) → ⊥) → MatchBool answer (IsYoung t x age now) (IsYoung t x age now → ⊥)
+  young-else answer m n test sent back none =
       let P : Bool → Type 0 = λ b. MatchBool b (IsYoung t x age now) (IsYoung t x age now → ⊥) in
-      elim (cases_lt limit tick) [
-        | inl late ↦ subst P (sym (lt-leb tick limit late)) (young-no (Some k) some (λ j e. (let same : k ≡ j = cc in omega (arith, same, late, is_limit, short, clock))) other)
-        | inr soon ↦ subst P (sym (le-leb tick limit soon)) (young-yes k some (omega (arith, soon, is_limit, clock)))
+      elim (cases_eq m n) [
+        | inl same ↦ subst P (sym (test ∙ eq-eqb m n same)) (young-fallback t x age now (Some a) is (sym sent ∙ same ∙ back))
+        | inr other ↦ subst P (sym (test ∙ ne_eqb m n other))
+            (young-no (get_or w.latest.items a.0 None) refl (λ k some. elim (cases_lt (k + age) (tick_after now)) [
+              | inl old ↦ old
+              | inr soon ↦ absurd (none (k, some, soon))
+            ]) (λ same. other (sent ∙ same ∙ sym back)))
       ]
+
+-- ---- when the latest word of a stream came
+
+pub within-no : (o : Option ℕ) (tick age : ℕ) → o ≡ None → (came : ℕ) × (o ≡ Some came) × (tick ≤ came + age) → ⊥
+within-no o tick age none z = let both : None ≡ Some z.0 = sym none ∙ z.1 in cc
+
+pub within-reported : (o : Option ℕ) (k tick now age limit : ℕ) → o ≡ Some k → limit ≡ min (k + age) (2 ^ 64 - 1) → tick < 2 ^ 64 → tick ≡ now
+    → IsWhether ((came : ℕ) × (o ≡ Some came) × (now ≤ came + age)) (leb tick limit)
+within-reported o k tick now age limit some is short clock =
+    let P : Bool → Type 0 = λ b. IsWhether ((came : ℕ) × (o ≡ Some came) × (now ≤ came + age)) b in
+    elim (cases_lt limit tick) [
+      | inl late ↦ subst P (sym (lt-leb tick limit late)) (λ z. (let e : Some k ≡ Some z.0 = sym some ∙ z.1 in let same : k ≡ z.0 = cc in omega (arith, same, z.2, late, is, short, clock)))
+      | inr soon ↦ subst P (sym (le-leb tick limit soon)) (k, some, omega (arith, soon, is, clock))
+    ]
 
 -- ---- live sources
 

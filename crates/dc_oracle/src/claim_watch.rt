@@ -10,7 +10,7 @@ use crate::arrivals::ArrivalWatch;
 use crate::emissions::EmissionWatch;
 use crate::police::Police;
 use crate::replies::{ReplyWatch, answer};
-use crate::sent_word::{is_sent_live, is_sent_young};
+use crate::sent_word::{choice_sent, is_sent_live, is_sent_young};
 use dc_cert::Certificate;
 use dc_event::{Claim, Event, Reply};
 use dc_tables::Tables;
@@ -97,8 +97,10 @@ impl ClaimWatch {
         let reply = answer(&mut self.replies, &mut self.police, tables, event);
         self.arrivals
             .follow(tables, &self.replies, event, &reply, tick);
-        let young = is_sent_young(&self.replies, &self.arrivals, tables, certificate, emitted);
-        let live = is_sent_live(&self.replies, &self.arrivals, tables, emitted);
+        let (replies, arrivals) = (&self.replies, &self.arrivals);
+        let chosen = choice_sent(replies, tables, emitted);
+        let young = is_sent_young(replies, arrivals, tables, certificate, emitted, &chosen);
+        let live = is_sent_live(replies, arrivals, tables, emitted, &chosen);
         let fits = fits(&reply);
         first_of(fits, young, live, in_time, spaced)
     }

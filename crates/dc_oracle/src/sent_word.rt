@@ -1,14 +1,15 @@
 //! What the claims say of a word that leaves: how old it is, and which sources it uses.
 
-ghost use Rattle.std.specs.Prelude.{◌≡◌, ◌<◌, List, length, IfSome, slice_index};
+ghost use Rattle.std.specs.Prelude.{◌≡◌, ℕ, ◌+◌, ◌<◌, ◌≤◌, Some, None, List, length, IfSome, slice_index, slice_index_or};
 ghost use Rattle.dc_cert.specs.Bounds.{certificate_rows};
 ghost use Rattle.dc_tables.specs.TableRows.{label_row};
+ghost use Rattle.dc_event.specs.Choice.{choice};
 ghost use Rattle.dc_event.specs.Claims.{IsYoung, UsesFirst, UsesAny};
 ghost use Rattle.dc_event.specs.Time.{tick_after};
 ghost use Rattle.dc_event.specs.declared.event.Event.{Event};
 ghost use Rattle.dc_oracle.specs.Arrivals.{IsSized as AreArrivals, Follows};
-ghost use Rattle.dc_oracle.specs.Replies.{IsSized as AreReplies};
-ghost use Rattle.dc_oracle.specs.Claims.{AnswersChoice, AnswersWhether, IsAnyGood, IsGood};
+ghost use Rattle.dc_oracle.specs.Replies.{IsSized as AreReplies, fresh_sources};
+ghost use Rattle.dc_oracle.specs.Claims.{AnswersChoice, AnswersWhether, IsAnyGood, IsGood, IsWhether};
 
 use crate::arrivals::ArrivalWatch;
 use crate::replies::{ReplyWatch, word_for};
@@ -26,32 +27,57 @@ fn age_of(certificate: &Certificate, label: usize) -> u32
     certificate.labels[label].age
 }
 
-/// Whether the label's word is its fallback, or copies one that came at most `age` ticks ago.
-fn is_young(
+/// What the label that is emitted copies, if one is emitted and it copies a word.
+pub fn choice_sent(
     replies: &ReplyWatch,
-    arrivals: &ArrivalWatch,
     tables: &Tables,
-    label: usize,
-    age: u32,
-) -> bool
+    emitted: Option<usize>,
+) -> Option<(usize, Word)>
     requires replies { AreReplies tables.now replies.now }
-    requires arrivals { AreArrivals tables.now arrivals.now }
-    requires label { label < length tables.now.labels }
-    ensures { AnswersWhether tables.now replies.now arrivals.now (IsYoung tables.now label age) result }
+    requires there { IfSome emitted (λ x. x < length tables.now.labels) }
+    ensures { IfSome emitted (λ x. result ≡ choice tables.now x (fresh_sources tables.now replies.now x)) }
 {
-    tables.valid();
-    let Some((stream, word)) = replies.choice(tables, label) else {
-        return true;
-    };
-    let sent = word_for(tables, label, Some((stream, word)));
-    let fallback = word_for(tables, label, None);
-    if sent == fallback {
-        return true;
+    match emitted {
+        Some(label) => replies.choice(tables, label),
+        None => None,
     }
+}
+
+/// Whether the latest word of the stream came at most `age` ticks ago.
+fn came_within(replies: &ReplyWatch, arrivals: &ArrivalWatch, stream: usize, age: u32) -> bool
+    ensures { IsWhether ((came : ℕ) × (slice_index_or arrivals.now.latest.items stream None ≡ Some came) × (replies.now.tick ≤ came + age)) result }
+{
     let Some(came) = arrivals.latest_came(stream) else {
         return false;
     };
     replies.tick() <= came.saturating_add(age as u64)
+}
+
+/// Whether the label's word is its fallback, or copies one that is no older than the certificate lets it.
+fn is_young(
+    replies: &ReplyWatch,
+    arrivals: &ArrivalWatch,
+    tables: &Tables,
+    certificate: &Certificate,
+    label: usize,
+    chosen: &Option<(usize, Word)>,
+) -> bool
+    requires replies { AreReplies tables.now replies.now }
+    requires arrivals { AreArrivals tables.now arrivals.now }
+    requires label { label < length tables.now.labels }
+    requires chosen { chosen.now ≡ choice tables.now label (fresh_sources tables.now replies.now label) }
+    ensures { AnswersWhether tables.now replies.now arrivals.now (IsYoung tables.now label (slice_index (certificate_rows certificate.now).ages label)) result }
+{
+    tables.valid();
+    let Some((stream, word)) = *chosen else {
+        return true;
+    };
+    if came_within(replies, arrivals, stream, age_of(certificate, label)) {
+        return true;
+    }
+    let sent = word_for(tables, label, Some((stream, word)));
+    let fallback = word_for(tables, label, None);
+    sent == fallback
 }
 
 /// Whether the source is alive for the label, and its words are usable.
@@ -135,15 +161,17 @@ pub fn is_sent_young(
     tables: &Tables,
     certificate: &Certificate,
     emitted: Option<usize>,
+    chosen: &Option<(usize, Word)>,
 ) -> bool
     requires replies { AreReplies tables.now replies.now }
     requires arrivals { AreArrivals tables.now arrivals.now }
     requires there { IfSome emitted (λ x. x < length tables.now.labels) }
+    requires chosen { IfSome emitted (λ x. chosen.now ≡ choice tables.now x (fresh_sources tables.now replies.now x)) }
     ensures { AnswersWhether tables.now replies.now arrivals.now
         (λ now. IfSome emitted (λ x. IsYoung tables.now x (slice_index (certificate_rows certificate.now).ages x) now)) result }
 {
     match emitted {
-        Some(label) => is_young(replies, arrivals, tables, label, age_of(certificate, label)),
+        Some(label) => is_young(replies, arrivals, tables, certificate, label, chosen),
         None => true,
     }
 }
@@ -154,10 +182,12 @@ pub fn is_sent_live(
     arrivals: &ArrivalWatch,
     tables: &Tables,
     emitted: Option<usize>,
+    chosen: &Option<(usize, Word)>,
 ) -> bool
     requires replies { AreReplies tables.now replies.now }
     requires arrivals { AreArrivals tables.now arrivals.now }
     requires there { IfSome emitted (λ x. x < length tables.now.labels) }
+    requires chosen { IfSome emitted (λ x. chosen.now ≡ choice tables.now x (fresh_sources tables.now replies.now x)) }
     ensures { AnswersWhether tables.now replies.now arrivals.now
         (λ now. IfSome emitted (λ x. UsesFirst tables.now x now × UsesAny tables.now x now)) result }
 {
@@ -165,10 +195,9 @@ pub fn is_sent_live(
     let Some(label) = emitted else {
         return true;
     };
-    let choice = replies.choice(tables, label);
     let tick = replies.tick();
-    if !uses_first(arrivals, tables, label, &choice, tick) {
+    if !uses_first(arrivals, tables, label, chosen, tick) {
         return false;
     }
-    uses_any(arrivals, tables, label, &choice, tick)
+    uses_any(arrivals, tables, label, chosen, tick)
 }
