@@ -1,20 +1,27 @@
 -- The least claim that fails, and the first place at which any does.
-use Rattle.std.proofs.Common.{◌≡◌, ℕ, suc, ◌+◌, ◌<◌, ◌&&◌, Bool, true, false, Option, Some, None, List, [], ◌∷◌, ◌++◌, length, take, drop, get_or, refl, sym, ap, ◌∙◌, subst, arith, inl, inr, length-append, take-append-drop, add-one}
-use Rattle.std.specs.Prelude.{MatchBool, ◌≢◌}
+use Rattle.std.proofs.Common.{◌≡◌, ℕ, suc, ◌+◌, ◌<◌, ◌&&◌, Bool, true, false, cond, ltb, Option, Some, None, List, [], ◌∷◌, ◌++◌, length, take, drop, get_or, refl, sym, ap, ◌∙◌, subst, arith, inl, inr, length-append, take-append-drop, add-one}
+use Rattle.std.specs.Prelude.{IfSome, MatchBool, ◌≢◌, slice_index}
 use Rattle.std.proofs.lemmas.List.{append-nil, length-take, take_all}
 use Rattle.std.proofs.Math.Seq.{take-suc}
 use Rattle.dc_bound.specs.lemmas.QueueTimes.{split_sides}
 use Rattle.dc_tables.specs.TableRows.{TableRows}
 use Rattle.dc_event.specs.Breaks.{ClaimAt, FailsFirst, BreaksClaimsAt}
-use Rattle.dc_event.specs.Claims.{NoOverrun, SendsYoung, UsesLive, IsInTime, IsSpaced, Claims, ClaimsHold}
+use Rattle.dc_event.specs.Buses.{visited_bus, bus_taken, bus_item}
+use Rattle.dc_event.specs.Claims.{IsYoung, UsesFirst, UsesAny, NoOverrun, SendsYoung, UsesLive, IsInTime, IsSpaced, Claims, ClaimsHold}
 use Rattle.dc_event.specs.ClaimNumber.{claim_number}
+use Rattle.dc_event.specs.Emissions.{emission}
 use Rattle.dc_event.specs.Replies.{reply}
 use Rattle.dc_event.specs.declared.event.Event.{Event}
+use Rattle.dc_event.specs.declared.event.Event.TheVariants.{Tick, Route}
 use Rattle.dc_event.specs.declared.event.Claim.{Claim}
 use Rattle.dc_event.specs.declared.event.Claim.TheVariants as C
 use Rattle.dc_event.specs.declared.event.Reply.{Reply}
 use Rattle.dc_event.specs.declared.event.Reply.TheVariants.{Queued, BadParity, Undeclared, TooEarly, Overrun, Latched, Took, Empty, Sent, Idle, Now}
-use Rattle.dc_oracle.specs.Claims.{fits, first_of, Judged}
+use Rattle.dc_oracle.specs.declared.claim_watch.ClaimWatch.{ClaimWatch}
+use Rattle.dc_oracle.specs.declared.emissions.EmissionWatch.{EmissionWatch}
+use Rattle.dc_oracle.specs.Claims.{fits, first_of, Judged, StandsFor}
+use Rattle.dc_oracle.specs.Emissions.{Emits}
+use Rattle.dc_oracle.proofs.Emitting.{spaced-none}
 
 -- ---- an overrun
 
@@ -72,6 +79,32 @@ module _ (t : TableRows) (ages : List ℕ) (run : List Event) (e : Event) where
   judged true true true false s hf hy hl hi hs = (λ z. hi z.0, below_4 hf hy hl)
   judged true true true true false hf hy hl hi hs = (λ z. hs z.1, below_4 hf hy hl)
   judged true true true true true hf hy hl hi hs = record { no_overrun = hf; young = hy; live = hl; in_time = hi; spaced = hs }
+
+-- ---- an event that emits nothing
+
+module _ (t : TableRows) (ages : List ℕ) (run : List Event) (e : Event) where
+  pub judged-unsent : (f i : Bool) → None ≡ emission t run e → MatchBool f (NoOverrun t run e) (NoOverrun t run e → ⊥) → MatchBool i (IsInTime t run e) (IsInTime t run e → ⊥)
+      → Judged t ages run e (first_of f true true i true)
+  judged-unsent f i none hf hi =
+      let P : Option ℕ → Type 0 = λ o. IfSome o (λ x. IsYoung t x (slice_index ages x) (run ++ e ∷ [])) in
+      let Q : Option ℕ → Type 0 = λ o. IfSome o (λ x. UsesFirst t x (run ++ e ∷ []) × UsesAny t x (run ++ e ∷ [])) in
+      judged t ages run e f true true i true hf (subst P none tt) (subst Q none tt) hi (spaced-none t run e none)
+
+pub routes-fit : (t : TableRows) (run : List Event) (r : ℕ) → NoOverrun t run (Route r)
+unfolding reply
+routes-fit t run r = elim (ltb (bus_taken t (visited_bus t r run) run) (bus_taken t (visited_bus t r run) (run ++ Route r ∷ []))) as (λ v. cond v (Took (bus_item t (visited_bus t r run) run (bus_taken t (visited_bus t r run) run)).1 (visited_bus t r run)) (Empty (visited_bus t r run)) ≡ Overrun → ⊥) [
+  | true ↦ λ e. absurd cc
+  | false ↦ λ e. absurd cc
+]
+
+pub ticks-fit : (t : TableRows) (run : List Event) → NoOverrun t run Tick
+unfolding reply
+ticks-fit t run = λ e. absurd cc
+
+-- ---- the watch of the emissions alone is renewed
+
+pub stands-emissions : (t : TableRows) (w : ClaimWatch) (run : List Event) (new : EmissionWatch) → Emits t new run → StandsFor t w run → StandsFor t (record { replies = w.replies; police = w.police; arrivals = w.arrivals; emissions = new }) run
+stands-emissions t w run new emits h = record { replies = h.replies; police = h.police; arrivals = h.arrivals; emissions = emits }
 
 -- ---- the place
 

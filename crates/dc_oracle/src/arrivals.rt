@@ -113,7 +113,14 @@ impl ArrivalWatch {
     }
 
     /// A word arrives.
-    fn arrive(&mut self, tables: &Tables, bus: usize, word: Word, reply: &Reply, tick: u64)
+    pub(crate) fn arrive(
+        &mut self,
+        tables: &Tables,
+        bus: usize,
+        word: Word,
+        reply: &Reply,
+        tick: u64,
+    )
         requires sized { IsSized tables.now self.old }
         requires early { tick < 2 ^ 64 - 1 }
         ensures sized { IsSized tables.now self.new }
@@ -131,7 +138,13 @@ impl ArrivalWatch {
     }
 
     /// A router makes a step.
-    fn route(&mut self, tables: &Tables, replies: &ReplyWatch, router: usize, reply: &Reply)
+    pub(crate) fn route(
+        &mut self,
+        tables: &Tables,
+        replies: &ReplyWatch,
+        router: usize,
+        reply: &Reply,
+    )
         requires sized { IsSized tables.now self.old }
         requires replies { AreReplies tables.now replies.now }
         ensures sized { IsSized tables.now self.new }

@@ -32,7 +32,7 @@ impl Police {
     }
 
     /// A word arrives. Whether its bus refuses it.
-    fn arrive(&mut self, tables: &Tables, bus: usize, word: Word) -> bool
+    pub(crate) fn arrive(&mut self, tables: &Tables, bus: usize, word: Word) -> bool
         requires sized { length self.old.paces.items ≡ length tables.now.streams }
         ensures sized { length self.new.paces.items ≡ length tables.now.streams }
         ensures tick { self.new.tick ≡ self.old.tick }
@@ -56,6 +56,15 @@ impl Police {
         self.paces[stream].refuses(self.tick, row.minimum, row.jitter)
     }
 
+    /// The tick ends.
+    pub(crate) fn turn(&mut self)
+        requires early { self.old.tick < 2 ^ 64 - 1 }
+        ensures tick { self.new.tick ≡ self.old.tick + 1 }
+        ensures paces { self.new.paces ≡ self.old.paces }
+    {
+        self.tick += 1;
+    }
+
     /// Whether the event brings a word that its bus refuses.
     pub fn refuses(&mut self, tables: &Tables, event: &Event) -> bool
         requires sized { length self.old.paces.items ≡ length tables.now.streams }
@@ -69,7 +78,7 @@ impl Police {
             Event::Arrive(word, bus) => self.arrive(tables, bus, word),
             Event::Route(_) | Event::Send(_) => false,
             Event::Tick => {
-                self.tick += 1;
+                self.turn();
                 false
             }
         }

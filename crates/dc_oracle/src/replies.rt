@@ -101,7 +101,7 @@ impl ReplyWatch {
     }
 
     /// A word arrives.
-    fn arrive(&mut self, tables: &Tables, bus: usize, word: Word) -> Reply
+    pub(crate) fn arrive(&mut self, tables: &Tables, bus: usize, word: Word) -> Reply
         requires sized { IsSized tables.now self.old }
         ensures sized { IsSized tables.now self.new }
         ensures tick { self.new.tick ≡ self.old.tick }
@@ -121,7 +121,7 @@ impl ReplyWatch {
     }
 
     /// A router makes a step. A step of a router that is not there is reported as idle.
-    fn route(&mut self, tables: &Tables, router: usize) -> Reply
+    pub(crate) fn route(&mut self, tables: &Tables, router: usize) -> Reply
         requires sized { IsSized tables.now self.old }
         ensures sized { IsSized tables.now self.new }
         ensures tick { self.new.tick ≡ self.old.tick }
@@ -239,7 +239,7 @@ impl ReplyWatch {
     }
 
     /// The number of the label that a send of the output emits, if it emits one.
-    fn sends(&self, tables: &Tables, output: usize) -> Option<usize>
+    pub(crate) fn sends(&self, tables: &Tables, output: usize) -> Option<usize>
         requires sized { IsSized tables.now self.now }
         requires early { self.now.tick < 2 ^ 64 - 1 }
         ensures there { IfSome result (λ x. x < length tables.now.labels) }
@@ -259,7 +259,7 @@ impl ReplyWatch {
     }
 
     /// An output makes a send step. A step of an output that is not there is reported as idle.
-    fn send(&mut self, tables: &Tables, output: usize) -> Reply
+    pub(crate) fn send(&mut self, tables: &Tables, output: usize) -> Reply
         requires sized { IsSized tables.now self.old }
         requires early { self.old.tick < 2 ^ 64 - 1 }
         ensures sized { IsSized tables.now self.new }
@@ -281,7 +281,7 @@ impl ReplyWatch {
     }
 
     /// The tick ends.
-    fn turn(&mut self, tables: &Tables) -> Reply
+    pub(crate) fn turn(&mut self, tables: &Tables) -> Reply
         requires sized { IsSized tables.now self.old }
         requires early { self.old.tick < 2 ^ 64 - 1 }
         ensures sized { IsSized tables.now self.new }

@@ -1,38 +1,46 @@
-use Rattle.std.proofs.Common.{◌≡◌, ◌∙◌, ℕ, Option, [], ◌∷◌, ◌++◌, sym, subst}
-use Rattle.std.specs.Prelude.{IfSome, MatchBool, slice_index}
+use Rattle.std.proofs.Common.{◌∙◌, sym, subst}
 use Rattle.dc_cert.specs.Bounds.{certificate_rows}
-use Rattle.dc_event.specs.Claims.{IsYoung, UsesFirst, UsesAny, SendsYoung, UsesLive}
-use Rattle.dc_event.specs.declared.event.Claim.{Claim}
-use Rattle.dc_event.specs.Time.{tick_after}
-use Rattle.dc_oracle.specs.Claims.{Judged}
-use Rattle.dc_oracle.proofs.Claiming.{no_overrun-reported, judged}
+use Rattle.dc_event.specs.Admissible.{IsNumbered}
+use Rattle.dc_event.specs.declared.event.Event.{Event}
+use Rattle.dc_event.specs.declared.event.Event.TheVariants.{Tick, Arrive, Route, Send}
+use Rattle.dc_oracle.specs.Claims.{Seen}
+use Rattle.dc_oracle.proofs.Claiming.{stands-emissions}
 use Rattle.dc_oracle.proofs.claim_watch.ClaimWatch.see.Goals as goal
 
-pub returns-clause-seen : goal.returns-clause-seen
-returns-clause-seen c = λ run h l.
+pub returns-in-Arrive-clause-seen : goal.returns-in-Arrive-clause-seen
+returns-in-Arrive-clause-seen c = λ run h l.
     let t = c.args.tables.now in
-    let e = c.args.event.now in
     let ages = (certificate_rows c.args.certificate.now).ages in
-    let clock : c.tick-tick.result ≡ tick_after run = c.tick-tick.ensures ∙ h.replies.clock in
-    let emits = c.is_in_time-in_time.ensures.emits run h.emissions in
-    let emitted = c.emits-emitted.ensures.emission run h.replies l in
-    let reported = c.answer-reply.ensures.reply run h.replies h.police l in
-    let follows = c.follow.ensures.follows run h.arrivals clock reported.holds l reported.answer in
-    let P : Option ℕ → Type 0 = λ o. MatchBool c.is_sent_young-young.result (IfSome o (λ x. IsYoung t x (slice_index ages x) (run ++ e ∷ []))) (IfSome o (λ x. IsYoung t x (slice_index ages x) (run ++ e ∷ [])) → ⊥) in
-    let Q : Option ℕ → Type 0 = λ o. MatchBool c.is_sent_live-live.result (IfSome o (λ x. UsesFirst t x (run ++ e ∷ []) × UsesAny t x (run ++ e ∷ []))) (IfSome o (λ x. UsesFirst t x (run ++ e ∷ []) × UsesAny t x (run ++ e ∷ [])) → ⊥) in
-    let R : Option Claim → Type 0 = λ o. Judged t ages run e o in
-    record {
-      stands = record {
-        replies = reported.holds;
-        police = c.answer-reply.ensures.judges run h.police l;
-        arrivals = follows;
-        emissions = c.emit.ensures.emits run e emits clock emitted;
-      };
-      judged = subst R (sym c.first_of.ensures)
-          (judged t ages run e c.fits-fits.result c.is_sent_young-young.result c.is_sent_live-live.result c.is_in_time-in_time.result c.is_spaced-spaced.result
-          (no_overrun-reported t run e c.answer-reply.result c.fits-fits.result c.fits-fits.ensures reported.answer)
-          (subst P emitted (c.is_sent_young-young.ensures (run ++ e ∷ []) reported.holds follows))
-          (subst Q emitted (c.is_sent_live-live.ensures (run ++ e ∷ []) reported.holds follows))
-          (c.is_in_time-in_time.ensures.in_time run e h.emissions clock)
-          (c.is_spaced-spaced.ensures run e emits clock emitted));
-    }
+    let e : Event = Arrive c.in-Arrive.word c.in-Arrive.bus in
+    let N : Event → Type 0 = λ e. IsNumbered t e in
+    let P : Event → Type 0 = λ e. Seen t ages c.arrive.new.self run e c.arrive.result in
+    subst P (sym c.in-Arrive.is) (c.arrive.ensures.seen ages run (stands-emissions t c.args.self.now run c.is_in_time-in_time.new.self (c.is_in_time-in_time.ensures.emits run h.emissions) h) (subst N c.in-Arrive.is l)
+    (c.is_in_time-in_time.ensures.in_time run e h.emissions (c.tick.ensures ∙ h.replies.clock)))
+
+pub returns-in-Route-clause-seen : goal.returns-in-Route-clause-seen
+returns-in-Route-clause-seen c = λ run h l.
+    let t = c.args.tables.now in
+    let ages = (certificate_rows c.args.certificate.now).ages in
+    let e : Event = Route c.in-Route.router in
+    let N : Event → Type 0 = λ e. IsNumbered t e in
+    let P : Event → Type 0 = λ e. Seen t ages c.route.new.self run e c.route.result in
+    subst P (sym c.in-Route.is) (c.route.ensures.seen ages run (stands-emissions t c.args.self.now run c.is_in_time-in_time.new.self (c.is_in_time-in_time.ensures.emits run h.emissions) h) (subst N c.in-Route.is l)
+    (c.is_in_time-in_time.ensures.in_time run e h.emissions (c.tick.ensures ∙ h.replies.clock)))
+
+pub returns-in-Send-clause-seen : goal.returns-in-Send-clause-seen
+returns-in-Send-clause-seen c = λ run h l.
+    let t = c.args.tables.now in
+    let ages = (certificate_rows c.args.certificate.now).ages in
+    let e : Event = Send c.in-Send.output in
+    let N : Event → Type 0 = λ e. IsNumbered t e in
+    let P : Event → Type 0 = λ e. Seen t ages c.send.new.self run e c.send.result in
+    subst P (sym c.in-Send.is) (c.send.ensures.seen run (stands-emissions t c.args.self.now run c.is_in_time-in_time.new.self (c.is_in_time-in_time.ensures.emits run h.emissions) h) (subst N c.in-Send.is l)
+    (c.is_in_time-in_time.ensures.in_time run e h.emissions (c.tick.ensures ∙ h.replies.clock)))
+
+pub returns-in-Tick-clause-seen : goal.returns-in-Tick-clause-seen
+returns-in-Tick-clause-seen c = λ run h l.
+    let t = c.args.tables.now in
+    let ages = (certificate_rows c.args.certificate.now).ages in
+    let P : Event → Type 0 = λ e. Seen t ages c.turn.new.self run e c.turn.result in
+    subst P (sym c.in-Tick.is) (c.turn.ensures.seen ages run (stands-emissions t c.args.self.now run c.is_in_time-in_time.new.self (c.is_in_time-in_time.ensures.emits run h.emissions) h)
+    (c.is_in_time-in_time.ensures.in_time run Tick h.emissions (c.tick.ensures ∙ h.replies.clock)))

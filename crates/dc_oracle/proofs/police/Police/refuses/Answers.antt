@@ -15,5 +15,5 @@ returns-in-Route-clause-judges c = λ run h l.
 
 pub returns-in-Tick-clause-judges : goal.returns-in-Tick-clause-judges
 returns-in-Tick-clause-judges c = λ run h l.
-    let P : Event → Type 0 = λ e. Judges c.args.tables.now (record { tick = c.args.self.now.tick + 1; paces = c.args.self.now.paces }) run e false in
-    subst P (sym c.in-Tick.is) (judges-tick c.args.tables.now c.args.self.now (record { tick = c.args.self.now.tick + 1; paces = c.args.self.now.paces }) run refl refl h)
+    let P : Event → Type 0 = λ e. Judges c.args.tables.now c.turn.new.self run e false in
+    subst P (sym c.in-Tick.is) (judges-tick c.args.tables.now c.args.self.now c.turn.new.self run c.turn.ensures.tick c.turn.ensures.paces h)
