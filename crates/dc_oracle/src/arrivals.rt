@@ -1,11 +1,12 @@
 //! What came to the buses.
 
-ghost use Rattle.std.specs.Prelude.{◌≡◌, ◌-◌, ◌<◌, ◌^◌, List, [], ◌∷◌, ◌++◌, length, slice_set, slice_index_or, Some, None, IfOk, IfSome, OnOk};
+ghost use Rattle.std.specs.Prelude.{◌≡◌, ℕ, ◌-◌, ◌<◌, ◌^◌, List, [], ◌∷◌, ◌++◌, length, slice_set, slice_index_or, Some, None, IfOk, IfSome, OnOk};
 ghost use Rattle.dc_event.specs.Admissible.{IsNumbered};
 ghost use Rattle.dc_event.specs.Replies.{reply as reply_to};
 ghost use Rattle.dc_event.specs.Time.{tick_after};
+ghost use Rattle.dc_tables.specs.Declares.{stream_of};
 ghost use Rattle.dc_oracle.specs.Fresh.{AllMade};
-ghost use Rattle.dc_oracle.specs.Arrivals.{is_arrival, taken_bus, Arrives};
+ghost use Rattle.dc_oracle.specs.Arrivals.{is_arrival, taken_bus};
 ghost use Rattle.dc_oracle.specs.Life.{no_life};
 ghost use Rattle.dc_event.specs.declared.event.Event.{Event};
 
@@ -40,18 +41,6 @@ fn taken_bus(reply: &Reply) -> Option<usize>
         Reply::Took(_, bus) => Some(bus),
         _ => None,
     }
-}
-
-/// The stream of an arrival on the bus, by the reply to it.
-fn arrival_of(tables: &Tables, bus: usize, word: Word, reply: &Reply) -> Option<usize>
-    ensures there { IfSome result (λ s. s < length tables.now.streams) }
-    ensures arrives { (run : List Event) → bus < length tables.now.buses → reply.now ≡ reply_to tables.now run (Event.Arrive word bus)
-        → Arrives tables.now run bus word result }
-{
-    if !is_arrival(reply) {
-        return None;
-    }
-    tables.stream_of(bus, word)
 }
 
 /// Keeps the tick in which the stream's latest word came.
@@ -112,25 +101,29 @@ impl ArrivalWatch {
         self.latest[stream]
     }
 
-    /// A word arrives.
+    /// A word arrives on a bus, with the stream there that declares it, if one does, and the reply to it.
     pub(crate) fn arrive(
         &mut self,
         tables: &Tables,
-        bus: usize,
+        stream: Option<usize>,
         word: Word,
         reply: &Reply,
         tick: u64,
     )
         requires sized { IsSized tables.now self.old }
         requires early { tick < 2 ^ 64 - 1 }
+        requires there { IfSome stream (λ s. s < length tables.now.streams) }
         ensures sized { IsSized tables.now self.new }
-        ensures follows { (run : List Event) → Follows tables.now self.old run → tick ≡ tick_after run → bus < length tables.now.buses
-            → reply.now ≡ reply_to tables.now run (Event.Arrive word bus)
+        ensures follows { (run : List Event) (bus : ℕ) → Follows tables.now self.old run → tick ≡ tick_after run → bus < length tables.now.buses
+            → stream ≡ stream_of tables.now bus word → reply.now ≡ reply_to tables.now run (Event.Arrive word bus)
             → Follows tables.now self.new (run ++ Event.Arrive word bus ∷ []) }
     {
         tables.valid();
         queues_grow(tables);
-        let Some(stream) = arrival_of(tables, bus, word, reply) else {
+        if !is_arrival(reply) {
+            return;
+        }
+        let Some(stream) = stream else {
             return;
         };
         let maximum = tables.stream(stream).maximum;
@@ -185,7 +178,9 @@ impl ArrivalWatch {
     {
         queues_grow(tables);
         match *event {
-            Event::Arrive(word, bus) => self.arrive(tables, bus, word, reply, tick),
+            Event::Arrive(word, bus) => {
+                self.arrive(tables, tables.stream_of(bus, word), word, reply, tick)
+            }
             Event::Route(router) => self.route(tables, replies, router, reply),
             Event::Tick | Event::Send(_) => {}
         }

@@ -98,8 +98,9 @@ impl ClaimWatch {
             return first_unsent(true, in_time);
         }
         let tick = self.replies.tick();
-        let reply = self.replies.arrive(tables, bus, word);
-        self.arrivals.arrive(tables, bus, word, &reply, tick);
+        let stream = tables.stream_of(bus, word);
+        let reply = self.replies.arrive(tables, bus, word, stream);
+        self.arrivals.arrive(tables, stream, word, &reply, tick);
         first_unsent(fits(&reply), in_time)
     }
 

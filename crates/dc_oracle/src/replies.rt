@@ -2,6 +2,7 @@
 
 ghost use Rattle.std.specs.Prelude.{◌≡◌, ◌+◌, ◌-◌, ◌<◌, ◌≤◌, ◌^◌, ◌∷◌, ◌++◌, [], List, length, filter, slice_set, slice_index_or};
 ghost use Rattle.std.specs.Prelude.{Some, None, IfOk, IfSome, false, min};
+ghost use Rattle.dc_tables.specs.Declares.{stream_of};
 ghost use Rattle.dc_event.specs.Outputs.{due_tick, entry_label};
 ghost use Rattle.dc_event.specs.Choice.{head, choice, word_for};
 ghost use Rattle.dc_event.specs.Emissions.{emission};
@@ -100,18 +101,26 @@ impl ReplyWatch {
         })
     }
 
-    /// A word arrives.
-    pub(crate) fn arrive(&mut self, tables: &Tables, bus: usize, word: Word) -> Reply
+    /// A word arrives, with the stream of the bus that declares it, if one does.
+    pub(crate) fn arrive(
+        &mut self,
+        tables: &Tables,
+        bus: usize,
+        word: Word,
+        stream: Option<usize>,
+    ) -> Reply
         requires sized { IsSized tables.now self.old }
+        requires stream { stream ≡ stream_of tables.now bus word }
         ensures sized { IsSized tables.now self.new }
         ensures tick { self.new.tick ≡ self.old.tick }
         ensures reply { (run : List Event) → Holds tables.now self.old run → bus < length tables.now.buses
             → is_refused tables.now run (Event.Arrive word bus) ≡ false → Replies tables.now self.new run (Event.Arrive word bus) result }
     {
+        let _ = tables;
         if !word.is_odd() {
             return Reply::BadParity;
         }
-        let Some(stream) = tables.stream_of(bus, word) else {
+        let Some(stream) = stream else {
             return Reply::Undeclared;
         };
         if bus >= self.buses.len() {
@@ -303,7 +312,9 @@ impl ReplyWatch {
             → Replies tables.now self.new run event result }
     {
         match event {
-            Event::Arrive(word, bus) => self.arrive(tables, bus, word),
+            Event::Arrive(word, bus) => {
+                self.arrive(tables, bus, word, tables.stream_of(bus, word))
+            }
             Event::Route(router) => self.route(tables, router),
             Event::Send(output) => self.send(tables, output),
             Event::Tick => self.turn(tables),

@@ -41,7 +41,7 @@ returns-clause-seen c = λ ages run h l in_time.
       stands = record {
         replies = reported.holds;
         police = j.holds;
-        arrivals = c.arrive-2.ensures.follows run h.arrivals (c.tick-tick.ensures ∙ h.replies.clock) l reported.answer;
+        arrivals = c.arrive-2.ensures.follows run c.args.bus h.arrivals (c.tick-tick.ensures ∙ h.replies.clock) l c.stream_of-stream.ensures.stream reported.answer;
         emissions = emits-other t c.args.self.now.emissions run e (sym none) h.emissions;
       };
       judged = subst R (sym c.first_unsent-2.ensures) (judged-unsent t ages run e c.fits.result c.args.in_time none (no_overrun-reported t run e c.arrive-reply.result c.fits.result c.fits.ensures reported.answer) in_time);

@@ -15,12 +15,12 @@ pub returns-then-not-is_odd-clause-reply : goal.returns-then-not-is_odd-clause-r
 returns-then-not-is_odd-clause-reply c = λ run h l free. replies-even _ _ run c.args.bus c.args.word (sym c.is_odd.ensures.test ∙ c.if-not-is_odd.true) h
 
 pub returns-in_default-clause-reply : goal.returns-in_default-clause-reply
-returns-in_default-clause-reply c = λ run h l free. replies-undeclared _ _ run c.args.bus c.args.word (sym c.is_odd.ensures.test ∙ c.if-not-is_odd.false) (sym c.in_default.ensures.stream) h
+returns-in_default-clause-reply c = λ run h l free. replies-undeclared _ _ run c.args.bus c.args.word (sym c.is_odd.ensures.test ∙ c.if-not-is_odd.false) (sym c.requires.stream ∙ c.in_default.is) h
 
 pub returns-clause-reply : goal.returns-clause-reply
 returns-clause-reply c = λ run h l unrefused.
     let odd : is_odd c.args.word ≡ true = sym c.is_odd.ensures.test ∙ c.if-not-is_odd.false in
-    let some : stream_of c.args.tables.now c.args.bus c.args.word ≡ Some c.in-Some.stream = sym c.in-Some.ensures.stream in
+    let some : stream_of c.args.tables.now c.args.bus c.args.word ≡ Some c.in-Some.stream = sym c.requires.stream ∙ c.in-Some.is in
     let free : refuses_early c.args.tables.now c.args.bus run (Some c.in-Some.stream) ≡ false =
     ap (refuses_early c.args.tables.now c.args.bus run) (sym some) ∙ ap (λ v. v && refuses_early c.args.tables.now c.args.bus run (stream_of c.args.tables.now c.args.bus c.args.word)) (sym odd) ∙ unrefused in
     let there : c.args.bus < length c.args.self.now.buses.items = omega (arith, c.if-bus-len.false, c.len.ensures) in
