@@ -28,9 +28,17 @@ pub struct Plan {
 impl Plan {
     /// The length of a tick and the headroom, as a draft of tables takes them.
     fn wish(&self) -> Wish {
+        let tick_us = match self.tick {
+            Some(tick) => Some(u32::from(tick)),
+            None => None,
+        };
+        let headroom = match self.headroom {
+            Some(percent) => Some(u32::from(percent)),
+            None => None,
+        };
         Wish {
-            tick_us: self.tick.map(u32::from),
-            headroom: self.headroom.map(u32::from),
+            tick_us,
+            headroom,
             is_prompt: false,
         }
     }
