@@ -36,7 +36,8 @@ fn cells_like<'a>(alloc: Global, sheet: &'a [u8], name: &str) -> Names<'a> {
     cells
 }
 
-/// Writes which cell of the inputs a stream may be meant by that is not there, where one is like it.
+/// Writes which cell of the inputs a stream may be meant by that is not there, where one is like it; else how streams are
+/// called.
 fn tell_like(alloc: Global, out: &mut Explanation, name: &str, sheet: &[u8]) {
     let cells = cells_like(alloc, sheet, name);
     if cells.is_lost() {
@@ -44,11 +45,15 @@ fn tell_like(alloc: Global, out: &mut Explanation, name: &str, sheet: &[u8]) {
     }
     if let Some((like, _)) = out.nearest(name, cells.as_slice()) {
         let like = [Text(like)];
-        out.help(
+        return out.help(
             "there is `{}` in the inputs: write it so, if it is meant",
             &like,
         );
     }
+    out.help(
+        "a stream without a name is called by its bus and its label, as ADC1-203: the label in three digits",
+        &[],
+    );
 }
 
 /// Repeats the lines that were written, which say by rows and columns what to do and mostly go to a file, where they are
