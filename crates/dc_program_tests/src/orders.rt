@@ -50,12 +50,12 @@ fn words_of<R: AllocGlobal>(rt: &R, line: &str) -> Result<Vec<String>, AllocErro
 
 /// Whether a command line does so over these texts, as files `T` and `C`, and over a third file `O` in whose first line stands no
 /// number that was observed.
-fn does<R: AllocGlobal + Threads + Wait + Sync>(
+fn does<'t, R: AllocGlobal + Threads + Wait + Sync>(
     rt: &R,
     trial: &Trial<'_>,
-    words: &[String],
-    tables: &str,
-    certificate: &str,
+    words: &'t [String],
+    tables: &'t str,
+    certificate: &'t str,
 ) -> Result<bool, AllocError> {
     let first = MemFile {
         name: "T",
