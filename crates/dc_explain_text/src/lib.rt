@@ -2,6 +2,7 @@
 //! with its shape. No program reads it, and no clause speaks of it but that it ends and is safe.
 #![tactic(auto)]
 
+mod holes;
 mod keys;
 mod refused;
 mod shape;

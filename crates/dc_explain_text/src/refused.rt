@@ -1,4 +1,5 @@
 //! A text that was refused, and what is told of it.
+use crate::holes::{Hole, hole_of, place_in};
 use crate::keys::{is_late, keys_of};
 use crate::values::number;
 use dc_tell::{
@@ -57,6 +58,41 @@ fn naming_of(kind: Kind) -> (&'static str, &'static str, &'static str) {
     }
 }
 
+/// How many tables of a kind a text has.
+fn tables_in(layout: &Layout<'_>, kind: Kind) -> usize {
+    let mut count = 0usize;
+    for it in layout.rows.as_slice() {
+        if it.kind == kind {
+            count = count.saturating_add(1);
+        }
+    }
+    count
+}
+
+/// Writes a table by its kind and its name, or the two values that it has for one; by its number where it has none.
+fn write_row(out: &mut Explanation, layout: &Layout<'_>, row: usize) {
+    let (kind, index) = match layout.rows.get(row) {
+        None => return,
+        Some(it) => (it.kind, it.index),
+    };
+    let (word, _) = called(kind);
+    out.add(word);
+    if row == 0 {
+        return;
+    }
+    let (key, other, sentence) = naming_of(kind);
+    let name = layout.value(row, key);
+    let behind = layout.value(row, other);
+    if name.is_empty() || (!other.is_empty() && behind.is_empty()) {
+        let number = (index as u64).saturating_add(1);
+        let count = tables_in(layout, kind) as u64;
+        out.say(" {} of {}", &[Value::Number(number), Value::Number(count)]);
+    } else {
+        let names = [Value::Brief(name), Value::Brief(behind)];
+        out.say(sentence, &names);
+    }
+}
+
 impl<'a> Refused<'a> {
     /// Begins to tell by this code of the table of this kind and number; of the top, and false, where it has none such.
     pub fn begin(&mut self, code: &str, kind: Kind, index: usize) -> bool {
@@ -100,13 +136,7 @@ impl<'a> Refused<'a> {
 
     /// How many tables of a kind there are.
     pub fn tables_of(&self, kind: Kind) -> usize {
-        let mut count = 0usize;
-        for it in self.layout.rows.as_slice() {
-            if it.kind == kind {
-                count = count.saturating_add(1);
-            }
-        }
-        count
+        tables_in(&self.layout, kind)
     }
 
     /// The table of a kind that has this name.
@@ -143,30 +173,6 @@ impl<'a> Refused<'a> {
         names
     }
 
-    /// Writes a table by its kind and its name, or the two values that it has for one; by its number where it has none.
-    fn put_row(&mut self, row: usize) {
-        let (kind, index) = match self.layout.rows.get(row) {
-            None => return,
-            Some(it) => (it.kind, it.index),
-        };
-        let (word, _) = called(kind);
-        self.out.add(word);
-        if row == 0 {
-            return;
-        }
-        let (key, other, sentence) = naming_of(kind);
-        let name = self.layout.value(row, key);
-        let behind = self.layout.value(row, other);
-        if name.is_empty() || (!other.is_empty() && behind.is_empty()) {
-            let number = (index as u64).saturating_add(1);
-            let count = self.tables_of(kind) as u64;
-            self.out.say(" {} of {}", &[Value::Number(number), Value::Number(count)]);
-        } else {
-            let names = [Value::Brief(name), Value::Brief(behind)];
-            self.out.say(sentence, &names);
-        }
-    }
-
     /// The value at a key of a table, the key where it heads tables, or the table itself where it has no such key.
     pub fn place(&self, row: usize, key: &str) -> usize {
         match self.layout.key(row, key.as_bytes()) {
@@ -186,7 +192,7 @@ impl<'a> Refused<'a> {
             Fact::Count(row, key) => Value::Number(self.count(row, key)),
             Fact::Several(count, one, many) => Value::Several(count, one, many),
             Fact::Word(word) => Value::Text(word),
-            Fact::Row(row) => return self.put_row(row),
+            Fact::Row(row) => return write_row(&mut self.out, &self.layout, row),
             Fact::At(row, key) => Value::Brief(self.layout.value(row, key)),
             Fact::Piece(span) => Value::Brief(self.layout.piece(span)),
             Fact::Line(row, key) => {
@@ -238,6 +244,81 @@ impl<'a> Refused<'a> {
             }
             let holes = self.say_line(line, own, is_told);
             next = next.saturating_add(holes);
+        }
+    }
+
+    /// Fills a hole: its first word says with what, the next one by which of these places or numbers, or by the table with
+    /// the fault where it names none, and what stands behind is a key.
+    fn fill_hole(&self, out: &mut Explanation, hole: &str, places: &[usize], numbers: &[u64]) {
+        let (word, rest) = hole.split_once(' ').unwrap_or((hole, ""));
+        let (which, key) = rest.split_once(' ').unwrap_or((rest, ""));
+        let index = place_in(which);
+        let place = places.get(index).copied().unwrap_or(self.row);
+        let number = numbers.get(index).copied().unwrap_or(0);
+        let (kind, one, many) = hole_of(word);
+        let value = match kind {
+            Hole::None => return,
+            Hole::Number => Value::Number(number),
+            Hole::Several => Value::Several(number, one, many),
+            Hole::Count => Value::Number(self.count(place, key)),
+            Hole::Row => return write_row(out, &self.layout, place),
+            Hole::At => Value::Brief(self.layout.value(place, key)),
+            Hole::Line => {
+                let place = place_at(self.file.text, self.place(place, key));
+                Value::Number(place.line as u64)
+            }
+            Hole::Place => return out.at(self.file, self.place(place, key)),
+            Hole::Here => return out.at(self.file, place),
+            Hole::Piece => {
+                let to = places.get(index.saturating_add(1)).copied().unwrap_or(0);
+                Value::Brief(self.layout.piece(Span { from: place, to }))
+            }
+        };
+        out.put(value);
+    }
+
+    /// Goes on with a line, whose holes are filled by these places and numbers.
+    fn fill_line(&self, out: &mut Explanation, line: &str, places: &[usize], numbers: &[u64]) {
+        for piece in line.split('{') {
+            let (hole, text) = piece.split_once('}').unwrap_or(("", piece));
+            if !hole.is_empty() {
+                self.fill_hole(out, hole, places, numbers);
+            }
+            if !text.is_empty() {
+                out.add(text);
+            }
+        }
+    }
+
+    /// Goes on in an explanation, which need not be its own, with a sentence, whose holes name what fills them: `{row}` and
+    /// `{at own label}` by the table with the fault, `{line 0 name}` by the table at that place of these, `{here 1}` by a
+    /// byte of the text. Behind a line feed it begins a line of its own.
+    pub fn fill(&self, out: &mut Explanation, sentence: &str, places: &[usize]) {
+        self.fill_where(out, sentence, places, &[], &[]);
+    }
+
+    /// The same with numbers, as in `{ticks 0}`, and with lines that begin with a hole as `{if 0}`, and are told where the
+    /// flag at that place says so.
+    pub fn fill_where(
+        &self,
+        out: &mut Explanation,
+        sentence: &str,
+        places: &[usize],
+        numbers: &[u64],
+        flags: &[bool],
+    ) {
+        for (count, line) in sentence.split('\n').enumerate() {
+            let is_guarded = line.starts_with("{if ");
+            let guard = line.get(4..5).unwrap_or("");
+            let flag = flags.get(place_in(guard)).copied().unwrap_or(true);
+            if is_guarded && !flag {
+                continue;
+            }
+            if count != 0 {
+                out.end_line();
+                out.add("   = ");
+            }
+            self.fill_line(out, line, places, numbers);
         }
     }
 }
