@@ -4,8 +4,8 @@
 
 mod ages;
 mod bounds;
-mod fact;
 mod gaps;
+mod holes;
 mod labels;
 mod mends;
 mod misnamed;

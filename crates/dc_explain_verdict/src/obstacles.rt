@@ -2,12 +2,11 @@
 ghost use Rattle.dc_find.specs.Ways.{IsFirstInTheWay};
 
 use crate::bounds::counts_of;
-use crate::fact::Fact::{Number, Place, Several, Word};
 use crate::labels::{Aging, Sending, aging_of, sending_of};
 use crate::refused::tell_rule;
 use crate::servers::{Server, begin_counts, server_of, tell_terms};
 use crate::steps::closing_of;
-use crate::teller::Teller;
+use crate::teller::{About, tell_alone};
 use crate::waits::tell_room_ways;
 use crate::ways::tell_never_ways;
 use dc_busy::LONGEST_WINDOW;
@@ -16,7 +15,7 @@ use dc_check::Condition;
 use dc_find::FindFault::{LabelRule, QueueTooShort, WindowNeverCloses};
 use dc_find::{FindFault, Queue, find, reach};
 use dc_tables::Tables;
-use dc_tell::{Explanation, File};
+use dc_tell::{Explanation, File, Value};
 use std::alloc::Global;
 
 /// How many are told in full.
@@ -29,102 +28,109 @@ const LONGEST: u64 = LONGEST_WINDOW as u64;
 const ROUNDS: u32 = 10;
 
 /// F1: no window of a queue closes.
-fn tell_never(told: &mut Teller<'_>, server: &Server) {
+fn tell_never(out: &mut Explanation, of: &About<'_>, server: &Server, is_first: bool) {
     let early = server.round.saturating_mul(ROUNDS).min(LONGEST_WINDOW);
-    let left = begin_counts(told, "F1", server, (early, early), early.saturating_sub(1));
-    let last = LONGEST_WINDOW.saturating_sub(1);
-    let counts = counts_of(told.tables, server.queue, LONGEST_WINDOW, last);
-    let late = counts.come.saturating_sub(counts.served);
-    told.say(
-        ": so {} may wait then, and {} by tick {}, and there is no tick by which all have surely been {} (no window closes){}",
-        &[
-            Number(left),
-            Number(late),
-            Number(LONGEST),
-            Word(server.words.done),
-            Place(false, server.section, server.number, ""),
-        ],
+    let left = begin_counts(
+        out,
+        of,
+        "F1",
+        server,
+        (early, early),
+        early.saturating_sub(1),
     );
-    tell_never_ways(told, server);
-    tell_terms(told, server, 0, 0);
+    let last = LONGEST_WINDOW.saturating_sub(1);
+    let counts = counts_of(of.tables, server.queue, LONGEST_WINDOW, last);
+    let late = counts.come.saturating_sub(counts.served);
+    of.say(
+        out,
+        server,
+        ": so {number 0} may wait then, and {number 1} by tick {number 2}, and there is no tick by which all have surely been {done} (no window closes)",
+        &[left, late, LONGEST],
+    );
+    of.tell_own(out, server, false, "");
+    tell_never_ways(out, of, server);
+    tell_terms(out, of, server, is_first, (0, 0));
 }
 
 /// F2: more may wait in the queue of a bus than it holds.
-fn tell_short(told: &mut Teller<'_>, server: &Server) {
-    let Some(closing) = closing_of(told.tables, server, None) else {
+fn tell_short(out: &mut Explanation, of: &About<'_>, server: &Server, is_first: bool) {
+    let Some(closing) = closing_of(of.tables, server, None) else {
         return;
     };
     let (most, by) = (closing.peaks.backlog.height, closing.peaks.backlog.ticks);
-    begin_counts(told, "F2", server, (by, by), by.saturating_sub(2));
-    told.say(
-        ": {} may wait, and its queue holds {}{}",
-        &[
-            Number(most),
-            Number(server.room),
-            Place(false, server.section, server.number, "queue"),
-        ],
+    begin_counts(out, of, "F2", server, (by, by), by.saturating_sub(2));
+    of.say(
+        out,
+        server,
+        ": {number 0} may wait, and its queue holds {number 1}",
+        &[most, server.room],
     );
-    tell_room_ways(told, server, most);
-    tell_terms(told, server, 0, 0);
+    of.tell_own(out, server, false, "queue");
+    tell_room_ways(out, of, server, most);
+    tell_terms(out, of, server, is_first, (0, 0));
 }
 
-/// Begins to tell one thing more that stands in the way. Whether it is to be told in full.
-fn begin_next(told: &mut Teller<'_>) -> bool {
-    told.number = told.number.saturating_add(1);
-    if told.number > TOLD {
-        return false;
+/// For how much what helps is enough.
+const ALONE: &str =
+    "what helps here is enough for this rule alone: `dc429 find` tells whether all hold then, and writes a certificate";
+
+/// Begins to tell one thing more that stands in the way, behind so many. Whether it is to be told in full.
+fn begin_next(out: &mut Explanation, count: usize) -> bool {
+    if count > 0 && count < TOLD {
+        out.add("\n");
     }
-    if told.number > 1 {
-        told.out.add("\n");
-    }
-    true
+    count < TOLD
 }
 
-/// Tells of a queue, where it stands in the way by what was found of it.
-fn tell_queue(told: &mut Teller<'_>, queue: Queue) {
-    let Some(server) = server_of(told.tables, told.certificate, queue) else {
-        return;
+/// Tells of a queue, where it stands in the way by what was found of it, behind so many things that do. How many do then.
+fn tell_queue(out: &mut Explanation, of: &About<'_>, queue: Queue, count: usize) -> usize {
+    let Some(server) = server_of(of.tables, of.certificate, queue) else {
+        return count;
     };
     let is_open = server.delay > LONGEST_WINDOW;
     let is_short = server.is_bus && server.backlog > server.room;
     if !is_open && !is_short {
-        return;
+        return count;
     }
-    if !begin_next(told) {
-        return;
+    if begin_next(out, count) {
+        if is_open {
+            tell_never(out, of, &server, count == 0);
+        } else {
+            tell_short(out, of, &server, count == 0);
+        }
+        if count == 0 {
+            tell_alone(out, ALONE);
+        }
     }
-    if is_open {
-        tell_never(told, &server);
-    } else {
-        tell_short(told, &server);
-    }
-    told.tell_alone();
+    count.saturating_add(1)
 }
 
-/// Tells of a rule on a label, where it is broken.
+/// Tells of a rule on a label that is broken, behind so many things that stand in the way.
 fn tell_broken(
-    told: &mut Teller<'_>,
-    is_broken: bool,
+    out: &mut Explanation,
+    of: &About<'_>,
     sending: &Sending,
     aging: &Aging,
     rule: Condition,
+    count: usize,
 ) {
-    if !is_broken {
+    if !begin_next(out, count) {
         return;
     }
-    if begin_next(told) {
-        tell_rule(told, "F3", sending, aging, rule);
-        told.tell_alone();
+    tell_rule(out, of, "F3", sending, aging, rule);
+    if count == 0 {
+        tell_alone(out, ALONE);
     }
 }
 
-/// Tells which rules a label breaks, by what was found of its output and of its sources' buses.
-fn tell_label(told: &mut Teller<'_>, label: usize) {
-    let Some(sending) = sending_of(told.tables, told.certificate, label) else {
-        return;
+/// Tells which rules a label breaks, by what was found of its output and of its sources' buses, behind so many things that
+/// stand in the way. How many do then.
+fn tell_label(out: &mut Explanation, of: &About<'_>, label: usize, before: usize) -> usize {
+    let Some(sending) = sending_of(of.tables, of.certificate, label) else {
+        return before;
     };
-    let Some(aging) = aging_of(told.tables, told.certificate, label) else {
-        return;
+    let Some(aging) = aging_of(of.tables, of.certificate, label) else {
+        return before;
     };
     let is_sent = sending.delay <= LONGEST;
     let is_soon = sending.least_gap < sending.minimum.saturating_add(sending.delay);
@@ -138,41 +144,47 @@ fn tell_label(told: &mut Teller<'_>, label: usize) {
         (is_read && is_old, Condition::AgeOverLimit),
         (is_read && is_stale, Condition::SourceGoesStale),
     ];
+    let mut count = before;
     for (is_broken, rule) in &broken {
-        tell_broken(told, *is_broken, &sending, &aging, *rule);
+        if *is_broken {
+            tell_broken(out, of, &sending, &aging, *rule, count);
+            count = count.saturating_add(1);
+        }
     }
+    count
 }
 
 /// Tells how many more stand in the way than were told.
-fn tell_rest(told: &mut Teller<'_>, rest: usize) {
+fn tell_rest(out: &mut Explanation, of: &About<'_>, rest: usize) {
     let one = "more input, output or label keeps";
     let many = "more inputs, outputs and labels keep";
-    told.out.add("\n");
-    told.out.begin("");
-    told.say(
+    out.add("\n");
+    out.begin("");
+    out.say(
         "{} these tables from having a certificate",
-        &[Several(rest as u64, one, many)],
+        &[Value::Several(rest as u64, one, many)],
     );
-    told.out.name_file(told.file.name);
-    told.say(
-        "\nhelp: `dc429 margins` shows all of them: each line with a negative margin",
+    out.name_file(of.file.name);
+    out.help(
+        "`dc429 margins` shows all of them: each line with a negative margin",
         &[],
     );
 }
 
 /// Tells the first of what stands in the way, in the order in which the first is found, and how many more do.
-fn tell_all(told: &mut Teller<'_>) {
-    for bus in 0..told.tables.bus_count() {
-        tell_queue(told, Queue::Input(bus));
+fn tell_all(out: &mut Explanation, of: &About<'_>) {
+    let mut count = 0usize;
+    for bus in 0..of.tables.bus_count() {
+        count = tell_queue(out, of, Queue::Input(bus), count);
     }
-    for output in 0..told.tables.output_count() {
-        tell_queue(told, Queue::Output(output));
+    for output in 0..of.tables.output_count() {
+        count = tell_queue(out, of, Queue::Output(output), count);
     }
-    for label in 0..told.tables.label_count() {
-        tell_label(told, label);
+    for label in 0..of.tables.label_count() {
+        count = tell_label(out, of, label, count);
     }
-    if told.number > TOLD {
-        tell_rest(told, told.number.saturating_sub(TOLD));
+    if count > TOLD {
+        tell_rest(out, of, count.saturating_sub(TOLD));
     }
 }
 
@@ -183,18 +195,15 @@ fn explain_found(
     certificate: &Certificate,
     file: File<'_>,
 ) -> Option<String> {
-    let mut told = Teller {
+    let of = About {
         alloc,
-        out: Explanation::new(alloc),
         tables,
         certificate,
         file,
         claims: file,
-        is_given: false,
-        number: 0,
     };
-    tell_all(&mut told);
-    let Teller { out, .. } = told;
+    let mut out = Explanation::new(alloc);
+    tell_all(&mut out, &of);
     out.finish()
 }
 

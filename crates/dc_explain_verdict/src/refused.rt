@@ -4,7 +4,7 @@ use crate::gaps::tell_gap;
 use crate::labels::{Aging, Sending, aging_of, sending_of};
 use crate::misnamed::tell_names;
 use crate::servers::server_of;
-use crate::teller::Teller;
+use crate::teller::{About, tell_alone};
 use crate::waits::{tell_backlog, tell_delay, tell_open_window, tell_range, tell_room};
 use dc_cert::{Certificate, read_cert};
 use dc_check::{CertificateList, CheckFault, Condition, verdict};
@@ -23,60 +23,67 @@ pub struct Files<'a> {
 }
 
 /// Tells what is wrong with a queue.
-fn tell_queue(told: &mut Teller<'_>, fault: &CheckFault, queue: Queue) {
-    let Some(server) = server_of(told.tables, told.certificate, queue) else {
+fn tell_queue(out: &mut Explanation, of: &About<'_>, fault: &CheckFault, queue: Queue) {
+    let Some(server) = server_of(of.tables, of.certificate, queue) else {
         return;
     };
     match fault.condition {
-        Condition::WindowOutOfRange => tell_range(told, &server, true),
-        Condition::DelayOutOfRange => tell_range(told, &server, false),
-        Condition::WindowDoesNotClose => tell_open_window(told, &server),
-        Condition::BacklogTooSmall => tell_backlog(told, &server, fault.window),
-        Condition::QueueTooShort => tell_room(told, &server),
-        Condition::DelayTooSmall => tell_delay(told, &server, fault.window),
+        Condition::WindowOutOfRange => tell_range(out, of, &server, true),
+        Condition::DelayOutOfRange => tell_range(out, of, &server, false),
+        Condition::WindowDoesNotClose => tell_open_window(out, of, &server),
+        Condition::BacklogTooSmall => tell_backlog(out, of, &server, fault.window),
+        Condition::QueueTooShort => tell_room(out, of, &server),
+        Condition::DelayTooSmall => tell_delay(out, of, &server, fault.window),
         _ => {}
     }
 }
 
 /// Tells which rule a label breaks, as of this code, by how it is sent and how old its words may be.
 pub(crate) fn tell_rule(
-    told: &mut Teller<'_>,
+    out: &mut Explanation,
+    of: &About<'_>,
     code: &str,
     sending: &Sending,
     aging: &Aging,
     condition: Condition,
 ) {
     match condition {
-        Condition::SentTooSoon | Condition::SentTooLate => tell_gap(told, code, sending, condition),
-        Condition::AgeTooSmall | Condition::AgeOverLimit => tell_oldest(
-            told, code, aging, condition,
+        Condition::SentTooSoon | Condition::SentTooLate => tell_gap(
+            out, of, code, sending, condition,
         ),
-        Condition::SourceGoesStale => tell_stale(told, code, aging),
+        Condition::AgeTooSmall | Condition::AgeOverLimit => tell_oldest(
+            out, of, code, aging, condition,
+        ),
+        Condition::SourceGoesStale => tell_stale(out, of, code, aging),
         _ => {}
     }
 }
 
 /// Tells what is wrong with a label.
-fn tell_label(told: &mut Teller<'_>, label: usize, condition: Condition) {
-    let Some(sending) = sending_of(told.tables, told.certificate, label) else {
+fn tell_label(out: &mut Explanation, of: &About<'_>, label: usize, condition: Condition) {
+    let Some(sending) = sending_of(of.tables, of.certificate, label) else {
         return;
     };
-    if let Some(aging) = aging_of(told.tables, told.certificate, label) {
-        tell_rule(told, condition.code(), &sending, &aging, condition);
+    if let Some(aging) = aging_of(of.tables, of.certificate, label) {
+        tell_rule(out, of, condition.code(), &sending, &aging, condition);
     }
 }
 
+/// For how much what helps is enough.
+const ALONE: &str =
+    "what helps here is enough for this rule alone; who changes the tables lets `dc429 find TABLES > CERTIFICATE` write all numbers of the certificate anew: those of this one are of the old tables";
+
 /// Tells a fault.
-fn tell_fault(told: &mut Teller<'_>, fault: &CheckFault) {
+fn tell_fault(out: &mut Explanation, of: &About<'_>, fault: &CheckFault) {
     if matches!(fault.condition, Condition::NamesDiffer) {
-        return tell_names(told, fault.list);
+        return tell_names(out, of, fault.list);
     }
     match fault.list {
-        CertificateList::Inputs => tell_queue(told, fault, Queue::Input(fault.index)),
-        CertificateList::Outputs => tell_queue(told, fault, Queue::Output(fault.index)),
-        CertificateList::Labels => tell_label(told, fault.index, fault.condition),
+        CertificateList::Inputs => tell_queue(out, of, fault, Queue::Input(fault.index)),
+        CertificateList::Outputs => tell_queue(out, of, fault, Queue::Output(fault.index)),
+        CertificateList::Labels => tell_label(out, of, fault.index, fault.condition),
     }
-    told.tell_alone();
+    tell_alone(out, ALONE);
 }
 
 /// Why a certificate is refused for tables: its first fault, with the numbers that decide it and what helps. `None`
@@ -90,18 +97,15 @@ pub fn explain_verdict(
     let Some(fault) = verdict(tables, certificate).err() else {
         return None;
     };
-    let mut told = Teller {
+    let of = About {
         alloc,
-        out: Explanation::new(alloc),
         tables,
         certificate,
         file: files.tables,
         claims: files.certificate,
-        is_given: true,
-        number: 1,
     };
-    tell_fault(&mut told, &fault);
-    let Teller { out, .. } = told;
+    let mut out = Explanation::new(alloc);
+    tell_fault(&mut out, &of, &fault);
     out.finish()
 }
 

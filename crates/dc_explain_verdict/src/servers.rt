@@ -1,62 +1,23 @@
 //! The queues of the tables: who serves each, and at what pace.
 use crate::bounds::counts_of;
-use crate::fact::Fact;
-use crate::fact::Fact::{Count, If, Name, Number, Only, Word};
-use crate::teller::Teller;
+use crate::teller::About;
 use dc_cert::Certificate;
 use dc_document::{MOST_STEPS, Section};
 use dc_find::Queue;
 use dc_tables::{Stream, Tables};
-
-/// What the queues of a kind, what comes to them and what serves them are called.
-#[derive(Clone, Copy)]
-pub(crate) struct Words {
-    /// What the certificate calls one.
-    pub(crate) queue: &'static str,
-    /// That words may have come.
-    pub(crate) may: &'static str,
-    /// What was done with them where they were served.
-    pub(crate) done: &'static str,
-    /// What serves it.
-    pub(crate) server: &'static str,
-    /// That none waits.
-    pub(crate) empty: &'static str,
-}
-
-/// Of the queue of a bus.
-const BUS: Words = Words {
-    queue: "input",
-    may: "may have come on",
-    done: "taken",
-    server: "router",
-    empty: "an empty queue",
-};
-
-/// Of an output.
-const OUTPUT: Words = Words {
-    queue: "output",
-    may: "may have fallen due on",
-    done: "sent",
-    server: "output",
-    empty: "no word overdue",
-};
+use dc_tell::Explanation;
 
 /// A queue, with who serves it: a bus with its router, or an output, which serves itself.
 #[derive(Clone, Copy)]
 pub(crate) struct Server {
     /// The queue.
     pub(crate) queue: Queue,
-    /// What it is called.
-    pub(crate) words: Words,
     /// Whether it is that of a bus.
     pub(crate) is_bus: bool,
-    /// The table of the bus, or of the output, by its kind, its number and its name.
-    pub(crate) section: Section,
+    /// The number of the bus, or of the output.
     pub(crate) number: usize,
-    pub(crate) name: Fact,
-    /// The number and the name of what serves it.
+    /// The number of what serves it.
     pub(crate) by: usize,
-    pub(crate) server: Fact,
     /// So many steps are made at least ..
     pub(crate) steps: u32,
     /// .. in each so many ticks.
@@ -81,6 +42,17 @@ pub(crate) struct Server {
     pub(crate) window: u32,
     pub(crate) backlog: u64,
     pub(crate) delay: u32,
+}
+
+impl Server {
+    /// Of which kinds its table and that of what serves it are.
+    pub(crate) fn sections(&self) -> (Section, Section) {
+        if self.is_bus {
+            (Section::Bus, Section::Router)
+        } else {
+            (Section::Output, Section::Output)
+        }
+    }
 }
 
 /// The greatest jitter of some streams.
@@ -122,13 +94,9 @@ fn bus_server(tables: &Tables, certificate: &Certificate, bus: usize) -> Option<
     let shortest = router.steps.div_ceil(router.most.max(1)).max(1);
     Some(Server {
         queue: Queue::Input(bus),
-        words: BUS,
         is_bus: true,
-        section: Section::Bus,
         number: bus,
-        name: Name(Section::Bus, bus),
         by: own.router,
-        server: Name(Section::Router, own.router),
         steps: router.steps,
         within: router.within,
         most: router.most,
@@ -160,13 +128,9 @@ fn output_server(tables: &Tables, certificate: &Certificate, output: usize) -> O
     let shortest = own.steps.saturating_mul(own.gap).max(1);
     Some(Server {
         queue: Queue::Output(output),
-        words: OUTPUT,
         is_bus: false,
-        section: Section::Output,
         number: output,
-        name: Name(Section::Output, output),
         by: output,
-        server: Name(Section::Output, output),
         steps: own.steps,
         within: own.within,
         most: MOST_STEPS,
@@ -219,56 +183,45 @@ pub(crate) fn sibling_of(tables: &Tables, server: &Server) -> Option<(usize, u32
 /// Begins the explanation of a queue by what may have come to it by some tick, and what has surely been served by another
 /// in so many whole ticks: how many are left of it.
 pub(crate) fn begin_counts(
-    told: &mut Teller<'_>,
+    out: &mut Explanation,
+    of: &About<'_>,
     code: &str,
     server: &Server,
     ticks: (u32, u32),
     whole: u32,
 ) -> u64 {
     let (first, last) = ticks;
-    let counts = counts_of(told.tables, server.queue, first, whole);
-    let (sentence, other) = if first == last {
-        (
-            "{} `{}`: {} {} it by tick {}{} and {} surely been {}",
-            Word(""),
-        )
+    let counts = counts_of(of.tables, server.queue, first, whole);
+    let sentence = if first == last {
+        "{queue} `{name}`: {words 0} {may} it by tick {number 2} and {only 1} surely been {done}"
     } else {
-        (
-            "{} `{}`: {} {} it by tick {}, and by tick {} {} surely been {}",
-            Number(last as u64),
-        )
+        "{queue} `{name}`: {words 0} {may} it by tick {number 2}, and by tick {number 3} {only 1} surely been {done}"
     };
-    told.out.begin(code);
-    told.say(
+    out.begin(code);
+    of.say(
+        out,
+        server,
         sentence,
-        &[
-            Word(server.words.queue),
-            server.name,
-            Count(counts.come),
-            Word(server.words.may),
-            Number(first as u64),
-            other,
-            Only(counts.served),
-            Word(server.words.done),
-        ],
+        &[counts.come, counts.served, first as u64, last as u64],
     );
     counts.come.saturating_sub(counts.served)
 }
 
 /// Tells from which tick the others are counted, and what is sure, where that was not told before; and where the verdict
 /// names a tick, what that is, and which is the worst.
-pub(crate) fn tell_terms(told: &mut Teller<'_>, server: &Server, first: u32, worst: u32) {
-    told.say(
-        "\n{}note: tick 1 is any tick that begins with {}; surely {} is what `steps` and `within` of {} `{}` promise\n{}note: `window {}` in the verdict is the first tick by which the rule fails; the numbers above are those of tick {}, where it fails by most",
-        &[
-            If(told.number == 1),
-            Word(server.words.empty),
-            Word(server.words.done),
-            Word(server.words.server),
-            server.server,
-            If(first != 0),
-            Number(first as u64),
-            Number(worst as u64),
-        ],
+pub(crate) fn tell_terms(
+    out: &mut Explanation,
+    of: &About<'_>,
+    server: &Server,
+    is_first: bool,
+    ticks: (u32, u32),
+) {
+    let (first, worst) = ticks;
+    of.say_where(
+        out,
+        server,
+        "\n{if 0}note: tick 1 is any tick that begins with {empty}; surely {done} is what `steps` and `within` of {by} `{server}` promise\n{if 1}note: `window {number 0}` in the verdict is the first tick by which the rule fails; the numbers above are those of tick {number 1}, where it fails by most",
+        &[first as u64, worst as u64],
+        &[is_first, first != 0],
     );
 }
