@@ -69,9 +69,7 @@ fn tell_limit_ways(
     let shortest = own.rarest.silence;
     let longest = own.limit.saturating_sub(own.slowest.delay);
     let claimed = tell_mended(out, of, server, most, own.number, "age");
-    if !tell_claim(out, of, server, claimed, most) {
-        tell_quicker(out, of, server, most);
-    }
+    let is_claimed = tell_claim(out, of, server, claimed, most);
     of.say_where(
         out,
         server,
@@ -79,6 +77,9 @@ fn tell_limit_ways(
         &[shortest, longest],
         &[shortest <= longest],
     );
+    if !is_claimed {
+        tell_quicker(out, of, server, most);
+    }
     of.say_where(
         out,
         server,
@@ -123,7 +124,6 @@ const SPREAD: u64 = 3;
 /// often, or more steps, where the queue is to have a delay of at most so many ticks. More steps are promised of code that
 /// a reader may not be able to change, so they stand behind what he can.
 fn tell_stale_ways(out: &mut Explanation, of: &About<'_>, own: &Aging, server: &Server, most: u64) {
-    tell_quicker(out, of, server, most);
     let source = own.rarest.number as u64;
     let left = own.stale.saturating_sub(own.rarest.delay);
     let interval = left.saturating_mul(of.tables.tick_us() as u64);
@@ -140,6 +140,7 @@ fn tell_stale_ways(out: &mut Explanation, of: &About<'_>, own: &Aging, server: &
         &[wanted, longest, own.limit, interval, source],
         &[is_short && is_kept, left >= spread],
     );
+    tell_quicker(out, of, server, most);
     of.say_where(
         out,
         server,
