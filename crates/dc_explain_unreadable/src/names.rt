@@ -1,7 +1,7 @@
 //! Names and parameters that no table has.
 use crate::related::{agree, alike, lister, member, parameter_of};
-use dc_explain_text::{Fact, Refused};
-use dc_tell::{Kind, Names, Span, Value, called, unquoted};
+use dc_explain_text::Refused;
+use dc_tell::{Explanation, Kind, Names, Span, Value, called, unquoted};
 
 /// How many other tables with the same fault are named.
 const NAMED: usize = 4;
@@ -20,7 +20,7 @@ fn unnamed_parameter(refused: &Refused<'_>) -> Option<usize> {
 }
 
 /// Writes by a sentence which streams and labels, but the one with the fault, have no parameter.
-pub(crate) fn tell_orphans(refused: &mut Refused<'_>, sentence: &'static str) {
+pub(crate) fn tell_orphans(out: &mut Explanation, refused: &Refused<'_>, sentence: &str) {
     let mut count = 0usize;
     for row in 0..refused.layout.rows.len() {
         if !matches!(refused.kind(row), Kind::Stream | Kind::Label) {
@@ -31,53 +31,39 @@ pub(crate) fn tell_orphans(refused: &mut Refused<'_>, sentence: &'static str) {
         }
         count = count.saturating_add(1);
         if count <= NAMED {
-            refused.say(
-                sentence,
-                &[
-                    Fact::Row(row),
-                    Fact::Line(row, "label"),
-                    Fact::At(row, "label"),
-                    Fact::At(row, "equipment"),
-                ],
-            );
+            refused.fill(out, sentence, &[row]);
         }
     }
     if count > NAMED {
-        refused.say(
-            "\nnote: {} streams and labels in all have none",
-            &[Fact::Number(count as u64)],
+        refused.fill_where(
+            out,
+            "\nnote: {number 0} streams and labels in all have none",
+            &[],
+            &[count as u64],
+            &[],
         );
     }
 }
 
 /// Tells of a parameter that is not there.
-pub(crate) fn tell_no_parameter(refused: &mut Refused<'_>) -> bool {
+pub(crate) fn tell_no_parameter(out: &mut Explanation, refused: &Refused<'_>) -> bool {
     let row = refused.row;
     let own = alike(refused, Kind::Parameter, row, "label", "");
     let other = own.unwrap_or(row);
     let unnamed = unnamed_parameter(refused).unwrap_or(other);
     let key = if own.is_some() { "equipment" } else { "label" };
-    refused.say(
-        "{} has label {} and equipment code {}, and there is no such parameter{}\n{}help: this label has a parameter of equipment code \"{}\", in line {}: write that code here, if it is meant\n{}help: no parameter has this label: write another here, if another is meant, or this one in the parameter that is meant for it\n{}note: {} in line {} is named by no stream and no label: it may be the one that is meant\nhelp: or add a parameter, as `[[parameter]]` or as one more row of `parameter = [..]` where that is how they stand, with `label = \"{}\"`, `equipment = \"{}\"`, a `format` of \"bnr\", \"bcd\" or \"disc\", and `min_us` and `max_us`: the least and the greatest time between two of its words, in microseconds (1 to 60000000)",
-        &[
-            Fact::Row(row),
-            Fact::At(row, "label"),
-            Fact::At(row, "equipment"),
-            Fact::Place(row, key),
-            Fact::If(own.is_some()),
-            Fact::At(other, "equipment"),
-            Fact::Line(other, "equipment"),
-            Fact::If(own.is_none()),
-            Fact::If(unnamed != other),
-            Fact::Row(unnamed),
-            Fact::Line(unnamed, "label"),
-            Fact::At(row, "label"),
-            Fact::At(row, "equipment"),
-        ],
+    let at = refused.place(row, key);
+    refused.fill_where(
+        out,
+        "{row} has label {at own label} and equipment code {at own equipment}, and there is no such parameter{here 2}\n{if 0}help: this label has a parameter of equipment code \"{at 0 equipment}\", in line {line 0 equipment}: write that code here, if it is meant\n{if 1}help: no parameter has this label: write another here, if another is meant, or this one in the parameter that is meant for it\n{if 2}note: {row 1} in line {line 1 label} is named by no stream and no label: it may be the one that is meant\nhelp: or add a parameter, as `[[parameter]]` or as one more row of `parameter = [..]` where that is how they stand, with `label = \"{at own label}\"`, `equipment = \"{at own equipment}\"`, a `format` of \"bnr\", \"bcd\" or \"disc\", and `min_us` and `max_us`: the least and the greatest time between two of its words, in microseconds (1 to 60000000)",
+        &[other, unnamed, at],
+        &[],
+        &[own.is_some(), own.is_none(), unnamed != other],
     );
     tell_orphans(
+        out,
         refused,
-        "\nnote: {} in line {} has none either, with label {} and equipment code {}",
+        "\nnote: {row 0} in line {line 0 label} has none either, with label {at 0 label} and equipment code {at 0 equipment}",
     );
     true
 }
@@ -135,7 +121,8 @@ fn other_kind(refused: &Refused<'_>, name: Span) -> &'static str {
 /// The name that may be meant by one that no table has: the only one that may stand in its place, or one that is like it,
 /// with another that is as much like it.
 fn meant<'a>(
-    refused: &mut Refused<'a>,
+    out: &mut Explanation,
+    refused: &Refused<'a>,
     names: &[&'a str],
     name: Span,
 ) -> Option<(&'a str, &'a str)> {
@@ -143,81 +130,81 @@ fn meant<'a>(
         return Some((*only, ""));
     }
     let text = str::from_utf8(refused.layout.piece(name)).unwrap_or("");
-    refused.out.nearest(text, names)
+    out.nearest(text, names)
 }
 
 /// Writes that the table of this name may be meant. It may be renamed where no other list has its name.
-fn tell_meant(refused: &mut Refused<'_>, kind: Kind, name: &str, which: &'static str) {
+fn tell_meant(out: &mut Explanation, refused: &Refused<'_>, kind: Kind, name: &str) {
     let Some(row) = refused.named(kind, name.as_bytes()) else {
         return;
     };
     let is_used = lister(refused, Kind::Label, "sources", 0, name.as_bytes()).is_some();
     let is_own = agree(refused, refused.row, row, "equipment");
     let is_stream = matches!(kind, Kind::Stream);
-    let rename = if is_stream && is_used {
-        ""
-    } else {
-        ", or rename it there"
-    };
-    refused.say(
-        "\nhelp: there is {} {}, in line {}: write its name here, if it is meant{}\n{}note: its equipment code is {}, and that of {} is {}: by another code a label may have another meaning",
+    refused.fill_where(
+        out,
+        "\n{if 0}help: there is {row 0} that no router visits, in line {line 0 name}: write its name here, if it is meant, or rename it there\n{if 1}help: there is {row 0} that is not in this list, in line {line 0 name}: write its name here, if it is meant\n{if 2}help: there is {row 0} that is not in this list, in line {line 0 name}: write its name here, if it is meant, or rename it there\n{if 3}note: its equipment code is {at 0 equipment}, and that of {row} is {at own equipment}: by another code a label may have another meaning",
+        &[row],
+        &[],
         &[
-            Fact::Row(row),
-            Fact::Word(which),
-            Fact::Line(row, "name"),
-            Fact::Word(rename),
-            Fact::If(is_stream && !is_own),
-            Fact::At(row, "equipment"),
-            Fact::Row(refused.row),
-            Fact::At(refused.row, "equipment"),
+            !is_stream,
+            is_stream && is_used,
+            is_stream && !is_used,
+            is_stream && !is_own,
         ],
     );
 }
 
 /// Writes that no table may stand in the place of one that is not there.
-fn tell_none(refused: &mut Refused<'_>, kind: Kind) {
-    let row = refused.row;
-    let own = parameter_of(refused, row).unwrap_or(0);
-    refused.say(
-        "\n{}help: there is no bus that no router visits: take the name out\n{}help: there is no other stream of label {} and format {}, as this label wants them: take the name out",
-        &[
-            Fact::If(matches!(kind, Kind::Bus)),
-            Fact::If(matches!(kind, Kind::Stream)),
-            Fact::At(row, "label"),
-            Fact::At(own, "format"),
-        ],
+fn tell_none(out: &mut Explanation, refused: &Refused<'_>, kind: Kind) {
+    let own = parameter_of(refused, refused.row).unwrap_or(0);
+    let is_bus = matches!(kind, Kind::Bus);
+    refused.fill_where(
+        out,
+        "\n{if 0}help: there is no bus that no router visits: take the name out\n{if 1}help: there is no other stream of label {at own label} and format {at 0 format}, as this label wants them: take the name out",
+        &[own],
+        &[],
+        &[is_bus, !is_bus],
     );
 }
 
 /// Writes which of these names of tables of a kind may stand in the place of one that no table has.
-fn tell_among<'a>(refused: &mut Refused<'a>, kind: Kind, names: &[&'a str], name: Span) {
+fn tell_among<'a>(
+    out: &mut Explanation,
+    refused: &Refused<'a>,
+    kind: Kind,
+    names: &[&'a str],
+    name: Span,
+) {
     if names.is_empty() {
-        return tell_none(refused, kind);
+        return tell_none(out, refused, kind);
     }
-    let which = if matches!(kind, Kind::Bus) {
-        "that no router visits"
+    if let Some((like, other)) = meant(out, refused, names, name) {
+        tell_meant(out, refused, kind, like);
+        return tell_meant(out, refused, kind, other);
+    }
+    let sentence = if matches!(kind, Kind::Bus) {
+        "\nhelp: write one of these, each a bus that no router visits: "
     } else {
-        "that is not in this list"
+        "\nhelp: write one of these, each a stream that is not in this list: "
     };
-    if let Some((like, other)) = meant(refused, names, name) {
-        tell_meant(refused, kind, like, which);
-        return tell_meant(refused, kind, other, which);
-    }
-    let (what, _) = called(kind);
-    refused.say(
-        "\nhelp: write one of these, each a {} {}: ",
-        &[Fact::Word(what), Fact::Word(which)],
-    );
-    refused.out.put(Value::Names(names));
+    refused.fill(out, sentence, &[]);
+    out.put(Value::Names(names));
 }
 
 /// Writes which name may stand in the place of one that no table has.
-fn tell_names(refused: &mut Refused<'_>, key: &'static str, kind: Kind, name: Span) {
+fn tell_names(
+    out: &mut Explanation,
+    refused: &Refused<'_>,
+    key: &'static str,
+    kind: Kind,
+    name: Span,
+) {
     let names = candidates(refused, key, kind);
     if names.is_lost() {
-        refused.out.lose();
+        out.lose();
     }
-    tell_among(refused, kind, names.as_slice(), name);
+    tell_among(out, refused, kind, names.as_slice(), name);
 }
 
 /// The first member of the list at a key of a table that no table of a kind has for its name.
@@ -231,37 +218,38 @@ pub(crate) fn nameless(refused: &Refused<'_>, row: usize, key: &str, kind: Kind)
 }
 
 /// Tells of a member of `visits` or `sources` that no table has for its name.
-pub(crate) fn tell_no_name(refused: &mut Refused<'_>) -> bool {
+pub(crate) fn tell_no_name(out: &mut Explanation, refused: &Refused<'_>) -> bool {
     let is_router = matches!(refused.kind(refused.row), Kind::Router);
-    let (key, kind) = if is_router {
-        ("visits", Kind::Bus)
+    let (key, kind, sentence, addition) = if is_router {
+        (
+            "visits",
+            Kind::Bus,
+            "`visits` of {row} has `{piece 0}`, and there is no bus of this name{here 2}",
+            "\nhelp: or add the bus that is meant, with `name = \"{piece 0}\"`",
+        )
     } else {
-        ("sources", Kind::Stream)
+        (
+            "sources",
+            Kind::Stream,
+            "`sources` of {row} has `{piece 0}`, and there is no stream of this name{here 2}",
+            "\nhelp: or add the stream that is meant, with `name = \"{piece 0}\"`",
+        )
     };
     let Some(member) = nameless(refused, refused.row, key, kind) else {
         return false;
     };
     let name = unquoted(member, refused.layout.text);
-    let (what, _) = called(kind);
     let other = other_kind(refused, name);
-    let is_other = !other.is_empty();
-    refused.say(
-        "`{}` of {} has `{}`, and there is no {} of this name{}\n{}note: `{}` is the name of {}",
-        &[
-            Fact::Word(key),
-            Fact::Row(refused.row),
-            Fact::Piece(name),
-            Fact::Word(what),
-            Fact::Here(member),
-            Fact::If(is_other),
-            Fact::Piece(name),
-            Fact::Word(other),
-        ],
-    );
-    tell_names(refused, key, kind, name);
-    refused.say(
-        "\nhelp: or add the {} that is meant, with `name = \"{}\"`",
-        &[Fact::Word(what), Fact::Piece(name)],
-    );
+    refused.fill(out, sentence, &[name.from, name.to, member.from]);
+    if !other.is_empty() {
+        refused.fill(
+            out,
+            "\nnote: `{piece 0}` is the name of ",
+            &[name.from, name.to],
+        );
+        out.add(other);
+    }
+    tell_names(out, refused, key, kind, name);
+    refused.fill(out, addition, &[name.from, name.to]);
     true
 }

@@ -1,6 +1,7 @@
 //! Intervals that do not go together with one another, or with the tick.
 use crate::related::parameter_of;
-use dc_explain_text::{Fact, Refused, number};
+use dc_explain_text::{Refused, number};
+use dc_tell::Explanation;
 
 /// The shortest tick, in microseconds.
 const SHORTEST: u64 = 100;
@@ -12,46 +13,30 @@ const LONGEST: u64 = 10_000;
 const LONGEST_US: u64 = 60_000_000;
 
 /// Tells that the least interval is over the greatest.
-pub(crate) fn tell_reversed(refused: &mut Refused<'_>) -> bool {
-    let row = refused.row;
-    refused.say(
-        "`min_us` of {} is {}, more than its `max_us` of {}{}\nhelp: mend the one that is mistyped, or exchange the two (line {}): `min_us` is the least time between two words of the label, `max_us` the greatest, both in microseconds",
-        &[
-            Fact::Row(row),
-            Fact::Count(row, "min_us"),
-            Fact::Count(row, "max_us"),
-            Fact::Place(row, "min_us"),
-            Fact::Line(row, "max_us"),
-        ],
+pub(crate) fn tell_reversed(out: &mut Explanation, refused: &Refused<'_>) -> bool {
+    refused.fill(
+        out,
+        "`min_us` of {row} is {count own min_us}, more than its `max_us` of {count own max_us}{place own min_us}\nhelp: mend the one that is mistyped, or exchange the two (line {line own max_us}): `min_us` is the least time between two words of the label, `max_us` the greatest, both in microseconds",
+        &[],
     );
     true
 }
 
 /// Tells of a stream whose words may come within one tick, by its parameter and the least interval of that.
-fn tell_quick(refused: &mut Refused<'_>, parameter: usize, least: u64, tick: u64) {
-    let row = refused.row;
+fn tell_quick(
+    out: &mut Explanation,
+    refused: &Refused<'_>,
+    parameter: usize,
+    least: u64,
+    tick: u64,
+) {
     let millis = least.saturating_mul(1_000);
-    refused.say(
-        "{} may bring a word every {} microseconds, less than one tick: the `min_us` of {} is {}, and `tick_us` is {}{}\nnote: {} is here{}\n{}help: `min_us` counts microseconds: write {}, where {} milliseconds are meant\n{}help: write `tick_us = {}` or less (line {}; {} at least)\nhelp: write a `min_us` of {} or more in this parameter, where its words do come no sooner (no tick is shorter than {} microseconds)",
-        &[
-            Fact::Row(row),
-            Fact::Number(least),
-            Fact::Row(parameter),
-            Fact::Number(least),
-            Fact::Number(tick),
-            Fact::Place(parameter, "min_us"),
-            Fact::Row(row),
-            Fact::Place(row, "label"),
-            Fact::If(least < SHORTEST && tick <= millis),
-            Fact::Number(millis),
-            Fact::Number(least),
-            Fact::If(least >= SHORTEST),
-            Fact::Number(least),
-            Fact::Line(0, "tick_us"),
-            Fact::Number(SHORTEST),
-            Fact::Number(tick),
-            Fact::Number(SHORTEST),
-        ],
+    refused.fill_where(
+        out,
+        "{row} may bring a word every {number 0} microseconds, less than one tick: the `min_us` of {row 0} is {number 0}, and `tick_us` is {number 1}{place 0 min_us}\nnote: {row} is here{place own label}\n{if 0}help: `min_us` counts microseconds: write {number 2}, where {number 0} milliseconds are meant\n{if 1}help: write `tick_us = {number 0}` or less (line {line 1 tick_us}; {number 3} at least)\nhelp: write a `min_us` of {number 1} or more in this parameter, where its words do come no sooner (no tick is shorter than {number 3} microseconds)",
+        &[parameter, 0],
+        &[least, tick, millis, SHORTEST],
+        &[least < SHORTEST && tick <= millis, least >= SHORTEST],
     );
 }
 
@@ -113,71 +98,48 @@ fn sent_apart(refused: &Refused<'_>) -> (u64, u64) {
     (least.saturating_sub(late), greatest.saturating_add(late))
 }
 
-/// Writes which changes leave an interval that the label's own offsets keep, by the intervals of its parameter.
-fn tell_ways(refused: &mut Refused<'_>, parameter: usize, least: u64, greatest: u64, tick: u64) {
+/// Tells of a label that no whole number of ticks serves, by its parameter and the least interval of that, and which changes
+/// leave an interval that the label's own offsets keep.
+fn tell_narrow(
+    out: &mut Explanation,
+    refused: &Refused<'_>,
+    parameter: usize,
+    least: u64,
+    tick: u64,
+) {
+    let greatest = refused.count(parameter, "max_us");
+    let (low, high) = (fewest(least, tick), most(greatest, tick));
     let (soonest, latest) = sent_apart(refused);
     let minimum = soonest.saturating_sub(1).saturating_mul(tick);
     let maximum = latest.saturating_add(1).saturating_mul(tick);
     let longest = longest_tick(least, greatest);
-    refused.say(
-        "\nnote: by its `offsets`, and the `within` of its output, its words may leave {} to {} ticks apart\n{}help: write a `tick_us` of {} or less (line {}), if that is mistyped: all that the tables count in ticks, `within`, `frame`, `offsets`, `stale` and `age`, is then of these\n{}help: write a `min_us` of {} or less (line {}) for that: words may then come and be sent sooner after one another\n{}help: write a `max_us` of {} or more (line {}) for that; this weakens what is promised: words may be further apart\n{}note: no tick serves this label with this `min_us` and `max_us`\nnote: these numbers satisfy this rule alone: `dc429 find TABLES` then tells whether they are enough",
+    refused.fill_where(
+        out,
+        "{row} cannot be sent every {number 0} to {number 1} microseconds, as {row 0} wants, in ticks of {number 2}: it would have at least {number 3} and at most {number 4} ticks between two words{place 0 min_us}\nnote: the fewest are `min_us / tick_us` rounded up, and one more: {number 0} / {number 2} gives {number 3}\nnote: the most are `max_us / tick_us` rounded down, less one: {number 1} / {number 2} gives {number 4}\nnote: {row} is here{place own label}\nnote: by its `offsets`, and the `within` of its output, its words may leave {number 5} to {number 6} ticks apart\n{if 0}help: write a `tick_us` of {number 7} or less (line {line 1 tick_us}), if that is mistyped: all that the tables count in ticks, `within`, `frame`, `offsets`, `stale` and `age`, is then of these\n{if 1}help: write a `min_us` of {number 8} or less (line {line 0 min_us}) for that: words may then come and be sent sooner after one another\n{if 2}help: write a `max_us` of {number 9} or more (line {line 0 max_us}) for that; this weakens what is promised: words may be further apart\n{if 3}note: no tick serves this label with this `min_us` and `max_us`\nnote: these numbers satisfy this rule alone: `dc429 find TABLES` then tells whether they are enough",
+        &[parameter, 0],
         &[
-            Fact::Number(soonest),
-            Fact::Number(latest),
-            Fact::If(longest != 0),
-            Fact::Number(longest),
-            Fact::Line(0, "tick_us"),
-            Fact::If(least > minimum && minimum >= 1),
-            Fact::Number(minimum),
-            Fact::Line(parameter, "min_us"),
-            Fact::If(greatest < maximum && maximum <= LONGEST_US),
-            Fact::Number(maximum),
-            Fact::Line(parameter, "max_us"),
-            Fact::If(longest == 0),
+            least, greatest, tick, low, high, soonest, latest, longest, minimum, maximum,
+        ],
+        &[
+            longest != 0,
+            least > minimum && minimum >= 1,
+            greatest < maximum && maximum <= LONGEST_US,
+            longest == 0,
         ],
     );
-}
-
-/// Tells of a label that no whole number of ticks serves, by its parameter and the least interval of that.
-fn tell_narrow(refused: &mut Refused<'_>, parameter: usize, least: u64, tick: u64) {
-    let row = refused.row;
-    let greatest = refused.count(parameter, "max_us");
-    let (low, high) = (fewest(least, tick), most(greatest, tick));
-    refused.say(
-        "{} cannot be sent every {} to {} microseconds, as {} wants, in ticks of {}: it would have at least {} and at most {} ticks between two words{}\nnote: the fewest are `min_us / tick_us` rounded up, and one more: {} / {} gives {}\nnote: the most are `max_us / tick_us` rounded down, less one: {} / {} gives {}\nnote: {} is here{}",
-        &[
-            Fact::Row(row),
-            Fact::Number(least),
-            Fact::Number(greatest),
-            Fact::Row(parameter),
-            Fact::Number(tick),
-            Fact::Number(low),
-            Fact::Number(high),
-            Fact::Place(parameter, "min_us"),
-            Fact::Number(least),
-            Fact::Number(tick),
-            Fact::Number(low),
-            Fact::Number(greatest),
-            Fact::Number(tick),
-            Fact::Number(high),
-            Fact::Row(row),
-            Fact::Place(row, "label"),
-        ],
-    );
-    tell_ways(refused, parameter, least, greatest, tick);
 }
 
 /// Tells of a stream or a label by its parameter, where it has one.
-pub(crate) fn tell_interval(refused: &mut Refused<'_>, is_stream: bool) -> bool {
+pub(crate) fn tell_interval(out: &mut Explanation, refused: &Refused<'_>, is_stream: bool) -> bool {
     let Some(parameter) = parameter_of(refused, refused.row) else {
         return false;
     };
     let least = refused.count(parameter, "min_us");
     let tick = refused.count(0, "tick_us");
     if is_stream {
-        tell_quick(refused, parameter, least, tick);
+        tell_quick(out, refused, parameter, least, tick);
     } else {
-        tell_narrow(refused, parameter, least, tick);
+        tell_narrow(out, refused, parameter, least, tick);
     }
     true
 }

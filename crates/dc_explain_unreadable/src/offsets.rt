@@ -1,6 +1,6 @@
 //! Offsets past the frame, or that two entries have.
-use dc_explain_text::{Fact, Refused, number};
-use dc_tell::{Kind, Span};
+use dc_explain_text::{Refused, number};
+use dc_tell::{Explanation, Kind, Span};
 
 /// The first offset of the label with the fault that is not below a frame, and where it stands.
 fn past(refused: &Refused<'_>, frame: u64) -> Option<(Span, u64)> {
@@ -39,7 +39,7 @@ fn free(refused: &Refused<'_>, output: usize, frame: u64) -> u64 {
 }
 
 /// Tells of an offset that is not below the frame of its output.
-pub(crate) fn tell_offset(refused: &mut Refused<'_>) -> bool {
+pub(crate) fn tell_offset(out: &mut Explanation, refused: &Refused<'_>) -> bool {
     let output = refused.parent(refused.row);
     let frame = refused.count(output, "frame");
     let Some((member, offset)) = past(refused, frame) else {
@@ -48,21 +48,12 @@ pub(crate) fn tell_offset(refused: &mut Refused<'_>) -> bool {
     let at = free(refused, output, frame);
     let last = frame.saturating_sub(1);
     let longer = offset.saturating_add(1);
-    refused.say(
-        "`offsets` of {} has {}, and the ticks of the frame of {} are counted from 0 to {}, by its `frame` of {}{}\nhelp: write an offset of 0 to {} that no entry of this output has\n{}note: the first that is free is {}\nhelp: or a `frame` of {} or more, up to 100000 (line {}); this weakens what is promised: all labels of this output are then sent less often, and may break rules that they keep now",
-        &[
-            Fact::Row(refused.row),
-            Fact::Number(offset),
-            Fact::Row(output),
-            Fact::Number(last),
-            Fact::Number(frame),
-            Fact::Here(member),
-            Fact::Number(last),
-            Fact::If(at < frame),
-            Fact::Number(at),
-            Fact::Number(longer),
-            Fact::Line(output, "frame"),
-        ],
+    refused.fill_where(
+        out,
+        "`offsets` of {row} has {number 0}, and the ticks of the frame of {row 0} are counted from 0 to {number 1}, by its `frame` of {number 2}{here 1}\nhelp: write an offset of 0 to {number 1} that no entry of this output has\n{if 0}note: the first that is free is {number 3}\nhelp: or a `frame` of {number 4} or more, up to 100000 (line {line 0 frame}); this weakens what is promised: all labels of this output are then sent less often, and may break rules that they keep now",
+        &[output, member.from],
+        &[offset, last, frame, at, longer],
+        &[at < frame],
     );
     true
 }
@@ -82,29 +73,19 @@ fn doubled(refused: &Refused<'_>, output: usize) -> Option<(u64, Span, usize)> {
 }
 
 /// Tells of two entries of an output that have one offset.
-pub(crate) fn tell_offset_twice(refused: &mut Refused<'_>) -> bool {
+pub(crate) fn tell_offset_twice(out: &mut Explanation, refused: &Refused<'_>) -> bool {
     let output = refused.parent(refused.row);
     let Some((offset, member, holder)) = doubled(refused, output) else {
         return false;
     };
     let frame = refused.count(output, "frame");
     let at = free(refused, output, frame);
-    refused.say(
-        "`offsets` of {} has {}, where in {} there is an entry already, of {} in line {}{}\n{}help: move one of the two, to a free offset near it, since C08 and C09 judge the gaps; the first that is free in this output is {}\n{}help: or take one of the two out, if the label is due there once\n{}help: each of the {} ticks of this frame has an entry: take one out, or write a longer `frame` (line {}); both weaken what is promised: labels are then sent less often",
-        &[
-            Fact::Row(refused.row),
-            Fact::Number(offset),
-            Fact::Row(output),
-            Fact::Row(holder),
-            Fact::Line(holder, "offsets"),
-            Fact::Here(member),
-            Fact::If(at < frame),
-            Fact::Number(at),
-            Fact::If(at < frame && holder == refused.row),
-            Fact::If(at >= frame),
-            Fact::Number(frame),
-            Fact::Line(output, "frame"),
-        ],
+    refused.fill_where(
+        out,
+        "`offsets` of {row} has {number 0}, where in {row 0} there is an entry already, of {row 1} in line {line 1 offsets}{here 2}\n{if 0}help: move one of the two, to a free offset near it, since C08 and C09 judge the gaps; the first that is free in this output is {number 1}\n{if 1}help: or take one of the two out, if the label is due there once\n{if 2}help: each of the {number 2} ticks of this frame has an entry: take one out, or write a longer `frame` (line {line 0 frame}); both weaken what is promised: labels are then sent less often",
+        &[output, holder, member.from],
+        &[offset, at, frame],
+        &[at < frame, at < frame && holder == refused.row, at >= frame],
     );
     true
 }

@@ -2,8 +2,8 @@
 use crate::names::nameless;
 use crate::related::{agree, member};
 use dc_document::TableRule;
-use dc_explain_text::{Fact, Refused};
-use dc_tell::{Kind, Span};
+use dc_explain_text::Refused;
+use dc_tell::{Explanation, Kind, Span};
 
 /// Whether two streams of one bus have an SDI in common.
 fn share_sdi(refused: &Refused<'_>, one: usize, other: usize) -> bool {
@@ -41,46 +41,46 @@ fn twin_of(refused: &Refused<'_>, rule: TableRule) -> Option<usize> {
     None
 }
 
-/// What is told of twins, by their rule: what they have in common, at which key that is shown, and what is to be done.
-static TWINS: [(TableRule, &'static str, &'static str, &'static str); 4] = [
+/// What is told of twins, by their rule: what they have in common, where that is, and what is to be done.
+static TWINS: [(TableRule, &'static str); 4] = [
     (
         TableRule::ParameterDoubled,
-        "{} stands there twice",
-        "label",
-        "{}\nnote: {} is here{}\nhelp: write one `[[parameter]]` for each label with its equipment code: mend the `label` or the `equipment` of one, here or in line {}, or take one of the two out",
+        "{row} stands there twice{place own label}\nnote: {row 0} is here{place 0 label}\nhelp: write one `[[parameter]]` for each label with its equipment code: mend the `label` or the `equipment` of one, here or in line {line 0 label}, or take one of the two out",
     ),
     (
         TableRule::NameDoubled,
-        "{} stands there twice",
-        "name",
-        "{}\nnote: {} is here{}\nhelp: give one of the two another name, here or in line {}, and write it wherever that one is meant; a name is unique in the whole file among the tables of its kind",
+        "{row} stands there twice{place own name}\nnote: {row 0} is here{place 0 name}\nhelp: give one of the two another name, here or in line {line 0 name}, and write it wherever that one is meant; a name is unique in the whole file among the tables of its kind",
     ),
     (
         TableRule::StreamsOverlap,
-        "{} and {} of {} both have label {}, with SDI {} and {}: a word could belong to both",
-        "sdi",
-        "{}\nnote: {} is here{}\nhelp: give each an SDI of its own from 0 to 3 (\"any\" is all four), here and in line {}, or mend the `label` of one",
+        "{row} and {row 0} of {row 1} both have label {at own label}, with SDI {at own sdi} and {at 0 sdi}: a word could belong to both{place own sdi}\nnote: {row 0} is here{place 0 sdi}\nhelp: give each an SDI of its own from 0 to 3 (\"any\" is all four), here and in line {line 0 sdi}, or mend the `label` of one",
     ),
     (
         TableRule::LabelDoubled,
-        "{} and {} of {} both have label {}, with SDI {} and {}: receivers could not tell them apart",
-        "sdi",
-        "{}\nnote: {} is here{}\nhelp: give one of the two another SDI (0 to 3), here or in line {}, put it into another output, or make one label of both, with the sources in their priority",
+        "{row} and {row 0} of {row 1} both have label {at own label}, with SDI {at own sdi} and {at 0 sdi}: receivers could not tell them apart{place own sdi}\nnote: {row 0} is here{place 0 sdi}\nhelp: give one of the two another SDI (0 to 3), here or in line {line 0 sdi}, put it into another output, or make one label of both, with the sources in their priority",
     ),
 ];
 
-/// What is told of twins by a rule, as it stands in [`TWINS`].
-fn texts_of(rule: TableRule) -> (&'static str, &'static str, &'static str) {
-    for (own, sentence, key, todo) in &TWINS {
+/// What is told of twins by a rule.
+fn text_of(rule: TableRule) -> &'static str {
+    for (own, sentence) in &TWINS {
         if *own == rule {
-            return (sentence, key, todo);
+            return sentence;
         }
     }
-    ("", "", "")
+    ""
 }
 
+/// What is told of a router that visits a bus of a name that stands there twice, or one that is not there.
+const VISITED: &str =
+    "\n{if 0}note: `visits` of {row 0} has this name, in line {line 0 visits}: see which of the two it means\n{if 1}note: `visits` of {row 0} has {piece 1}, in line {line 0 visits}, which no table has for its name: one of the two may be meant";
+
+/// What is told of a label with a source of a name that stands there twice, or one that is not there.
+const SOURCES: &str =
+    "\n{if 0}note: `sources` of {row 0} has this name, in line {line 0 sources}: see which of the two it means\n{if 1}note: `sources` of {row 0} has {piece 1}, in line {line 0 sources}, which no table has for its name: one of the two may be meant";
+
 /// Writes which tables have a name in their list, and which have one that no table has: one of the twins may be meant.
-fn tell_users(refused: &mut Refused<'_>, kind: Kind, key: &'static str) {
+fn tell_users(out: &mut Explanation, refused: &Refused<'_>, kind: Kind, key: &str, sentence: &str) {
     let name = refused.layout.value(refused.row, "name");
     let own = refused.kind(refused.row);
     for row in 0..refused.layout.rows.len() {
@@ -91,56 +91,29 @@ fn tell_users(refused: &mut Refused<'_>, kind: Kind, key: &'static str) {
         let other = nameless(refused, row, key, own);
         let is_other = other.is_some();
         let piece = other.unwrap_or(Span { from: 0, to: 0 });
-        refused.say(
-            "\n{}note: `{}` of {} has this name, in line {}: see which of the two it means\n{}note: `{}` of {} has {}, in line {}, which no table has for its name: one of the two may be meant",
-            &[
-                Fact::If(is_user),
-                Fact::Word(key),
-                Fact::Row(row),
-                Fact::Line(row, key),
-                Fact::If(is_other),
-                Fact::Word(key),
-                Fact::Row(row),
-                Fact::Piece(piece),
-                Fact::Line(row, key),
-            ],
+        refused.fill_where(
+            out,
+            sentence,
+            &[row, piece.from, piece.to],
+            &[],
+            &[is_user, is_other],
         );
     }
 }
 
 /// Tells of a table that is a twin of an earlier one.
-pub(crate) fn tell_twin(refused: &mut Refused<'_>, rule: TableRule) -> bool {
+pub(crate) fn tell_twin(out: &mut Explanation, refused: &Refused<'_>, rule: TableRule) -> bool {
     let row = refused.row;
     let Some(twin) = twin_of(refused, rule) else {
         return false;
     };
-    let (sentence, key, todo) = texts_of(rule);
     let parent = refused.parent(row);
-    refused.say(
-        sentence,
-        &[
-            Fact::Row(row),
-            Fact::Row(twin),
-            Fact::Row(parent),
-            Fact::At(row, "label"),
-            Fact::At(row, "sdi"),
-            Fact::At(twin, "sdi"),
-        ],
-    );
-    refused.say(
-        todo,
-        &[
-            Fact::Place(row, key),
-            Fact::Row(twin),
-            Fact::Place(twin, key),
-            Fact::Line(twin, key),
-        ],
-    );
+    refused.fill(out, text_of(rule), &[twin, parent]);
     let kind = refused.kind(row);
     match kind {
-        Kind::Bus => tell_users(refused, Kind::Router, "visits"),
+        Kind::Bus => tell_users(out, refused, Kind::Router, "visits", VISITED),
         Kind::Stream if matches!(rule, TableRule::NameDoubled) => {
-            tell_users(refused, Kind::Label, "sources")
+            tell_users(out, refused, Kind::Label, "sources", SOURCES)
         }
         _ => {}
     }
@@ -161,17 +134,14 @@ fn doubled(refused: &Refused<'_>) -> Option<Span> {
 }
 
 /// Tells of a source that stands twice in a label.
-pub(crate) fn tell_source_twice(refused: &mut Refused<'_>) -> bool {
+pub(crate) fn tell_source_twice(out: &mut Explanation, refused: &Refused<'_>) -> bool {
     let Some(twice) = doubled(refused) else {
         return false;
     };
-    refused.say(
-        "`sources` of {} has {} twice{}\nhelp: name each stream once, where its priority is: the first is preferred",
-        &[
-            Fact::Row(refused.row),
-            Fact::Piece(twice),
-            Fact::Here(twice),
-        ],
+    refused.fill(
+        out,
+        "`sources` of {row} has {piece 0} twice{here 0}\nhelp: name each stream once, where its priority is: the first is preferred",
+        &[twice.from, twice.to],
     );
     true
 }
