@@ -10,7 +10,7 @@ use dc_tell::Explanation;
 use dc_tell::Value::{Number, Text};
 
 /// Tells what an audit found wanting, at the line that it names.
-pub(crate) fn tell_failing(out: &mut Explanation, ran: &Ran<'_>, line: Line<'_>, tables: &Tables) {
+pub(crate) fn tell_failing(out: &mut Explanation, ran: &Ran<'_>, line: &Line<'_>, tables: &Tables) {
     let verb = word(ran.line, 0);
     if verb == "budgets" && tell_budget(out, ran, line, tables) {
         return;
@@ -29,16 +29,13 @@ pub(crate) fn tell_failing(out: &mut Explanation, ran: &Ran<'_>, line: Line<'_>,
 }
 
 /// Says that nothing was tested, where an audit found nothing wanting in a trace that is empty.
-pub(crate) fn explain_empty(ran: &Ran<'_>) -> Option<String> {
+pub(crate) fn tell_empty(out: &mut Explanation, ran: &Ran<'_>) {
     let input = ran.input;
     let is_empty = input.text.is_empty() && input.before.lines == 0 && !input.is_cut;
-    if !ran.task.is_audit || !is_empty {
-        return None;
+    if ran.task.is_audit && is_empty {
+        out.say(
+            "note: the trace is empty, so nothing was tested: silence is always allowed",
+            &[],
+        );
     }
-    let mut out = Explanation::new(ran.alloc);
-    out.say(
-        "note: the trace is empty, so nothing was tested: silence is always allowed",
-        &[],
-    );
-    out.finish()
 }

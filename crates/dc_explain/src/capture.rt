@@ -1,6 +1,6 @@
 //! Lines of a capture that can't be read, and what a survey found wanting.
 use crate::lines::Line;
-use crate::plain::{explain_plainly, tell_meaning};
+use crate::plain::{tell_meaning, tell_plainly};
 use crate::ran::Ran;
 use crate::trace::field;
 use crate::words::tell_no_word;
@@ -8,7 +8,7 @@ use dc_codes::Kind;
 use dc_tell::Explanation;
 
 /// Tells why a line of a capture says no word, by the code of its fault: by what that means, but where its word is none.
-pub(crate) fn tell_captured(out: &mut Explanation, code: &str, line: Line<'_>) {
+pub(crate) fn tell_captured(out: &mut Explanation, code: &str, line: &Line<'_>) {
     let number = match code {
         "E5" => 2usize,
         "E4" => 1usize,
@@ -21,14 +21,14 @@ pub(crate) fn tell_captured(out: &mut Explanation, code: &str, line: Line<'_>) {
     tell_meaning(out, Kind::Capture, code, line, at)
 }
 
-/// Explains what a survey found broken, or early, as far as its lines were kept.
-pub(crate) fn explain_surveyed(ran: &Ran<'_>) -> Option<String> {
+/// Tells what a survey found broken, or early, as far as its lines were kept.
+pub(crate) fn tell_surveyed(out: &mut Explanation, ran: &Ran<'_>) {
     let code = if ran.said.contains(" broken at ") {
         "broken"
     } else if ran.said.contains(" early at ") {
         "early"
     } else {
-        return None;
+        return;
     };
-    explain_plainly(ran.alloc, Kind::Survey, code)
+    tell_plainly(out, Kind::Survey, code);
 }

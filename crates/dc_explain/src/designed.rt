@@ -58,16 +58,14 @@ fn tell_like(alloc: Global, out: &mut Explanation, name: &str, sheet: &[u8]) {
 
 /// Repeats the lines that were written, which say by rows and columns what to do and mostly go to a file, where they are
 /// not seen already, and tells which stream may be meant by one that is not there.
-pub(crate) fn repeat_lines(ran: &Ran<'_>) -> Option<String> {
-    let mut out = Explanation::new(ran.alloc);
+pub(crate) fn repeat_lines(out: &mut Explanation, ran: &Ran<'_>) {
     for line in ran.said.lines() {
         if !ran.is_seen {
             out.end_line();
             out.add(line);
         }
         if let Some(name) = missing_in(line) {
-            tell_like(ran.alloc, &mut out, name, ran.first.text.as_slice());
+            tell_like(ran.alloc, out, name, ran.first.text.as_slice());
         }
     }
-    out.finish()
 }

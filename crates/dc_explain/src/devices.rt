@@ -50,10 +50,11 @@ fn tell_cause(out: &mut Explanation, name: &str, wanted: &str, cause: &str, kind
         out.note("this was to be {}", &[Text(wanted)]);
     }
     out.help("{}", &[Text(mend_of(kind))]);
-    if wanted == CERTIFICATE && kind == ErrorKind::NotFound {
+    let is_absent = kind == ErrorKind::NotFound;
+    if is_absent && wanted == CERTIFICATE {
         out.help("or let `dc429 find TABLES > FILE` write one", &[]);
     }
-    if wanted == OBSERVED && kind == ErrorKind::NotFound {
+    if is_absent && wanted == OBSERVED {
         out.help(
             "or let `dc429 observe TABLES CERT < TRACE > FILE` write them",
             &[],
@@ -61,18 +62,16 @@ fn tell_cause(out: &mut Explanation, name: &str, wanted: &str, cause: &str, kind
     }
 }
 
-/// Explains that a call on what has this name failed, and what was wanted of it.
-fn explain_cause(alloc: Global, name: &str, wanted: &str, error: Error) -> Option<String> {
-    let mut out = Explanation::new(alloc);
+/// Tells that a call on what has this name failed, and what was wanted of it.
+fn tell_error(out: &mut Explanation, alloc: Global, name: &str, wanted: &str, error: Error) {
     match format!(in alloc; "{error}") {
-        Ok(cause) => tell_cause(&mut out, name, wanted, cause.as_str(), error.kind()),
+        Ok(cause) => tell_cause(out, name, wanted, cause.as_str(), error.kind()),
         Err(_) => out.lose(),
     }
-    out.finish()
 }
 
-/// Explains that a call on a file or a device failed.
-fn explain_device(ran: &Ran<'_>) -> Option<String> {
+/// Tells that a call on a file or a device failed. Whether one did.
+fn tell_device(out: &mut Explanation, ran: &Ran<'_>) -> bool {
     let (names, wanted) = (ran.names, ran.task.wanted);
     let places: [(&str, &str, &Kept); 5] = [
         (names.0, wanted.0, ran.first),
@@ -83,14 +82,15 @@ fn explain_device(ran: &Ran<'_>) -> Option<String> {
     ];
     for (name, wanted, kept) in places.iter() {
         if let Some(error) = kept.cause {
-            return explain_cause(ran.alloc, name, wanted, error);
+            tell_error(out, ran.alloc, name, wanted, error);
+            return true;
         }
     }
-    None
+    false
 }
 
-/// Explains what kept the program from its work, by the word that it wrote.
-pub(crate) fn explain_failure(ran: &Ran<'_>, word: &str) -> Option<String> {
+/// Tells what kept the program from its work, by the word that it wrote. Whether that is known.
+pub(crate) fn tell_failure(out: &mut Explanation, ran: &Ran<'_>, word: &str) -> bool {
     let (what, mend) = match word {
         "memory" => (
             "memory was refused",
@@ -100,11 +100,10 @@ pub(crate) fn explain_failure(ran: &Ran<'_>, word: &str) -> Option<String> {
             "a thread could not be started",
             "fewer `--workers`, or none: the verdict is the same; or a higher limit of threads, as by `ulimit -u`",
         ),
-        _ => return explain_device(ran),
+        _ => return tell_device(out, ran),
     };
-    let mut out = Explanation::new(ran.alloc);
     out.begin("");
     out.say(what, &[]);
     out.help(mend, &[]);
-    out.finish()
+    true
 }

@@ -1,11 +1,11 @@
 //! Lines that can't be read, and events that were refused.
 use crate::audits::tell_failing;
 use crate::capture::tell_captured;
-use crate::judged::explain_by_tables;
+use crate::judged::tell_by_tables;
 use crate::lines::{INPUT, Line, line_of};
 use crate::observed::tell_observed;
 use crate::output::{last_number, word};
-use crate::plain::{explain_plainly, or_plainly};
+use crate::plain::tell_plainly;
 use crate::ran::Ran;
 use crate::steps::tell_step;
 use crate::trace::tell_event;
@@ -20,40 +20,39 @@ fn code_of<'a>(line: &'a str, kind: Kind) -> &'a str {
     word(line, number)
 }
 
-/// Explains what is wrong at an event of a trace, or at a line of `observe`, by the tables.
-pub(crate) fn explain_event(
+/// Tells what is wrong at an event of a trace, or at a line of `observe`, by the tables.
+pub(crate) fn tell_event_of(
+    out: &mut Explanation,
     ran: &Ran<'_>,
     kind: Kind,
-    line: Line<'_>,
+    line: &Line<'_>,
     tables: &Tables,
-) -> Option<String> {
+) -> bool {
     let code = code_of(ran.line, kind);
-    let mut out = Explanation::new(ran.alloc);
     out.begin(code);
     if kind == Kind::Trace {
-        tell_event(&mut out, ran, code, line, tables);
+        tell_event(out, ran, code, line, tables);
     } else if kind == Kind::Observed {
-        tell_observed(&mut out, code, line, tables);
+        tell_observed(out, code, line, tables);
     } else if kind == Kind::Step {
-        tell_step(&mut out, ran, line, tables);
+        tell_step(out, ran, line, tables);
     } else {
-        tell_failing(&mut out, ran, line, tables);
+        tell_failing(out, ran, line, tables);
     }
-    out.finish()
+    true
 }
 
-/// Explains what is wrong at a line that is no event, by the code of its fault.
-fn explain_word(ran: &Ran<'_>, code: &str, line: Line<'_>, kind: Kind) -> Option<String> {
-    let mut out = Explanation::new(ran.alloc);
+/// Tells what is wrong at a line that is no event, by the code of its fault.
+fn tell_word(out: &mut Explanation, code: &str, line: &Line<'_>, kind: Kind) {
     out.begin(code);
-    if !tell_shape(&mut out, code, line, "word") {
-        if kind == Kind::Decoded {
-            tell_no_word(&mut out, line, 0);
-        } else {
-            tell_captured(&mut out, code, line);
-        }
+    if tell_shape(out, code, line, "word") {
+        return;
     }
-    out.finish()
+    if kind == Kind::Decoded {
+        tell_no_word(out, line, 0);
+    } else {
+        tell_captured(out, code, line);
+    }
 }
 
 /// The line that was refused, by what its code is a code of: one of the third file, or of standard input.
@@ -65,15 +64,17 @@ fn refused_line<'a>(ran: &Ran<'a>, kind: Kind) -> Option<Line<'a>> {
     line_of(INPUT, ran.input, number)
 }
 
-/// Explains what is wrong at a line, by what its code is a code of.
-pub(crate) fn explain_line(ran: &Ran<'_>, kind: Kind) -> Option<String> {
+/// Tells what is wrong at a line, by what its code is a code of.
+pub(crate) fn tell_line(out: &mut Explanation, ran: &Ran<'_>, kind: Kind) {
     let code = code_of(ran.line, kind);
     let Some(line) = refused_line(ran, kind) else {
-        return explain_plainly(ran.alloc, kind, code);
+        tell_plainly(out, kind, code);
+        return;
     };
     if kind == Kind::Decoded || kind == Kind::Capture {
-        return explain_word(ran, code, line, kind);
+        return tell_word(out, code, &line, kind);
     }
-    let told = explain_by_tables(ran, kind, line);
-    or_plainly(told, ran.alloc, kind, code)
+    if !tell_by_tables(out, ran, kind, &line) {
+        tell_plainly(out, kind, code);
+    }
 }

@@ -242,7 +242,8 @@ fn tell_fit(out: &mut Explanation, fit: &Fit<'_>, is_soon: bool) {
 
 /// Tells the numbers of a stream, by the tables of the sender and of the receiver.
 fn tell_both<'a>(
-    refused: &mut Refused<'a>,
+    out: &mut Explanation,
+    refused: &Refused<'a>,
     sender: &Refused<'a>,
     receiver: File<'a>,
     stream: &str,
@@ -255,7 +256,7 @@ fn tell_both<'a>(
     };
     match fit {
         Some(fit) => {
-            tell_fit(&mut refused.out, &fit, is_soon);
+            tell_fit(out, &fit, is_soon);
             true
         }
         None => false,
@@ -285,7 +286,8 @@ fn tables_at<'a>(refused: &Refused<'a>, ran: &Ran<'a>, key: &str) -> Option<File
 /// Tells by which numbers of the tables at its ends a link may bring words too soon or too late to a stream; false where
 /// these were not kept.
 pub(crate) fn tell_numbers<'a>(
-    refused: &mut Refused<'a>,
+    out: &mut Explanation,
+    refused: &Refused<'a>,
     ran: &Ran<'a>,
     code: &str,
     stream: &str,
@@ -297,7 +299,7 @@ pub(crate) fn tell_numbers<'a>(
         return false;
     };
     match refused_of(refused.alloc, sender, Kind::Top, true) {
-        Some(sender) => tell_both(refused, &sender, receiver, stream, code == "N18"),
+        Some(sender) => tell_both(out, refused, &sender, receiver, stream, code == "N18"),
         None => false,
     }
 }

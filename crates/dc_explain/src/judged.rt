@@ -1,8 +1,8 @@
 //! Tables and certificates: those that can't be read, and those that were judged and refused.
-use crate::faults::explain_event;
+use crate::faults::tell_event_of;
 use crate::lines::{Line, NO_LINE};
 use crate::output::word;
-use crate::plain::or_plainly;
+use crate::plain::{repeat, tell_plainly};
 use crate::ran::Ran;
 use dc_build::read_tables;
 use dc_codes::Kind;
@@ -10,55 +10,62 @@ use dc_document::BuildError;
 use dc_explain_unreadable::{explain_no_certificate, explain_tables};
 use dc_explain_verdict::{Files, explain_find, explain_text};
 use dc_tables::Tables;
+use dc_tell::Explanation;
 
-/// Explains a certificate that was refused, or tables that have none.
-fn explain_verdict_of(ran: &Ran<'_>, tables: &Tables) -> Option<String> {
+/// Tells by the tables what is of such a code, where there is something to tell: a certificate that was refused, or tables
+/// that have none; a line. Nothing where the code says that they can't be read.
+fn tell_by(
+    out: &mut Explanation,
+    ran: &Ran<'_>,
+    kind: Kind,
+    line: &Line<'_>,
+    tables: &Tables,
+) -> bool {
+    if kind == Kind::Table {
+        return false;
+    }
+    if kind != Kind::Condition {
+        return tell_event_of(out, ran, kind, line, tables);
+    }
     let (first, second) = ran.files();
     if ran.task.is_found {
-        return explain_find(ran.alloc, tables, first);
+        return repeat(out, explain_find(ran.alloc, tables, first));
     }
     let files = Files {
         tables: first,
         certificate: second,
     };
-    explain_text(ran.alloc, tables, files)
+    repeat(out, explain_text(ran.alloc, tables, files))
 }
 
-/// Explains by the tables what is of such a code: nothing where that says that they can't be read.
-fn explain_by(ran: &Ran<'_>, kind: Kind, line: Line<'_>, tables: &Tables) -> Option<String> {
-    if kind == Kind::Table {
-        return None;
-    }
-    if kind == Kind::Condition {
-        return explain_verdict_of(ran, tables);
-    }
-    explain_event(ran, kind, line, tables)
-}
-
-/// Reads the tables again, and explains what is of such a code: by them, or why they can't be read. The one function that
+/// Reads the tables again, and tells what is of such a code: by them, or why they can't be read. The one function that
 /// holds them: what drops them is proved once.
-pub(crate) fn explain_by_tables(ran: &Ran<'_>, kind: Kind, line: Line<'_>) -> Option<String> {
+pub(crate) fn tell_by_tables(
+    out: &mut Explanation,
+    ran: &Ran<'_>,
+    kind: Kind,
+    line: &Line<'_>,
+) -> bool {
     let (file, _) = ran.files();
     match read_tables(ran.alloc, file.text) {
-        Ok(tables) => explain_by(ran, kind, line, &tables),
-        Err(BuildError::Refused(fault)) => explain_tables(ran.alloc, file, fault),
-        Err(_) => None,
+        Ok(tables) => tell_by(out, ran, kind, line, &tables),
+        Err(BuildError::Refused(fault)) => repeat(out, explain_tables(ran.alloc, file, fault)),
+        Err(_) => false,
     }
 }
 
-/// Explains tables or a certificate: that can't be read, or that were judged and refused.
-pub(crate) fn explain_files(ran: &Ran<'_>) -> Option<String> {
+/// Tells of tables or of a certificate: that can't be read, or that were judged and refused. Whether there was something.
+pub(crate) fn tell_files(out: &mut Explanation, ran: &Ran<'_>) -> bool {
     let code = word(ran.line, 1);
     // (where answers are objects the word stands behind a brace)
     if !word(ran.line, 0).ends_with("unreadable") {
-        let told = explain_by_tables(ran, Kind::Condition, NO_LINE);
-        return or_plainly(told, ran.alloc, Kind::Condition, code);
+        return tell_by_tables(out, ran, Kind::Condition, &NO_LINE)
+            || tell_plainly(out, Kind::Condition, code);
     }
     if code.as_bytes().starts_with(b"K") {
         let (_, certificate) = ran.files();
-        let told = explain_no_certificate(ran.alloc, certificate);
-        return or_plainly(told, ran.alloc, Kind::Certificate, code);
+        return repeat(out, explain_no_certificate(ran.alloc, certificate))
+            || tell_plainly(out, Kind::Certificate, code);
     }
-    let told = explain_by_tables(ran, Kind::Table, NO_LINE);
-    or_plainly(told, ran.alloc, Kind::Table, code)
+    tell_by_tables(out, ran, Kind::Table, &NO_LINE) || tell_plainly(out, Kind::Table, code)
 }

@@ -40,7 +40,7 @@ fn holes_in(sentence: &str) -> usize {
 
 impl<'a> Line<'a> {
     /// Writes where the line has what was told, behind so many of its bytes.
-    pub(crate) fn show(self, out: &mut Explanation, offset: usize) {
+    pub(crate) fn show(&self, out: &mut Explanation, offset: usize) {
         let before = self.bytes.get(..offset).unwrap_or(b"");
         let column = match str::from_utf8(before) {
             Ok(_) => place_at(before, offset).column,
@@ -53,7 +53,7 @@ impl<'a> Line<'a> {
     /// and the further lines of the sentence, each of what is to be done, or behind `note: ` of what is to be known. Each
     /// `{}` is a hole for the next of these values.
     pub(crate) fn tell(
-        self,
+        &self,
         out: &mut Explanation,
         offset: usize,
         sentence: &str,
@@ -121,7 +121,7 @@ type Events = (Option<u64>, Option<u64>);
 /// The events of this letter and name before a line, and how many of them stand from a tick on.
 pub(crate) fn events_before(
     kept: &Kept,
-    line: Line<'_>,
+    line: &Line<'_>,
     tick: u64,
     letter: &[u8],
     name: &[u8],

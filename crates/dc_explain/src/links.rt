@@ -4,44 +4,43 @@ use crate::fits::tell_numbers;
 use crate::output::{index_in, word};
 use crate::ran::Ran;
 use dc_codes::{Kind as Sort, meaning_of};
-use dc_explain_text::{Fact, Refused};
+use dc_explain_text::Refused;
 use dc_explain_unreadable::refused_of;
-use dc_tell::Kind;
 use dc_tell::Value::Text;
+use dc_tell::{Explanation, Kind};
 
-/// What is told of a link, by the code of its fault, before the name of a stream and behind it: the first has holes for
-/// its output and the concentrator of that, the last for its bus, the concentrator of that and the place, and where its times
-/// do not fit by how much its latency varies, and for what that is too much.
+/// What is told of a link, by the code of its fault, before the name of a stream and behind it: by the places of the names of
+/// its output, of the concentrator of that, of its bus and of the concentrator of that, and by how much its latency varies.
 static TEXTS: [(&'static str, &'static str, &'static str); 6] = [
     (
         "N14",
-        "there is no output `{}` of concentrator `{}`, ",
-        "or no bus `{}` of concentrator `{}`{}",
+        "{row}: there is no output `{piece 0}` of concentrator `{piece 2}`, ",
+        "or no bus `{piece 4}` of concentrator `{piece 6}`{place own }",
     ),
     (
         "N15",
-        "output `{}` of concentrator `{}` has another speed ",
-        "than bus `{}` of concentrator `{}`, which it feeds{}",
+        "{row}: output `{piece 0}` of concentrator `{piece 2}` has another speed ",
+        "than bus `{piece 4}` of concentrator `{piece 6}`, which it feeds{place own }",
     ),
     (
         "N16",
-        "two labels of output `{}` of concentrator `{}` feed stream `",
-        "` of bus `{}` of concentrator `{}`{}",
+        "{row}: two labels of output `{piece 0}` of concentrator `{piece 2}` feed stream `",
+        "` of bus `{piece 4}` of concentrator `{piece 6}`{place own }",
     ),
     (
         "N17",
-        "the label of output `{}` of concentrator `{}` that feeds stream `",
-        "` of bus `{}` of concentrator `{}` has another format than the stream{}",
+        "{row}: the label of output `{piece 0}` of concentrator `{piece 2}` that feeds stream `",
+        "` of bus `{piece 4}` of concentrator `{piece 6}` has another format than the stream{place own }",
     ),
     (
         "N18",
-        "output `{}` of concentrator `{}` may bring words sooner than stream `",
-        "` of bus `{}` of concentrator `{}` lets them come{}\nnote: of this link `most_us` - `least_us` is {} microseconds\nnote: {}",
+        "{row}: output `{piece 0}` of concentrator `{piece 2}` may bring words sooner than stream `",
+        "` of bus `{piece 4}` of concentrator `{piece 6}` lets them come{place own }\nnote: of this link `most_us` - `least_us` is {number 0} microseconds\nnote: ",
     ),
     (
         "N19",
-        "output `{}` of concentrator `{}` may bring words later than stream `",
-        "` of bus `{}` of concentrator `{}` lets them come{}\nnote: of this link `most_us` - `least_us` is {} microseconds\nnote: {}",
+        "{row}: output `{piece 0}` of concentrator `{piece 2}` may bring words later than stream `",
+        "` of bus `{piece 4}` of concentrator `{piece 6}` lets them come{place own }\nnote: of this link `most_us` - `least_us` is {number 0} microseconds\nnote: ",
     ),
 ];
 
@@ -56,56 +55,62 @@ fn texts_of(code: &str) -> (&'static str, &'static str) {
 }
 
 /// Writes where the tables of a concentrator stand.
-fn tell_tables(refused: &mut Refused<'_>, key: &str) {
+fn tell_tables(out: &mut Explanation, refused: &Refused<'_>, key: &str) {
     if let Some(own) = concentrator_at(refused, refused.row, key) {
-        refused.say(
-            "\nnote: the tables of {} are {}",
-            &[Fact::Row(own), Fact::At(own, "tables")],
+        refused.fill(
+            out,
+            "\nnote: the tables of {row 0} are {at 0 tables}",
+            &[own],
         );
     }
 }
 
-/// Tells which link does not fit, and why.
-fn tell_link(refused: &mut Refused<'_>, code: &str, stream: &str, means: &'static str) {
+/// Tells which link does not fit, and why; what its code means where its times do not.
+fn tell_ends(out: &mut Explanation, refused: &Refused<'_>, code: &str, stream: &str, means: &str) {
     let row = refused.row;
     let (before, behind) = texts_of(code);
     let (sender, output) = end_of(refused, row, "from");
     let (receiver, bus) = end_of(refused, row, "to");
     let most = refused.count(row, "most_us");
     let varies = most.saturating_sub(refused.count(row, "least_us"));
-    refused.say("{}: ", &[Fact::Row(row)]);
-    refused.say(before, &[Fact::Piece(output), Fact::Piece(sender)]);
-    refused.out.put(Text(stream));
-    refused.say(
-        behind,
-        &[
-            Fact::Piece(bus),
-            Fact::Piece(receiver),
-            Fact::Place(row, ""),
-            Fact::Number(varies),
-            Fact::Word(means),
-        ],
-    );
-    tell_tables(refused, "from");
-    tell_tables(refused, "to");
+    let places = [
+        output.from,
+        output.to,
+        sender.from,
+        sender.to,
+        bus.from,
+        bus.to,
+        receiver.from,
+        receiver.to,
+    ];
+    refused.fill(out, before, &places);
+    out.put(Text(stream));
+    refused.fill_where(out, behind, &places, &[varies], &[]);
+    if !means.is_empty() {
+        out.add(means);
+    }
+    tell_tables(out, refused, "from");
+    tell_tables(out, refused, "to");
 }
 
-/// Explains a link that does not fit what it joins.
-pub(crate) fn explain_link(ran: &Ran<'_>) -> Option<String> {
+/// Tells of a link that does not fit what it joins.
+pub(crate) fn tell_link(out: &mut Explanation, ran: &Ran<'_>) {
     let code = word(ran.line, 1);
     let (file, _) = ran.files();
     let Some(meaning) = meaning_of(Sort::Link, code) else {
-        return None;
+        return;
     };
     let Some(mut refused) = refused_of(ran.alloc, file, Kind::System, true) else {
-        return None;
+        return;
     };
+    let index = index_in(word(ran.line, 3));
+    refused.row = refused.layout.row(Kind::Link, index).unwrap_or(0);
+    out.begin(code);
     let stream = word(ran.line, 5);
-    let _ = refused.begin(code, Kind::Link, index_in(word(ran.line, 3)));
-    tell_link(&mut refused, code, stream, meaning.means);
     let is_of_times = code == "N18" || code == "N19";
-    if !is_of_times || !tell_numbers(&mut refused, ran, code, stream) {
-        refused.out.help("{}", &[Text(meaning.mend)]);
+    let means = if is_of_times { meaning.means } else { "" };
+    tell_ends(out, &refused, code, stream, means);
+    if !is_of_times || !tell_numbers(out, &refused, ran, code, stream) {
+        out.help("{}", &[Text(meaning.mend)]);
     }
-    refused.finish()
 }

@@ -1,6 +1,6 @@
 //! Concentrators of a network that are not accepted, or whose files are not to be had.
-use crate::devices::explain_failure;
-use crate::judged::explain_files;
+use crate::devices::tell_failure;
+use crate::judged::tell_files;
 use crate::output::{behind_two, word};
 use crate::ran::Ran;
 use crate::task::{JUDGED, Task, told};
@@ -25,9 +25,10 @@ fn path_of(alloc: Global, system: &str, name: &str) -> Result<String, AllocError
     Ok(path.into_string())
 }
 
-/// Explains the line of a concentrator, whose files have these names: one that `check` prints of two files, or what kept it
-/// from reading them.
-fn explain_check(ran: &Ran<'_>, line: &str, tables: &str, certificate: &str) -> Option<String> {
+/// Tells the line of a concentrator, whose files have these names: one that `check` prints of two files, or what kept it from
+/// reading them. Whether there was something to tell.
+fn tell_check(out: &mut Explanation, ran: &Ran<'_>, tables: &str, certificate: &str) -> bool {
+    let line = behind_two(ran.line);
     let checked = Ran {
         names: (tables, certificate),
         task: Task {
@@ -40,57 +41,66 @@ fn explain_check(ran: &Ran<'_>, line: &str, tables: &str, certificate: &str) -> 
         ..*ran
     };
     if word(line, 0) == "failed" {
-        return explain_failure(&checked, word(line, 1));
+        return tell_failure(out, &checked, word(line, 1));
     }
-    explain_files(&checked)
+    tell_files(out, &checked)
 }
 
-/// Explains the line of a concentrator of a system, whose tables have this name.
-fn explain_one(
+/// Tells the line of a concentrator of a system, whose tables have this name.
+fn tell_one(
+    out: &mut Explanation,
     ran: &Ran<'_>,
     system: &str,
     tables: &str,
-    concentrator: &ConcentratorText,
-) -> Option<String> {
-    match path_of(ran.alloc, system, concentrator.certificate()) {
-        Ok(certificate) => explain_check(ran, behind_two(ran.line), tables, certificate.as_str()),
-        Err(_) => None,
+    certificate: &str,
+) -> bool {
+    match path_of(ran.alloc, system, certificate) {
+        Ok(certificate) => tell_check(out, ran, tables, certificate.as_str()),
+        Err(_) => false,
     }
 }
 
-/// Explains the line of the concentrator of this name, of those of a system.
-fn explain_among(
+/// Tells the line of the concentrator of this name, of those of a system.
+fn tell_among(
+    out: &mut Explanation,
     ran: &Ran<'_>,
     system: &str,
     name: &str,
     concentrators: &[ConcentratorText],
-) -> Option<String> {
+) -> bool {
     for concentrator in concentrators {
         let own = concentrator.name();
         if own.as_str() == name {
             return match path_of(ran.alloc, system, concentrator.tables()) {
-                Ok(tables) => explain_one(ran, system, tables.as_str(), concentrator),
-                Err(_) => None,
+                Ok(tables) => tell_one(
+                    out,
+                    ran,
+                    system,
+                    tables.as_str(),
+                    concentrator.certificate(),
+                ),
+                Err(_) => false,
             };
         }
     }
-    None
+    false
 }
 
-/// Explains the line of the concentrator of this name. The one function that holds the system.
-fn explain_named(ran: &Ran<'_>, system: &str, name: &str) -> Option<String> {
+/// Tells the line of the concentrator of this name. The one function that holds the system.
+fn tell_named(out: &mut Explanation, ran: &Ran<'_>, system: &str, name: &str) -> bool {
     match read_system(ran.alloc, ran.first.text.as_slice()) {
-        Ok(read) => explain_among(ran, system, name, read.concentrators()),
-        Err(_) => None,
+        Ok(read) => tell_among(out, ran, system, name, read.concentrators()),
+        Err(_) => false,
     }
 }
 
-/// Adds of which concentrator of which system an explanation is, and from where a file is taken that is not to be had.
-fn with_note(ran: &Ran<'_>, system: &str, name: &str, explained: &str) -> Option<String> {
-    let mut out = Explanation::new(ran.alloc);
-    for line in explained.lines() {
-        out.end_line();
-        out.add(line);
+/// Tells the line of a concentrator of a network: what stands behind its name is a line of `check`. And of which
+/// concentrator of which system that is, and from where a file is taken that is not to be had.
+pub(crate) fn tell_member(out: &mut Explanation, ran: &Ran<'_>) {
+    let system = ran.task.system.unwrap_or("");
+    let name = word(ran.line, 1);
+    if !tell_named(out, ran, system, name) {
+        return;
     }
     out.note(
         "these are the files of concentrator `{}` of {}",
@@ -101,16 +111,5 @@ fn with_note(ran: &Ran<'_>, system: &str, name: &str, explained: &str) -> Option
             "what a system names is taken from the folder of its text, or as it is where it begins with /",
             &[],
         );
-    }
-    out.finish()
-}
-
-/// Explains the line of a concentrator of a network: what stands behind its name is a line of `check`.
-pub(crate) fn explain_member(ran: &Ran<'_>) -> Option<String> {
-    let system = ran.task.system.unwrap_or("");
-    let name = word(ran.line, 1);
-    match explain_named(ran, system, name) {
-        Some(explained) => with_note(ran, system, name, explained.as_str()),
-        None => None,
     }
 }

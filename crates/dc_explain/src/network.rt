@@ -1,15 +1,20 @@
 //! What ended the judging of a network.
-use crate::links::explain_link;
-use crate::members::explain_member;
+use crate::links::tell_link;
+use crate::members::tell_member;
 use crate::output::word;
 use crate::ran::Ran;
-use crate::systems::explain_system;
+use crate::systems::tell_system;
+use dc_tell::Explanation;
 
-/// Explains why a network was not accepted: by its text, by one of its concentrators, or by a link.
-pub(crate) fn explain_network(ran: &Ran<'_>) -> Option<String> {
-    match word(ran.line, 0) {
-        "at" => explain_member(ran),
-        "unreadable" => explain_system(ran),
-        _ => explain_link(ran),
+/// Tells why a network was not accepted: by its text, by one of its concentrators, or by a link.
+pub(crate) fn tell_network(out: &mut Explanation, ran: &Ran<'_>) {
+    let verb = word(ran.line, 0);
+    if verb == "at" {
+        return tell_member(out, ran);
+    }
+    if verb == "unreadable" {
+        tell_system(out, ran);
+    } else {
+        tell_link(out, ran);
     }
 }

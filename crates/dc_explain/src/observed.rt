@@ -44,7 +44,7 @@ fn wanted_at(tables: &Tables, number: usize) -> Option<Wanted> {
 }
 
 /// Tells of which row a line is to be.
-fn tell_wanted(out: &mut Explanation, line: Line<'_>, tables: &Tables) {
+fn tell_wanted(out: &mut Explanation, line: &Line<'_>, tables: &Tables) {
     match wanted_at(tables, line.number.saturating_sub(1) as usize) {
         Some(wanted) => out.help(
             "by the tables this line begins with `{} {}`",
@@ -56,7 +56,7 @@ fn tell_wanted(out: &mut Explanation, line: Line<'_>, tables: &Tables) {
 
 /// Tells why a line is none that `observe` wrote for these tables, by the code of its fault: by what that means, but where
 /// something in it is not seen; and where it is not the next one, which that is.
-pub(crate) fn tell_observed(out: &mut Explanation, code: &str, line: Line<'_>, tables: &Tables) {
+pub(crate) fn tell_observed(out: &mut Explanation, code: &str, line: &Line<'_>, tables: &Tables) {
     let at = match code {
         "E1" => LONGEST,
         "E6" => line.bytes.len(),

@@ -1,20 +1,20 @@
 //! A run that has ended, and what there is to say of its end.
-use crate::audits::explain_empty;
-use crate::capture::explain_surveyed;
+use crate::audits::tell_empty;
+use crate::capture::tell_surveyed;
 use crate::designed::repeat_lines;
-use crate::devices::explain_failure;
-use crate::faults::explain_line;
-use crate::judged::explain_files;
-use crate::members::explain_member;
-use crate::network::explain_network;
+use crate::devices::tell_failure;
+use crate::faults::tell_line;
+use crate::judged::tell_files;
+use crate::members::tell_member;
+use crate::network::tell_network;
 use crate::output::{answer_in, whole_letters, word};
-use crate::plain::explain_plainly;
+use crate::plain::tell_plainly;
 use crate::task::{Task, names_of, task_of};
 use dc_answer::Exit;
 use dc_codes::Kind;
 use dc_command::Order;
 use dc_keep::{Kept, Notes};
-use dc_tell::File;
+use dc_tell::{Explanation, File};
 use std::alloc::{AllocError, Global};
 use std::io::ErrorKind;
 
@@ -82,50 +82,55 @@ fn said_in(output: &Kept) -> Option<&str> {
     }
 }
 
-/// Explains what kept a run from its work.
-fn explain_failed(ran: &Ran<'_>) -> Option<String> {
-    if word(ran.line, 0) == "failed" {
-        return explain_failure(ran, word(ran.line, 1));
+/// Tells what kept a run from its work.
+fn tell_failed(out: &mut Explanation, ran: &Ran<'_>) {
+    let (verb, cause) = (word(ran.line, 0), word(ran.line, 1));
+    if verb == "at" && word(ran.line, 2) == "failed" {
+        return tell_member(out, ran);
     }
-    if word(ran.line, 0) == "at" && word(ran.line, 2) == "failed" {
-        return explain_member(ran);
-    }
-    explain_failure(ran, "device")
+    let failed = if verb == "failed" { cause } else { "device" };
+    tell_failure(out, ran, failed);
 }
 
-/// Explains a text that can't be read.
-fn explain_text(ran: &Ran<'_>) -> Option<String> {
+/// Tells of a text that can't be read.
+fn tell_text(out: &mut Explanation, ran: &Ran<'_>) {
     if word(ran.line, 1).as_bytes().starts_with(b"E") {
-        return explain_line(ran, ran.task.lines);
+        return tell_line(out, ran, ran.task.lines);
     }
-    explain_files(ran)
+    tell_files(out, ran);
 }
 
-/// Explains what was judged and refused.
-fn explain_judged(ran: &Ran<'_>) -> Option<String> {
+/// Tells of what was judged and refused.
+fn tell_judged(out: &mut Explanation, ran: &Ran<'_>) {
     if ran.task.is_survey {
-        return explain_surveyed(ran);
+        return tell_surveyed(out, ran);
     }
     match word(ran.line, 1) {
-        "spent" | "early" | "owed" => explain_line(ran, Kind::Step),
-        "ticks" => explain_plainly(ran.alloc, Kind::Step, "ticks"),
-        "hub" => explain_plainly(ran.alloc, Kind::Bench, "hub"),
+        "spent" | "early" | "owed" => tell_line(out, ran, Kind::Step),
+        "ticks" => {
+            tell_plainly(out, Kind::Step, "ticks");
+        }
+        "hub" => {
+            tell_plainly(out, Kind::Bench, "hub");
+        }
         _ => match word(ran.line, 0) {
-            "budgets" | "sources" | "claim" => explain_line(ran, Kind::Audit),
-            _ => explain_files(ran),
+            "budgets" | "sources" | "claim" => tell_line(out, ran, Kind::Audit),
+            _ => {
+                tell_files(out, ran);
+            }
         },
     }
 }
 
-/// What there is to say of the end of a run: nothing where all is well.
-fn explain(ran: &Ran<'_>, exit: Exit) -> Option<String> {
+/// Tells what there is to say of the end of a run: nothing where all is well.
+fn tell_end(out: &mut Explanation, ran: &Ran<'_>, exit: Exit) {
     match exit {
-        Exit::Done => explain_empty(ran),
-        Exit::Failed => explain_failed(ran),
-        _ if ran.task.is_design => repeat_lines(ran),
-        _ if ran.task.system.is_some() => explain_network(ran),
-        Exit::Unreadable => explain_text(ran),
-        Exit::Refused => explain_judged(ran),
+        Exit::Done => tell_empty(out, ran),
+        Exit::Failed => tell_failed(out, ran),
+        _ if ran.task.is_design => repeat_lines(out, ran),
+        _ if ran.task.system.is_some() => tell_network(out, ran),
+        Exit::Unreadable => tell_text(out, ran),
+        Exit::Refused => tell_judged(out, ran),
     }
 }
 
@@ -161,11 +166,11 @@ fn explain_behind(
         line: answer_in(said),
         is_seen: notes.progress.is_shared(),
     };
-    Ok(if lines.is_some() {
-        explain(&ran, exit)
-    } else {
-        None
-    })
+    let mut out = Explanation::new(alloc);
+    if lines.is_some() {
+        tell_end(&mut out, &ran, exit);
+    }
+    Ok(out.finish())
 }
 
 /// What there is to say of the end of a run of which the files of the command line were kept.

@@ -1,7 +1,7 @@
 //! Links that lead from a concentrator back to it: N13.
 use crate::ends::concentrator_at;
-use dc_explain_text::{Fact, Refused};
-use dc_tell::Kind;
+use dc_explain_text::Refused;
+use dc_tell::{Explanation, Kind};
 use std::alloc::Global;
 
 /// How many concentrators a system has at most.
@@ -78,19 +78,20 @@ fn ways_to(hops: &[Hop], goal: usize) -> [usize; MOST] {
 }
 
 /// Writes that a link is on the ring, and gives the concentrator to which it leads.
-fn tell_hop(refused: &mut Refused<'_>, hops: &[Hop], link: usize) -> usize {
+fn tell_hop(out: &mut Explanation, refused: &Refused<'_>, hops: &[Hop], link: usize) -> usize {
     let Some(hop) = hops.get(link) else {
         return NONE;
     };
-    refused.say(
-        "\nnote: {} is on the ring, in line {}",
-        &[Fact::Row(hop.row), Fact::Line(hop.row, "to")],
+    refused.fill(
+        out,
+        "\nnote: {row 0} is on the ring, in line {line 0 to}",
+        &[hop.row],
     );
     hop.to
 }
 
 /// Writes the links that lead from a concentrator back to it.
-fn tell_hops(refused: &mut Refused<'_>, hops: &[Hop], goal: usize) {
+fn tell_hops(out: &mut Explanation, refused: &Refused<'_>, hops: &[Hop], goal: usize) {
     let next = ways_to(hops, goal);
     let mut now = goal;
     for _ in 0..MOST {
@@ -98,7 +99,7 @@ fn tell_hops(refused: &mut Refused<'_>, hops: &[Hop], goal: usize) {
         if link == NONE {
             break;
         }
-        now = tell_hop(refused, hops, link);
+        now = tell_hop(out, refused, hops, link);
         if now == goal {
             break;
         }
@@ -106,19 +107,21 @@ fn tell_hops(refused: &mut Refused<'_>, hops: &[Hop], goal: usize) {
 }
 
 /// Tells of a concentrator from which links lead back to it.
-pub(crate) fn tell_ring(refused: &mut Refused<'_>) -> bool {
+pub(crate) fn tell_ring(out: &mut Explanation, refused: &Refused<'_>) -> bool {
     let row = refused.row;
     let Some(hops) = hops_of(refused.alloc, refused) else {
-        refused.out.lose();
+        out.lose();
         return true;
     };
-    refused.say(
-        "{} is on a ring: links lead from it back to it{}",
-        &[Fact::Row(row), Fact::Place(row, "name")],
+    refused.fill(
+        out,
+        "{row} is on a ring: links lead from it back to it{place own name}",
+        &[],
     );
     let goal = index_of(refused, row);
-    tell_hops(refused, hops.as_slice(), goal);
-    refused.say(
+    tell_hops(out, refused, hops.as_slice(), goal);
+    refused.fill(
+        out,
         "\nhelp: take out one of these links: how old data become that go round is not known",
         &[],
     );

@@ -120,7 +120,7 @@ impl Brought {
 }
 
 /// What was brought before a line.
-fn brought_before(kept: &Kept, line: Line<'_>, tables: &Tables, asked: &Asked) -> Brought {
+fn brought_before(kept: &Kept, line: &Line<'_>, tables: &Tables, asked: &Asked) -> Brought {
     let mut brought = Brought {
         last: None,
         next: 0,
@@ -175,7 +175,7 @@ fn tell_early(out: &mut Explanation, tick: u64, asked: &Asked, early: u64) {
 pub(crate) fn tell_source(
     out: &mut Explanation,
     ran: &Ran<'_>,
-    line: Line<'_>,
+    line: &Line<'_>,
     tables: &Tables,
 ) -> bool {
     let Some(asked) = asked_of(line.bytes, tables) else {

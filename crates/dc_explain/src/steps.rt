@@ -6,8 +6,8 @@ use crate::trace::field;
 use dc_document::Name;
 use dc_keep::Kept;
 use dc_tables::Tables;
-use dc_tell::Explanation;
 use dc_tell::Value::{Number, Range, Several, Text, Ticks};
+use dc_tell::{Explanation, Value};
 
 /// A router or an output, and what it is to make.
 #[derive(Clone, Copy)]
@@ -26,31 +26,31 @@ struct Actor {
     limit: u64,
 }
 
-/// The router of this number, where the tables have one.
-fn router_at(tables: &Tables, number: usize) -> Option<Actor> {
-    if number >= tables.router_count() {
-        return None;
-    }
-    let row = tables.router(number);
-    Some(Actor {
-        kind: "router",
-        name: *tables.router_name(number),
-        letter: "R ",
-        steps: u64::from(row.steps),
-        within: u64::from(row.within),
-        limit: u64::from(row.most),
-    })
-}
+/// In the place of an actor's number, where there is none.
+const NONE: usize = usize::MAX;
 
-/// The output of this number, where the tables have one.
-fn output_at(tables: &Tables, number: usize) -> Option<Actor> {
-    if number >= tables.output_count() {
+/// The actor of this number, of the routers and of the outputs behind them, where the tables have one.
+fn actor_at(tables: &Tables, number: usize) -> Option<Actor> {
+    let routers = tables.router_count();
+    if number < routers {
+        let row = tables.router(number);
+        return Some(Actor {
+            kind: "router",
+            name: *tables.router_name(number),
+            letter: "R ",
+            steps: u64::from(row.steps),
+            within: u64::from(row.within),
+            limit: u64::from(row.most),
+        });
+    }
+    let output = number.saturating_sub(routers);
+    if output >= tables.output_count() {
         return None;
     }
-    let row = tables.output(number);
+    let row = tables.output(output);
     Some(Actor {
         kind: "output",
-        name: *tables.output_name(number),
+        name: *tables.output_name(output),
         letter: "S ",
         steps: u64::from(row.steps),
         within: u64::from(row.within),
@@ -58,22 +58,24 @@ fn output_at(tables: &Tables, number: usize) -> Option<Actor> {
     })
 }
 
-/// The actor of this name that a step is refused with such a word of: a router, an output, or whichever there is.
-fn actor_of(tables: &Tables, code: &str, name: &[u8]) -> Option<Actor> {
+/// The number of the actor of this name that a step is refused with such a word of: a router, an output, or whichever there
+/// is.
+fn number_of(tables: &Tables, code: &str, name: &[u8]) -> usize {
     let Some(name) = Name::new(name) else {
-        return None;
+        return NONE;
     };
-    let router = tables.router_named(&name);
-    let output = tables.output_named(&name);
-    match router {
-        Some(number) if code != "early" => router_at(tables, number),
-        _ if code == "spent" => None,
-        _ => output_at(tables, output.unwrap_or(usize::MAX)),
+    let router = tables.router_named(&name).unwrap_or(NONE);
+    if router != NONE && code != "early" {
+        return router;
+    }
+    match tables.output_named(&name) {
+        Some(output) if code != "spent" => output.saturating_add(tables.router_count()),
+        _ => NONE,
     }
 }
 
 /// Tells of a router that made too many steps in a tick.
-fn tell_spent(out: &mut Explanation, line: Line<'_>, actor: &Actor) {
+fn tell_spent(out: &mut Explanation, line: &Line<'_>, actor: &Actor) {
     let name = Text(actor.name.as_str());
     line.tell(
         out,
@@ -89,7 +91,7 @@ fn tell_spent(out: &mut Explanation, line: Line<'_>, actor: &Actor) {
 }
 
 /// Tells of an output that sent too soon.
-fn tell_early(out: &mut Explanation, line: Line<'_>, kept: &Kept, actor: &Actor, tick_us: u64) {
+fn tell_early(out: &mut Explanation, line: &Line<'_>, kept: &Kept, actor: &Actor, tick_us: u64) {
     let name = actor.name.as_str();
     line.tell(
         out,
@@ -111,12 +113,12 @@ fn tell_early(out: &mut Explanation, line: Line<'_>, kept: &Kept, actor: &Actor,
 }
 
 /// In which tick those begin in which an actor owes its steps, where a line ends the last of them.
-fn first_tick(line: Line<'_>, actor: &Actor) -> u64 {
+fn first_tick(line: &Line<'_>, actor: &Actor) -> u64 {
     line.tick.saturating_add(1).saturating_sub(actor.within)
 }
 
 /// How many steps an actor has made of those that it owes where a line ends a tick, where that is known.
-fn made_by(line: Line<'_>, kept: &Kept, actor: &Actor) -> Option<u64> {
+fn made_by(line: &Line<'_>, kept: &Kept, actor: &Actor) -> Option<u64> {
     let (_, made) = events_before(
         kept,
         line,
@@ -128,33 +130,48 @@ fn made_by(line: Line<'_>, kept: &Kept, actor: &Actor) -> Option<u64> {
 }
 
 /// Whether an actor owes steps where a line ends a tick, as far as that is known.
-fn is_owing(line: Line<'_>, kept: &Kept, actor: &Actor) -> bool {
+fn is_owing(line: &Line<'_>, kept: &Kept, actor: &Actor) -> bool {
     let made = made_by(line, kept, actor).unwrap_or(actor.steps);
     line.tick >= actor.within.saturating_sub(1) && made < actor.steps
 }
 
-/// The first router, or else the first output, that owes steps where a line ends a tick.
-fn owing_at(line: Line<'_>, kept: &Kept, tables: &Tables) -> Option<Actor> {
-    let routers = tables.router_count();
-    for number in 0..routers.saturating_add(tables.output_count()) {
-        let found = if number < routers {
-            router_at(tables, number)
-        } else {
-            output_at(tables, number.saturating_sub(routers))
-        };
-        if let Some(actor) = found {
+/// The number of the first actor that owes steps where a line ends a tick.
+fn owing_at(line: &Line<'_>, kept: &Kept, tables: &Tables) -> usize {
+    for number in 0..tables.router_count().saturating_add(tables.output_count()) {
+        if let Some(actor) = actor_at(tables, number) {
             if is_owing(line, kept, &actor) {
-                return Some(actor);
+                return number;
             }
         }
     }
-    None
+    NONE
+}
+
+/// Tells at what pace an actor makes its steps, and which lines help it to, as these words say, and what else.
+fn tell_pace(out: &mut Explanation, actor: &Actor, missing: Value<'_>, tick_us: u64) {
+    let (kind, name) = (actor.kind, actor.name.as_str());
+    out.note(
+        "`steps` of {} `{}` is {}, in each `within` of {}",
+        &[
+            Text(kind),
+            Text(name),
+            Number(actor.steps),
+            Ticks(actor.within, tick_us),
+        ],
+    );
+    out.help(
+        "put {} `{}{}` before this `T`, unless this is a recording: then the actor broke its pace",
+        &[missing, Text(actor.letter), Text(name)],
+    );
+    out.help(
+        "or weaken a promise: write smaller `steps` or a greater `within` of {} `{}` in the tables",
+        &[Text(kind), Text(name)],
+    );
 }
 
 /// Tells of a router or an output that made too few steps for the tick to end: how many, where that is known, in which
 /// ticks it owes so many, which lines help, and what else.
-fn tell_owed(out: &mut Explanation, line: Line<'_>, kept: &Kept, actor: &Actor, tick_us: u64) {
-    let (kind, name) = (Text(actor.kind), Text(actor.name.as_str()));
+fn tell_owed(out: &mut Explanation, line: &Line<'_>, kept: &Kept, actor: &Actor, tick_us: u64) {
     let first = first_tick(line, actor);
     let (made, missing) = match made_by(line, kept, actor) {
         Some(made) => (
@@ -166,84 +183,64 @@ fn tell_owed(out: &mut Explanation, line: Line<'_>, kept: &Kept, actor: &Actor, 
     line.tell(
         out,
         0,
-        "tick {} cannot end: {} `{}` has made {} the {} that it owes in {} {}\nnote: `steps` of {} `{}` is {}, in each `within` of {}\nput {} `{}{}` before this `T`, unless this is a recording: then the actor broke its pace\nor weaken a promise: write smaller `steps` or a greater `within` of {} `{}` in the tables",
+        "tick {} cannot end: {} `{}` has made {} the {} that it owes in {} {}",
         &[
             Number(line.tick),
-            kind,
-            name,
+            Text(actor.kind),
+            Text(actor.name.as_str()),
             made,
             Several(actor.steps, "step", "steps"),
             Text(if first == line.tick { "tick" } else { "ticks" }),
             Range(first, line.tick),
-            kind,
-            name,
-            Number(actor.steps),
-            Ticks(actor.within, tick_us),
-            missing,
-            Text(actor.letter),
-            name,
-            kind,
-            name,
         ],
     );
+    tell_pace(out, actor, missing, tick_us);
 }
 
-/// Tells why an actor's step, or the end of a tick, may not follow the lines before it, by the word of its refusal.
+/// Tells why a step of the actor of this number, or the end of a tick, may not follow the lines before it, by the word of its
+/// refusal; false where there is no such actor.
 fn tell_actor(
     out: &mut Explanation,
     code: &str,
-    line: Line<'_>,
+    line: &Line<'_>,
     kept: &Kept,
-    actor: &Actor,
-    tick_us: u64,
-) {
+    tables: &Tables,
+    number: usize,
+) -> bool {
+    let Some(actor) = actor_at(tables, number) else {
+        return false;
+    };
+    let tick_us = u64::from(tables.tick_us());
     match code {
-        "spent" => tell_spent(out, line, actor),
-        "early" => tell_early(out, line, kept, actor, tick_us),
-        _ => tell_owed(out, line, kept, actor, tick_us),
+        "spent" => tell_spent(out, line, &actor),
+        "early" => tell_early(out, line, kept, &actor, tick_us),
+        _ => tell_owed(out, line, kept, &actor, tick_us),
     }
+    true
 }
 
 /// Tells which budget an event breaks; nothing where that is not known.
 pub(crate) fn tell_budget(
     out: &mut Explanation,
     ran: &Ran<'_>,
-    line: Line<'_>,
+    line: &Line<'_>,
     tables: &Tables,
 ) -> bool {
     let (kind, _) = field(line.bytes, 0);
     let (name, _) = field(line.bytes, 1);
-    let (code, found) = match kind {
+    let (code, number) = match kind {
         b"T" => ("owed", owing_at(line, ran.input, tables)),
-        b"R" => ("spent", actor_of(tables, "spent", name)),
-        _ => ("early", actor_of(tables, "early", name)),
+        b"R" => ("spent", number_of(tables, "spent", name)),
+        _ => ("early", number_of(tables, "early", name)),
     };
-    let Some(actor) = found else {
-        return false;
-    };
-    tell_actor(
-        out,
-        code,
-        line,
-        ran.input,
-        &actor,
-        u64::from(tables.tick_us()),
-    );
-    true
+    tell_actor(out, code, line, ran.input, tables, number)
 }
 
 /// Tells why an event may not follow those before it, by the word of its refusal and the name that it is about.
-pub(crate) fn tell_step(out: &mut Explanation, ran: &Ran<'_>, line: Line<'_>, tables: &Tables) {
+pub(crate) fn tell_step(out: &mut Explanation, ran: &Ran<'_>, line: &Line<'_>, tables: &Tables) {
     let (code, name) = (word(ran.line, 1), word(ran.line, 2));
-    match actor_of(tables, code, name.as_bytes()) {
-        Some(actor) => tell_actor(
-            out,
-            code,
-            line,
-            ran.input,
-            &actor,
-            u64::from(tables.tick_us()),
-        ),
-        None => out.say("{}", &[Text(code)]),
+    let number = number_of(tables, code, name.as_bytes());
+    if !tell_actor(out, code, line, ran.input, tables, number) {
+        out.say("{}", &[Text(code)]);
     }
 }

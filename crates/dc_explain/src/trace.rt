@@ -46,7 +46,7 @@ fn fields_in(line: &[u8]) -> u64 {
 }
 
 /// Tells that a line begins with no kind of event.
-fn tell_kind(out: &mut Explanation, line: Line<'_>) {
+fn tell_kind(out: &mut Explanation, line: &Line<'_>) {
     let (kind, _) = field(line.bytes, 0);
     let sentence = if line.bytes.is_empty() {
         "the line is empty\na line is `A <bus> <word>`, `R <router>`, `S <output>` or `T`, in upper case"
@@ -77,7 +77,7 @@ fn event_of(kind: &[u8]) -> (&'static str, &'static str, &'static str) {
 }
 
 /// Tells that a line has more or fewer fields than its kind.
-fn tell_fields(out: &mut Explanation, line: Line<'_>) {
+fn tell_fields(out: &mut Explanation, line: &Line<'_>) {
     let (kind, _) = field(line.bytes, 0);
     let (form, what, _) = event_of(kind);
     line.tell(
@@ -115,7 +115,7 @@ fn names_for<'t>(alloc: Global, tables: &'t Tables, named: &str) -> Names<'t> {
 }
 
 /// Tells that a line names what is not in the tables, and which name was meant, or which there are.
-fn tell_name(out: &mut Explanation, ran: &Ran<'_>, line: Line<'_>, tables: &Tables) {
+fn tell_name(out: &mut Explanation, ran: &Ran<'_>, line: &Line<'_>, tables: &Tables) {
     let (kind, _) = field(line.bytes, 0);
     let (name, at) = field(line.bytes, 1);
     let (_, _, named) = event_of(kind);
@@ -142,7 +142,7 @@ fn tell_name(out: &mut Explanation, ran: &Ran<'_>, line: Line<'_>, tables: &Tabl
 }
 
 /// Tells that a trace is too long.
-fn tell_too_long(out: &mut Explanation, ran: &Ran<'_>, line: Line<'_>) {
+fn tell_too_long(out: &mut Explanation, ran: &Ran<'_>, line: &Line<'_>) {
     let is_long = ran.task.is_long;
     let (sentence, most) = if line.number > ran.task.most_events && !is_long {
         (
@@ -166,7 +166,7 @@ pub(crate) fn tell_event(
     out: &mut Explanation,
     ran: &Ran<'_>,
     code: &str,
-    line: Line<'_>,
+    line: &Line<'_>,
     tables: &Tables,
 ) {
     if code == "E1" && line.bytes.len() <= 64 {

@@ -14,7 +14,7 @@ fn before(line: &[u8], wanted: u8) -> usize {
 }
 
 /// Tells what of a line is not seen and keeps it from being read, where there is such.
-pub(crate) fn tell_unseen(out: &mut Explanation, line: Line<'_>) -> bool {
+pub(crate) fn tell_unseen(out: &mut Explanation, line: &Line<'_>) -> bool {
     let bytes = line.bytes;
     let tab = before(bytes, b'\t');
     let last = bytes.len().saturating_sub(1);
@@ -44,7 +44,7 @@ pub(crate) fn tell_unseen(out: &mut Explanation, line: Line<'_>) -> bool {
 pub(crate) fn tell_shape(
     out: &mut Explanation,
     code: &str,
-    line: Line<'_>,
+    line: &Line<'_>,
     what: &'static str,
 ) -> bool {
     match code {
@@ -79,7 +79,7 @@ fn digits_in(bytes: &[u8]) -> usize {
 }
 
 /// Tells why a piece of a line, from this byte on, is no word.
-pub(crate) fn tell_no_word(out: &mut Explanation, line: Line<'_>, from: usize) {
+pub(crate) fn tell_no_word(out: &mut Explanation, line: &Line<'_>, from: usize) {
     let piece = line.bytes.get(from..).unwrap_or(b"");
     let digits = digits_in(piece);
     let (at, sentence) = if piece.is_empty() {
