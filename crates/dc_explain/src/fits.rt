@@ -200,11 +200,11 @@ fn tell_later(out: &mut Explanation, fit: &Fit<'_>) {
     }
 }
 
-/// Writes the greatest latency with which a stream keeps both N18 and N19, where there is one.
-fn tell_latency(out: &mut Explanation, fit: &Fit<'_>) {
+/// Writes the greatest latency with which a stream keeps both N18 and N19, where there is one. Whether there is.
+fn tell_latency(out: &mut Explanation, fit: &Fit<'_>) -> bool {
     let (label, stream) = (&fit.label, &fit.stream);
     if label.least < stream.least || stream.most < label.most {
-        return;
+        return false;
     }
     let sooner = label
         .least
@@ -216,28 +216,47 @@ fn tell_latency(out: &mut Explanation, fit: &Fit<'_>) {
         "write a `most_us` of at most {} here, if the link keeps that: with it this stream keeps N18 and N19",
         &[Number(most)],
     );
+    true
 }
 
-/// Writes by which numbers the tables at both ends of a link don't fit, and what would do.
+/// What is told where each of what helps is enough.
+const ALL: &str =
+    "each of these is enough for this stream; of tables that were changed `dc429 find` writes the certificate anew";
+
+/// What is told where the words may come too late besides, and the latency may be mended.
+const FIRST: &str =
+    "the first of these is enough for this stream; with another N19 fails next; of tables that were changed `dc429 find` writes the certificate anew";
+
+/// What is told where the words may come too late besides.
+const NONE: &str =
+    "with each of these N19 fails next for this stream; of tables that were changed `dc429 find` writes the certificate anew";
+
+/// Writes by which numbers the tables at both ends of a link don't fit, and what would do: first the latency of the link,
+/// which is mostly the slip.
 fn tell_fit(out: &mut Explanation, fit: &Fit<'_>, is_soon: bool) {
     tell_limits(out, "label", &fit.label);
     tell_limits(out, "stream", &fit.stream);
+    if is_soon && fit.jitter_line != 0 {
+        out.say(
+            ", and a `jitter_us` of {} in line {}",
+            &[Number(fit.jitter), Number(fit.jitter_line)],
+        );
+    }
+    let is_first = tell_latency(out, fit);
     if is_soon {
-        if fit.jitter_line != 0 {
-            out.say(
-                ", and a `jitter_us` of {} in line {}",
-                &[Number(fit.jitter), Number(fit.jitter_line)],
-            );
-        }
         tell_sooner(out, fit);
     } else {
         tell_later(out, fit);
     }
-    tell_latency(out, fit);
-    out.note(
-        "each of these is enough for this stream; of tables that were changed `dc429 find` writes the certificate anew",
-        &[],
-    );
+    let is_late = fit.label.most.saturating_add(fit.varies) > fit.stream.most;
+    let note = if !is_soon || !is_late {
+        ALL
+    } else if is_first {
+        FIRST
+    } else {
+        NONE
+    };
+    out.note(note, &[]);
 }
 
 /// Tells the numbers of a stream, by the tables of the sender and of the receiver.
@@ -264,7 +283,7 @@ fn tell_both<'a>(
 }
 
 /// The tables of the concentrator at an end of a link, as they were read.
-fn tables_at<'a>(refused: &Refused<'a>, ran: &Ran<'a>, key: &str) -> Option<File<'a>> {
+pub(crate) fn tables_at<'a>(refused: &Refused<'a>, ran: &Ran<'a>, key: &str) -> Option<File<'a>> {
     let Some(row) = concentrator_at(refused, refused.row, key) else {
         return None;
     };

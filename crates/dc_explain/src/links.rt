@@ -1,12 +1,12 @@
 //! Links that do not fit what they join: N14 to N19.
 use crate::ends::{concentrator_at, end_of};
-use crate::fits::tell_numbers;
+use crate::fits::{tables_at, tell_numbers};
 use crate::output::{index_in, word};
 use crate::ran::Ran;
 use dc_codes::{Kind as Sort, meaning_of};
 use dc_explain_text::Refused;
 use dc_explain_unreadable::refused_of;
-use dc_tell::Value::Text;
+use dc_tell::Value::{Names, Text};
 use dc_tell::{Explanation, Kind};
 
 /// What is told of a link, by the code of its fault, before the name of a stream and behind it: by the places of the names of
@@ -93,6 +93,54 @@ fn tell_ends(out: &mut Explanation, refused: &Refused<'_>, code: &str, stream: &
     tell_tables(out, refused, "to");
 }
 
+/// Writes which names the tables at an end of a link have, where they do not have the one that it names.
+fn tell_names(
+    out: &mut Explanation,
+    refused: &Refused<'_>,
+    tables: &Refused<'_>,
+    key: &str,
+    kind: Kind,
+) {
+    let (owner, name) = end_of(refused, refused.row, key);
+    let piece = refused.layout.piece(name);
+    if tables.layout.is_escaped || tables.named(kind, piece).is_some() {
+        return;
+    }
+    let names = tables.layout.names(refused.alloc, kind);
+    if names.is_lost() {
+        return out.lose();
+    }
+    let sentence = if kind == Kind::Bus {
+        "\nnote: concentrator `{piece 0}` has no bus `{piece 2}`; its buses are "
+    } else {
+        "\nnote: concentrator `{piece 0}` has no output `{piece 2}`; its outputs are "
+    };
+    refused.fill(out, sentence, &[owner.from, owner.to, name.from, name.to]);
+    out.put(Names(names.as_slice()));
+    let text = str::from_utf8(piece).unwrap_or("");
+    if let Some((like, _)) = out.nearest(text, names.as_slice()) {
+        let meant = [Text(like)];
+        out.help("there is `{}`: write it so, if it is meant", &meant);
+    }
+}
+
+/// The same, where these tables were kept.
+fn tell_names_at<'a>(
+    out: &mut Explanation,
+    refused: &Refused<'a>,
+    ran: &Ran<'a>,
+    key: &str,
+    kind: Kind,
+) {
+    let Some(file) = tables_at(refused, ran, key) else {
+        return;
+    };
+    match refused_of(refused.alloc, file, Kind::Top, true) {
+        Some(tables) => tell_names(out, refused, &tables, key, kind),
+        None => {}
+    }
+}
+
 /// Tells of a link that does not fit what it joins.
 pub(crate) fn tell_link(out: &mut Explanation, ran: &Ran<'_>) {
     let code = word(ran.line, 1);
@@ -110,6 +158,10 @@ pub(crate) fn tell_link(out: &mut Explanation, ran: &Ran<'_>) {
     let is_of_times = code == "N18" || code == "N19";
     let means = if is_of_times { meaning.means } else { "" };
     tell_ends(out, &refused, code, stream, means);
+    if code == "N14" {
+        tell_names_at(out, &refused, ran, "from", Kind::Output);
+        tell_names_at(out, &refused, ran, "to", Kind::Bus);
+    }
     if !is_of_times || !tell_numbers(out, &refused, ran, code, stream) {
         out.help("{}", &[Text(meaning.mend)]);
     }
