@@ -47,7 +47,10 @@ fn tell_cause(out: &mut Explanation, name: &str, wanted: &str, cause: &str, kind
     out.begin("");
     out.say("{}: {}", &[Text(name), Text(cause)]);
     if !wanted.is_empty() {
-        out.note("this was to be {}", &[Text(wanted)]);
+        out.note(
+            "this was to be {}; `failed device` is what is answered where a file can't be opened or read",
+            &[Text(wanted)],
+        );
     }
     out.help("{}", &[Text(mend_of(kind))]);
     let is_absent = kind == ErrorKind::NotFound;
