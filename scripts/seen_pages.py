@@ -89,19 +89,14 @@ def rows_of(page):
             yield Row("Label", name, numbers, (it[0], it[1]))
 
 
-def grouped(it):
-    """As dc_page_text groups: what stands before the last four threes has no comma."""
-    return f"{it:,}" if it < 10**12 else f"{it // 10**12}" + "".join(f",{it // 1000**at % 1000:03}" for at in (3, 2, 1, 0))
-
-
 def told(it):
-    return "-" if it is None else grouped(it)
+    return "-" if it is None else f"{it:,}"
 
 
 def words_of(it):
-    parts = ["none seen" if it.seen is None else f"seen {grouped(it.seen)}"]
-    parts += [f"certificate {grouped(it.certified)}"] if it.certified is not None else []
-    return ", ".join(parts + ([f"limit {grouped(it.limit)}"] if it.limit is not None else []))
+    parts = ["none seen" if it.seen is None else f"seen {it.seen:,}"]
+    parts += [f"certificate {it.certified:,}"] if it.certified is not None else []
+    return ", ".join(parts + ([f"limit {it.limit:,}"] if it.limit is not None else []))
 
 
 def place(part, longest):
@@ -123,7 +118,7 @@ def cells_of(row):
     for it in row.numbers:
         yield f"{it.what} of {row.name}", words_of(it), bars_of(it), f"{it.what}: {words_of(it)}", it.is_past()
     if row.sent is not None:
-        yield None, None, [], f"sent {grouped(row.sent[0])}, of these as fallback {grouped(row.sent[1])}", False
+        yield None, None, [], f"sent {row.sent[0]:,}, of these as fallback {row.sent[1]:,}", False
 
 
 def small_cell(row):
@@ -134,10 +129,10 @@ def small_cell(row):
                      ((2, age.limit, age.longest()), (29, least.limit, between), (46, greatest.limit, between)))
     seen = "".join(f"M0 {y}H{place(end or 0, span)}" for y, end, span in
                    ((19, age.seen, age.longest()), (36, least.seen, between), (53, greatest.seen, between)))
-    words = (f"age {told(age.seen)} of {grouped(age.certified)}, limit {grouped(age.limit)}; intervals {told(least.seen)} to {grouped(greatest.seen)}, "
-             f"limits {grouped(least.limit)} to {grouped(greatest.limit)}")
+    words = (f"age {told(age.seen)} of {age.certified:,}, limit {age.limit:,}; intervals {told(least.seen)} to {greatest.seen:,}, "
+             f"limits {least.limit:,} to {greatest.limit:,}")
     bars = [("r", limits), ("b", f"M0 9H{place(age.certified, age.longest())}"), ("d", seen)]
-    return f"label {row.name}", words, bars, f"{row.name} {words}; sent {grouped(row.sent[0])}, fallback {grouped(row.sent[1])}", any(it.is_past() for it in row.numbers)
+    return f"label {row.name}", words, bars, f"{row.name} {words}; sent {row.sent[0]:,}, fallback {row.sent[1]:,}", any(it.is_past() for it in row.numbers)
 
 
 def wanted(page):

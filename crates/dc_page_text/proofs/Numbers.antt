@@ -1,9 +1,9 @@
 -- The number that is read in what pages write of a number.
-use Rattle.std.proofs.Common.{◌≡◌, ℕ, ◌+◌, ◌*◌, ◌-◌, ◌/◌, ◌%◌, ◌^◌, ◌<◌, Bool, true, false, List, [], ◌∷◌, ◌++◌, refl, sym, ap, ◌∙◌, append_assoc, append-nil, codes, arith, rules}
+use Rattle.std.proofs.Common.{◌≡◌, ℕ, zero, suc, ◌+◌, ◌*◌, ◌-◌, ◌/◌, ◌%◌, ◌^◌, ◌<◌, Bool, true, false, List, [], ◌∷◌, ◌++◌, refl, sym, ap, ◌∙◌, append_assoc, append-nil, codes, arith, rules}
 use Rattle.std.specs.Prelude.{nat_eq, nat_lt, if◌then◌else◌, decimal}
 use Rattle.std.proofs.lemmas.Bool.{eqb-true}
 use Rattle.std.proofs.lemmas.Fmt.{decimal_by_steps, decimal_digit}
-use Rattle.dc_page_text.specs.Text.{behind_point, number_from, last_three, short_grouped, grouped, tenths, hundredths, trimmed, thousandths, millionths}
+use Rattle.dc_page_text.specs.Text.{behind_point, number_from, last_three, groups_of, grouped, tenths, hundredths, trimmed, thousandths, millionths}
 
 -- a digit is no point and no comma
 digit-plain : (d : ℕ) → d < 10 → (nat_eq (48 + d) 46 ≡ false) × (nat_eq (48 + d) 44 ≡ false)
@@ -29,6 +29,7 @@ read-decimal unit n rest l =
 
 -- three digits more
 read-last : (unit v n : ℕ) (rest : List ℕ) → number_from unit v (last_three n ++ rest) ≡ number_from unit (v * 1000 + n % 1000) rest
+unfolding last_three
 read-last unit v n rest =
     rw (decimal_digit (n / 100 % 10) (omega arith), decimal_digit (n / 10 % 10) (omega arith), decimal_digit (n % 10) (omega arith))
     (read-digit unit v (n / 100 % 10) ((48 + n / 10 % 10) ∷ (48 + n % 10) ∷ rest) (omega arith)
@@ -53,44 +54,25 @@ read-end unit v = refl
 one-between : (xs ys rest : List ℕ) (mark : ℕ) → xs ++ (mark ∷ []) ++ ys ++ rest ≡ xs ++ mark ∷ (ys ++ rest)
 one-between xs ys rest mark = append_assoc (xs ++ (mark ∷ [])) ys rest ∙ append_assoc xs (mark ∷ []) (ys ++ rest)
 
-two-between : (xs ys zs rest : List ℕ) (mark : ℕ) → xs ++ (mark ∷ []) ++ ys ++ (mark ∷ []) ++ zs ++ rest ≡ xs ++ mark ∷ (ys ++ mark ∷ (zs ++ rest))
-two-between xs ys zs rest mark = one-between (xs ++ (mark ∷ []) ++ ys) zs rest mark ∙ one-between xs ys (mark ∷ (zs ++ rest)) mark
-
 -- with commas between its thousands
-short-cases : (unit n : ℕ) (rest : List ℕ) (b c : Bool) → n < 2 ^ 64 →
-    number_from unit 0 ((if b then decimal n else if c then decimal (n / 1000) ++ codes "," ++ last_three n
-    else decimal (n / 1000000) ++ codes "," ++ last_three (n / 1000) ++ codes "," ++ last_three n) ++ rest) ≡ number_from unit n rest
-short-cases unit n rest true c l = read-decimal unit n rest l
-short-cases unit n rest false true l =
-    ap (number_from unit 0) (one-between (decimal (n / 1000)) (last_three n) rest 44)
-    ∙ read-decimal unit (n / 1000) (44 ∷ (last_three n ++ rest)) (omega (arith, l)) ∙ read-comma unit (n / 1000) (last_three n ++ rest)
+groups-cases : (unit commas n : ℕ) (rest : List ℕ) (b : Bool) → n < 2 ^ 64
+    → number_from unit 0 (groups_of commas (n / 1000) ++ 44 ∷ (last_three n ++ rest)) ≡ number_from unit (n / 1000) (44 ∷ (last_three n ++ rest))
+    → number_from unit 0 ((if b then decimal n else groups_of commas (n / 1000) ++ codes "," ++ last_three n) ++ rest) ≡ number_from unit n rest
+groups-cases unit commas n rest true l before = read-decimal unit n rest l
+groups-cases unit commas n rest false l before =
+    ap (number_from unit 0) (one-between (groups_of commas (n / 1000)) (last_three n) rest 44)
+    ∙ before ∙ read-comma unit (n / 1000) (last_three n ++ rest)
     ∙ read-last unit (n / 1000) n rest ∙ ap (λ v. number_from unit v rest) (omega arith)
-short-cases unit n rest false false l =
-    ap (number_from unit 0) (two-between (decimal (n / 1000000)) (last_three (n / 1000)) (last_three n) rest 44)
-    ∙ read-decimal unit (n / 1000000) (44 ∷ (last_three (n / 1000) ++ 44 ∷ (last_three n ++ rest))) (omega (arith, l))
-    ∙ read-comma unit (n / 1000000) (last_three (n / 1000) ++ 44 ∷ (last_three n ++ rest))
-    ∙ read-last unit (n / 1000000) (n / 1000) (44 ∷ (last_three n ++ rest))
-    ∙ read-comma unit (n / 1000000 * 1000 + n / 1000 % 1000) (last_three n ++ rest)
-    ∙ read-last unit (n / 1000000 * 1000 + n / 1000 % 1000) n rest ∙ ap (λ v. number_from unit v rest) (omega arith)
 
-read-short : (unit n : ℕ) (rest : List ℕ) → n < 2 ^ 64 → number_from unit 0 (short_grouped n ++ rest) ≡ number_from unit n rest
-read-short unit n rest l = short-cases unit n rest (nat_lt n 1000) (nat_lt n 1000000) l
-
-grouped-cases : (unit n : ℕ) (rest : List ℕ) (b : Bool) → n < 2 ^ 64 →
-    number_from unit 0 ((if b then short_grouped n else short_grouped (n / 1000000) ++ codes "," ++ last_three (n / 1000) ++ codes "," ++ last_three n) ++ rest)
-    ≡ number_from unit n rest
-grouped-cases unit n rest true l = read-short unit n rest l
-grouped-cases unit n rest false l =
-    ap (number_from unit 0) (two-between (short_grouped (n / 1000000)) (last_three (n / 1000)) (last_three n) rest 44)
-    ∙ read-short unit (n / 1000000) (44 ∷ (last_three (n / 1000) ++ 44 ∷ (last_three n ++ rest))) (omega (arith, l))
-    ∙ read-comma unit (n / 1000000) (last_three (n / 1000) ++ 44 ∷ (last_three n ++ rest))
-    ∙ read-last unit (n / 1000000) (n / 1000) (44 ∷ (last_three n ++ rest))
-    ∙ read-comma unit (n / 1000000 * 1000 + n / 1000 % 1000) (last_three n ++ rest)
-    ∙ read-last unit (n / 1000000 * 1000 + n / 1000 % 1000) n rest ∙ ap (λ v. number_from unit v rest) (omega arith)
+read-groups : (unit commas n : ℕ) (rest : List ℕ) → n < 2 ^ 64 → number_from unit 0 (groups_of commas n ++ rest) ≡ number_from unit n rest
+unfolding groups_of
+read-groups unit zero n rest l = read-decimal unit n rest l
+read-groups unit (suc commas) n rest l =
+    groups-cases unit commas n rest (nat_lt n 1000) l (read-groups unit commas (n / 1000) (44 ∷ (last_three n ++ rest)) (omega (arith, l)))
 
 read-grouped : (unit n : ℕ) (rest : List ℕ) → n < 2 ^ 64 → number_from unit 0 (grouped n ++ rest) ≡ number_from unit n rest
 unfolding grouped
-read-grouped unit n rest l = grouped-cases unit n rest (nat_lt n 1000000) l
+read-grouped unit n rest l = read-groups unit 6 n rest l
 
 -- where nothing stands behind it
 whole-grouped : (unit n : ℕ) → n < 2 ^ 64 → number_from unit 0 (grouped n) ≡ n * unit
@@ -200,7 +182,7 @@ thousandths-of-millionths n false l h =
 
 millionths-cases : (n : ℕ) (b : Bool) → n < 2 ^ 64 → nat_eq (n % 1000) 0 ≡ b →
     number_from 1000000 0 (if b then thousandths (n / 1000) else grouped (n / 1000000) ++ codes "." ++ last_three (n / 1000) ++ trimmed n) ≡ n
-unfolding thousandths
+unfolding thousandths last_three
 millionths-cases n true l h =
     thousandths-of-millionths (n / 1000) (nat_eq (n / 1000 % 1000) 0) (omega (arith, l)) refl ∙ omega (arith, eqb-true (n % 1000) 0 h)
 millionths-cases n false l h =

@@ -1,5 +1,5 @@
 -- Texts and numbers as pages write them.
-use Rattle.std.specs.Prelude.{ℕ, ◌+◌, ◌-◌, ◌*◌, ◌/◌, ◌%◌, Bool, not, ◌||◌, ◌&&◌, if◌then◌else◌, nat_eq, nat_lt, List, [], ◌∷◌, ◌++◌, codes, decimal, encode_utf8}
+use Rattle.std.specs.Prelude.{ℕ, zero, suc, ◌+◌, ◌-◌, ◌*◌, ◌/◌, ◌%◌, Bool, not, ◌||◌, ◌&&◌, if◌then◌else◌, nat_eq, nat_lt, List, [], ◌∷◌, ◌++◌, codes, decimal, encode_utf8}
 use Rattle.dc_page_text.specs.declared.amount.Amount.{Amount}
 use Rattle.dc_page_text.specs.declared.amount.Unit.{Unit}
 use Rattle.dc_page_text.specs.declared.amount.Unit.TheVariants.{Ticks, Words, Entries, Inputs, Outputs, Labels, Concentrators, Links, Buses, Streams, Routers}
@@ -36,21 +36,17 @@ is_harmless byte = not (nat_eq byte 60) && not (nat_eq byte 62) && not (nat_eq b
 -- ---- numbers
 
 -- the last three digits, with noughts in front
-abbrev pub last_three : ℕ → List ℕ
+unfoldable pub last_three : ℕ → List ℕ
 last_three n = decimal (n / 100 % 10) ++ decimal (n / 10 % 10) ++ decimal (n % 10)
 
--- with commas between thousands, of which a million has no more
-abbrev pub short_grouped : ℕ → List ℕ
-short_grouped n =
-    if nat_lt n 1000 then decimal n
-    else if nat_lt n 1000000 then decimal (n / 1000) ++ codes "," ++ last_three n
-    else decimal (n / 1000000) ++ codes "," ++ last_three (n / 1000) ++ codes "," ++ last_three n
+-- digits in groups of three from the right, with a comma between two groups, and so many commas at most
+unfoldable pub groups_of : (commas : ℕ) → ℕ → List ℕ
+groups_of zero n = decimal n
+groups_of (suc commas) n = if nat_lt n 1000 then decimal n else groups_of commas (n / 1000) ++ codes "," ++ last_three n
 
--- with commas between thousands, of which a billion of thousands has no more
+-- the same with as many commas as a number below 10^21 has, so each of 64 bits
 unfoldable pub grouped : ℕ → List ℕ
-grouped n =
-    if nat_lt n 1000000 then short_grouped n
-    else short_grouped (n / 1000000) ++ codes "," ++ last_three (n / 1000) ++ codes "," ++ last_three n
+grouped n = groups_of 6 n
 
 -- a number of tenths
 abbrev pub tenths : ℕ → List ℕ

@@ -1,18 +1,37 @@
 //! Numbers as pages write them.
 
 ghost use Rattle.std.specs.Prelude.{Some};
-ghost use Rattle.dc_page_text.specs.Text.{grouped, hundredths, last_three, millionths, short_grouped, tenths, thousandths, trimmed};
+ghost use Rattle.dc_page_text.specs.Text.{grouped, groups_of, hundredths, last_three, millionths, tenths, thousandths, trimmed};
 
 use std::fmt;
 
-/// A number below 10^15 with commas between its thousands; a greater one lacks the first of them.
+/// A number with commas between its thousands.
 #[derive(Clone, Copy)]
 pub struct Grouped(pub u64);
 
 impl fmt::Display for Grouped {
     ghost output = { λ x. Some (grouped x.0) };
 
-    #[tactic(auto, unfolding(crate::specs::Text::grouped))]
+    fn fmt<W: fmt::Write>(&self, f: &mut fmt::Formatter<W>) -> fmt::Result {
+        let number = self.0;
+        if number < 1_000_000_000_000_000 {
+            let long = Long(number);
+            return write!(f, "{long}");
+        }
+        let millions = Long(number / 1_000_000);
+        let thousands = LastThree(number / 1_000);
+        let rest = LastThree(number);
+        write!(f, "{millions},{thousands},{rest}")
+    }
+}
+
+/// A number below 10^15 with commas between its thousands.
+#[derive(Clone, Copy)]
+struct Long(u64);
+
+impl fmt::Display for Long {
+    ghost output = { λ x. Some (groups_of 4 x.0) };
+
     fn fmt<W: fmt::Write>(&self, f: &mut fmt::Formatter<W>) -> fmt::Result {
         let number = self.0;
         if number < 1_000_000 {
@@ -31,8 +50,9 @@ impl fmt::Display for Grouped {
 struct Short(u64);
 
 impl fmt::Display for Short {
-    ghost output = { λ x. Some (short_grouped x.0) };
+    ghost output = { λ x. Some (groups_of 2 x.0) };
 
+    #[tactic(auto, unfolding(crate::specs::Text::groups_of))]
     fn fmt<W: fmt::Write>(&self, f: &mut fmt::Formatter<W>) -> fmt::Result {
         let number = self.0;
         let ones = LastThree(number);
@@ -40,10 +60,10 @@ impl fmt::Display for Short {
             return write!(f, "{number}");
         }
         let thousands = number / 1_000;
-        if number < 1_000_000 {
+        if thousands < 1_000 {
             return write!(f, "{thousands},{ones}");
         }
-        let millions = number / 1_000_000;
+        let millions = thousands / 1_000;
         let thousands = LastThree(thousands);
         write!(f, "{millions},{thousands},{ones}")
     }
@@ -56,6 +76,7 @@ struct LastThree(u64);
 impl fmt::Display for LastThree {
     ghost output = { λ x. Some (last_three x.0) };
 
+    #[tactic(auto, unfolding(crate::specs::Text::last_three))]
     fn fmt<W: fmt::Write>(&self, f: &mut fmt::Formatter<W>) -> fmt::Result {
         let hundreds = self.0 / 100 % 10;
         let tens = self.0 / 10 % 10;
