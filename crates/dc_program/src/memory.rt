@@ -1,7 +1,7 @@
 //! A world in memory, for tests.
-ghost use Rattle.std.specs.Prelude.{◌≡◌, [], None, map, option_map};
+ghost use Rattle.std.specs.Prelude.{◌≡◌, [], None, Some, map, option_map};
 ghost use Rattle.std.proofs.Common.{◌∙◌, refl};
-ghost use Rattle.dc_program.specs.Memory.{held_by};
+ghost use Rattle.dc_program.specs.Memory.{held_by, held_where_given};
 
 use crate::limits::MOST_FILES;
 use crate::world::{Crew, NotOpened, World};
@@ -30,13 +30,13 @@ struct Saved<'a> {
     text: Vec<u8>,
 }
 
-/// Three files in memory. The opening or making of a given number is refused, and so is the opening of a file
+/// Two or three files in memory. The opening or making of a given number is refused, and so is the opening of a file
 /// that is not there.
 #[derive(Drop)]
 pub struct MemWorld<'a> {
     first: MemFile<'a>,
     second: MemFile<'a>,
-    third: MemFile<'a>,
+    third: Option<MemFile<'a>>,
     fails_in: u64,
     why: NotOpened,
     opened: ArrayVec<&'a str, MOST_FILES>,
@@ -46,17 +46,11 @@ pub struct MemWorld<'a> {
 }
 
 impl<'a> MemWorld<'a> {
-    /// These files. The opening of number `fails_at`, from 1 on, is refused for this reason; for 0 none is so.
-    pub fn new(
-        first: MemFile<'a>,
-        second: MemFile<'a>,
-        third: MemFile<'a>,
-        fails_at: u64,
-        why: NotOpened,
-    ) -> Self
+    /// These two files. The opening of number `fails_at`, from 1 on, is refused for this reason; for 0 none is so.
+    pub fn new(first: MemFile<'a>, second: MemFile<'a>, fails_at: u64, why: NotOpened) -> Self
         ensures first { result.first ≡ first.entry }
         ensures second { result.second ≡ second.entry }
-        ensures third { result.third ≡ third.entry }
+        ensures third { result.third ≡ None }
         ensures fails { result.fails_in ≡ fails_at }
         ensures why { result.why ≡ why }
         ensures opened { result.opened.items ≡ [] }
@@ -67,7 +61,38 @@ impl<'a> MemWorld<'a> {
         MemWorld {
             first,
             second,
-            third,
+            third: None,
+            fails_in: fails_at,
+            why,
+            opened: ArrayVec::new(),
+            refused: None,
+            crew: None,
+            saved: None,
+        }
+    }
+
+    /// The same of three files.
+    pub fn with_third(
+        first: MemFile<'a>,
+        second: MemFile<'a>,
+        third: MemFile<'a>,
+        fails_at: u64,
+        why: NotOpened,
+    ) -> Self
+        ensures first { result.first ≡ first.entry }
+        ensures second { result.second ≡ second.entry }
+        ensures third { result.third ≡ Some third.entry }
+        ensures fails { result.fails_in ≡ fails_at }
+        ensures why { result.why ≡ why }
+        ensures opened { result.opened.items ≡ [] }
+        ensures refused { result.refused ≡ None }
+        ensures crew { result.crew ≡ None }
+        ensures saved { result.saved ≡ None }
+    {
+        MemWorld {
+            first,
+            second,
+            third: Some(third),
             fails_in: fails_at,
             why,
             opened: ArrayVec::new(),
@@ -101,16 +126,23 @@ impl<'a> MemWorld<'a> {
 
     /// The text of the file of this name, where there is one.
     fn text_of(&self, name: &str) -> Option<&'a str>
-        ensures { option_map (λ s. s.now) result ≡ held_by self.now.first (held_by self.now.second (held_by self.now.third (λ _. None))) name.now }
+        ensures { option_map (λ s. s.now) result ≡ held_by self.now.first (held_by self.now.second (held_where_given self.now.third (λ _. None))) name.now }
     {
         if self.first.name == name {
             Some(self.first.text)
         } else if self.second.name == name {
             Some(self.second.text)
-        } else if self.third.name == name {
-            Some(self.third.text)
         } else {
-            None
+            match &self.third {
+                Some(third) => {
+                    if third.name == name {
+                        Some(third.text)
+                    } else {
+                        None
+                    }
+                }
+                None => None,
+            }
         }
     }
 }
@@ -118,7 +150,7 @@ impl<'a> MemWorld<'a> {
 impl<'a> Shelf for MemWorld<'a> {
     type File = MemSource<'a>;
 
-    ghost holds = { λ w. held_by w.first (held_by w.second (held_by w.third (λ _. None))) };
+    ghost holds = { λ w. held_by w.first (held_by w.second (held_where_given w.third (λ _. None))) };
 
     ghost keeps = { λ w w'. (w'.first ≡ w.first) × (w'.second ≡ w.second) × (w'.third ≡ w.third) × (w'.opened ≡ w.opened) × (w'.crew ≡ w.crew) × (w'.saved ≡ w.saved) };
 
@@ -136,7 +168,7 @@ impl<'a> Shelf for MemWorld<'a> {
 
 impl<'a> World<'a> for MemWorld<'a> {
     ghost state = { λ w. record {
-      holds = held_by w.first (held_by w.second (held_by w.third (λ _. None)));
+      holds = held_by w.first (held_by w.second (held_where_given w.third (λ _. None)));
       opened = map (λ name. name.now) w.opened.items;
       refused = w.refused;
       crew = w.crew;

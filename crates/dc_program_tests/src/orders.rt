@@ -70,7 +70,7 @@ fn does<'t, R: AllocGlobal + Threads + Wait + Sync>(
         name: "O",
         text: "queue A\n",
     };
-    let mut world = MemWorld::new(first, second, third, trial.fails_at, trial.why);
+    let mut world = MemWorld::with_third(first, second, third, trial.fails_at, trial.why);
     let mut input = MemSource::new(trial.input.as_bytes(), 7, 0);
     let exit = match run_words(
         rt.alloc(),
