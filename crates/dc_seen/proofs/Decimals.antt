@@ -1,12 +1,13 @@
 -- Texts that are the digits of a number, and texts that are not.
-use Rattle.std.proofs.Common.{◌≡◌, ℕ, ◌<◌, ◌^◌, ◌&&◌, true, false, List, length, Some, None, Result, Ok, Err, nat_lt, decimal, sym, ap, ◌∙◌, subst}
+use Rattle.std.proofs.Common.{◌≡◌, ℕ, ◌+◌, ◌-◌, ◌*◌, ◌<◌, ◌≤◌, ◌^◌, ◌&&◌, true, false, List, [], ◌∷◌, length, get_or, drop, Some, None, nat_lt, decimal, sym, ap, ◌∙◌, subst, arith}
+use Rattle.std.specs.Char.{digit_value}
 use Rattle.std.proofs.lemmas.Bool.{and_parts, both_ways, cond-false, false_from_ne_true, ltb-true}
-use Rattle.std.proofs.lemmas.Fmt.{IsAscii-decimal, decimal_nonempty, digits_decimal, digits_value-decimal}
+use Rattle.std.proofs.lemmas.Fmt.{digits_decimal, digits_value-decimal}
+use Rattle.std.proofs.lemmas.List.{at_drop_all, drop_more}
 use Rattle.std.proofs.lemmas.Slice.Eq.{bytes_eq-Decides}
-use Rattle.std.proofs.lemmas.Str.{IsUtf8-from_ascii}
-use Rattle.std.proofs.lemmas.Str.Parse.{parse_gives}
-use Rattle.std.specs.Str.{IsUtf8}
-use Rattle.std.specs.Str.Parse.{AllDigits, ParsesUnsigned, digits_value}
+use Rattle.std.proofs.lemmas.Str.{digit_value_digit}
+use Rattle.std.proofs.lemmas.Str.Parse.{digit_from_value}
+use Rattle.std.specs.Str.Parse.{AllDigits, digits_value, digits_value_after}
 use Rattle.dc_seen.specs.Numbers.{is_decimal, number_if, number_of}
 use Rattle.dc_seen.specs.lemmas.Digits.{number_is, own}
 
@@ -21,31 +22,43 @@ no_number : (text : List ℕ) → ((n : ℕ) → n < 2 ^ 64 → text ≡ decimal
 unfolding number_of
 no_number text other = if_not text (digits_value 10 text) (other (digits_value 10 text))
 
--- the digits of a number are parsed as that number
-parsed : {E : Type 0} (text digits : List ℕ) (r : Result ℕ E) (n : ℕ) → digits ≡ text → ParsesUnsigned 64 10 digits r → n < 2 ^ 64 → text ≡ decimal n → r ≡ Ok n
-parsed text digits r n same reads small is =
-    let spelled : digits ≡ decimal n = same ∙ is in
-    let all : AllDigits 10 digits = subst (AllDigits 10) (sym spelled) (digits_decimal own n small) in
-    let worth : digits_value 10 digits ≡ n = ap (digits_value 10) spelled ∙ digits_value-decimal own n small in
-    let some : 0 < length digits = subst (λ l. 0 < length l) (sym spelled) (decimal_nonempty n small) in
-    parse_gives own 64 digits r reads all some (subst (λ m. m < 2 ^ 64) (sym worth) small) ∙ ap (λ m. Ok m) worth
-
--- bytes that are no text are no number
-pub not_text : (text : List ℕ) → (IsUtf8 text → ⊥) → None ≡ number_of text
-not_text text other = sym (no_number text (λ n small is. other (subst IsUtf8 (sym is) (IsUtf8-from_ascii (decimal n) (IsAscii-decimal n small)))))
-
--- nor is a text that is not parsed
-pub not_parsed : {E : Type 0} (text digits : List ℕ) (r : Result ℕ E) (e : E) → digits ≡ text → ParsesUnsigned 64 10 digits r → r ≡ Err e → None ≡ number_of text
-not_parsed text digits r e same reads is = sym (no_number text (λ n small spelled.
-    let read : r ≡ Ok n = parsed text digits r n same reads small spelled in cc))
-
--- nor one that is parsed and would be printed otherwise
-pub not_printed : {E : Type 0} (text digits : List ℕ) (r : Result ℕ E) (m : ℕ) → digits ≡ text → ParsesUnsigned 64 10 digits r → r ≡ Ok m → is_decimal text m ≡ false → None ≡ number_of text
-not_printed text digits r m same reads is otherwise = sym (no_number text (λ n small spelled.
-    let read : r ≡ Ok n = parsed text digits r n same reads small spelled in
-    let one : n ≡ m = cc in
+-- a text that is not what is printed of its worth is no number
+pub not_printed : (text : List ℕ) (m : ℕ) → (AllDigits 10 text → digits_value 10 text < 2 ^ 64 → m ≡ digits_value 10 text) → is_decimal text m ≡ false → None ≡ number_of text
+not_printed text m worth otherwise = sym (no_number text (λ n small spelled.
+    let digits : AllDigits 10 text = subst (AllDigits 10) (sym spelled) (digits_decimal own n small) in
+    let value : digits_value 10 text ≡ n = ap (digits_value 10) spelled ∙ digits_value-decimal own n small in
+    let one : n ≡ m = sym value ∙ sym (worth digits (subst (λ (v : ℕ). v < 2 ^ 64) (sym value) small)) in
     both_ways (is_decimal text m) otherwise ((bytes_eq-Decides text (decimal m)).1 (spelled ∙ ap decimal one))))
 
 -- one that is printed so is read so
 pub printed : (text : List ℕ) (m : ℕ) → m < 2 ^ 64 → is_decimal text m ≡ true → Some m ≡ number_of text
 printed text m small is = sym (number_is text m small ((bytes_eq-Decides text (decimal m)).0 is))
+
+-- ---- what digits are worth
+
+-- this number, with these digits behind it, is the whole
+abbrev pub IsWorth : ℕ → List ℕ → ℕ → Type 0
+IsWorth number rest whole = AllDigits 10 rest × (digits_value_after 10 number rest ≡ whole)
+
+grown : (n : ℕ) (ds : List ℕ) → n ≤ digits_value_after 10 n ds
+grown n [] = omega arith
+grown n (d ∷ ds) = omega (arith, grown (n * 10 + digit_value d) ds)
+
+one_digit : (number byte : ℕ) (rest : List ℕ) (whole : ℕ) → whole < 2 ^ 64 → IsWorth number (byte ∷ rest) whole → (48 ≤ byte) × (number * 10 + (byte - 48) < 2 ^ 64) × IsWorth (number * 10 + (byte - 48)) rest whole
+one_digit number byte rest whole small ((low, digits), is) =
+    let range = digit_from_value byte low in
+    let same : digit_value byte ≡ byte - 48 = omega (arith, digit_value_digit byte range, range.0) in
+    let here : digits_value_after 10 (number * 10 + (byte - 48)) rest ≡ whole = subst (λ (d : ℕ). digits_value_after 10 (number * 10 + d) rest ≡ whole) same is in
+    (range.0, omega (arith, grown (number * 10 + (byte - 48)) rest, here, small), (digits, here))
+
+-- one digit more
+pub worth_more : (text : List ℕ) (i byte number more whole : ℕ) → i < length text → byte ≡ get_or text i 0 → (48 ≤ byte → number * 10 + (byte - 48) < 2 ^ 64 → more ≡ number * 10 + (byte - 48)) → whole < 2 ^ 64
+    → IsWorth number (drop i text) whole → IsWorth more (drop (i + 1) text) whole
+worth_more text i byte number more whole there is told small before =
+    let here : IsWorth number (byte ∷ drop (i + 1) text) whole = subst (λ (b : ℕ). IsWorth number (b ∷ drop (i + 1) text) whole) (sym is) (subst (λ (l : List ℕ). IsWorth number l whole) (drop_more text i 0 there) before) in
+    let (low, fits, rest) = one_digit number byte (drop (i + 1) text) whole small here in
+    subst (λ (n : ℕ). IsWorth n (drop (i + 1) text) whole) (sym (told low fits)) rest
+
+-- all of them
+pub worth_all : (text : List ℕ) (i number whole : ℕ) → length text ≤ i → IsWorth number (drop i text) whole → number ≡ whole
+worth_all text i number whole past before = sym (at_drop_all (digits_value_after 10 number) text i past) ∙ before.1

@@ -7,14 +7,14 @@ use dc_cert::Certificate;
 use dc_tables::Tables;
 
 /// What is claimed of an input: its backlog in words, its delay in ticks.
-#[derive(Clone, Copy, Debug)]
+#[derive(Clone, Copy)]
 pub struct InputBounds {
     pub backlog: u32,
     pub delay: u32,
 }
 
 /// What bounds a label, in ticks: its age by the certificate, its least and its greatest interval by the tables.
-#[derive(Clone, Copy, Debug)]
+#[derive(Clone, Copy)]
 pub struct LabelBounds {
     pub age: u32,
     pub minimum: u32,

@@ -7,7 +7,7 @@ use crate::fault::SeenRule;
 use crate::fields::{count_fields, is_word};
 
 /// What a line is about.
-#[derive(Clone, Copy, Debug, PartialEq, Eq)]
+#[derive(Clone, Copy)]
 pub enum Kind {
     /// An input bus.
     Input,

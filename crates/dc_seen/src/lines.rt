@@ -15,7 +15,7 @@ use dc_document::TEXT_LIMIT;
 pub const LINE_LIMIT: usize = 256;
 
 /// Where a line of a text begins.
-#[derive(Clone, Copy, Debug, PartialEq, Eq)]
+#[derive(Clone, Copy)]
 pub struct Place {
     /// How many bytes of the text stand before it.
     pub before: usize,

@@ -1,5 +1,6 @@
 //! Numbers as `observe` prints them.
-ghost use Rattle.std.specs.Prelude.{◌≡◌};
+ghost use Rattle.std.specs.Prelude.{◌≡◌, ◌+◌, ◌-◌, ◌*◌, ◌^◌, ◌<◌, ◌≤◌};
+ghost use Rattle.std.specs.Str.Parse.{AllDigits, digits_value};
 ghost use Rattle.dc_seen.specs.Numbers.{is_decimal, maybe_number_of, number_of};
 
 use itoa::Buffer;
@@ -12,18 +13,30 @@ pub(crate) fn is_decimal(text: &[u8], number: u64) -> bool
     text == buffer.format(number).as_bytes()
 }
 
+/// A number with one decimal digit behind it, where that is below 2^64; behind another byte some number.
+fn with_digit(number: u64, byte: u8) -> u64
+    ensures { 48 ≤ byte → number * 10 + (byte - 48) < 2 ^ 64 → result ≡ number * 10 + (byte - 48) }
+{
+    let digit = u64::from(byte.saturating_sub(b'0'));
+    number.saturating_mul(10).saturating_add(digit)
+}
+
+/// The number that decimal digits write, where it is below 2^64; of another text some number.
+fn worth(text: &[u8]) -> u64
+    ensures { AllDigits 10 text.now → digits_value 10 text.now < 2 ^ 64 → result ≡ digits_value 10 text.now }
+{
+    let mut number: u64 = 0;
+    for c in text {
+        number = with_digit(number, *c);
+    }
+    number
+}
+
 /// The number below 2^64 whose decimal digits a text is, with no leading zero.
 pub(crate) fn read_number(text: &[u8]) -> Option<u64>
     ensures { result ≡ number_of text.now }
 {
-    let digits = match str::from_utf8(text) {
-        Ok(digits) => digits,
-        Err(_) => return None,
-    };
-    let number = match digits.parse::<u64>() {
-        Ok(number) => number,
-        Err(_) => return None,
-    };
+    let number = worth(text);
     if is_decimal(text, number) {
         return Some(number);
     }

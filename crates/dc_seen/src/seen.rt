@@ -121,9 +121,7 @@ fn read_inputs(
     ensures within { IfOk result (λ _. place.new.before ≤ length text.now) }
     ensures at { IfOk result (λ _. place.new.lines ≡ length tables.now.buses) }
 {
-    let Ok(mut rows) = Vec::with_capacity(alloc, tables.bus_count()) else {
-        return Err(Unread::Memory);
-    };
+    let mut rows = Vec::new(alloc);
     for bus in 0..tables.bus_count() {
         let (numbers, behind) = match next_input(tables, certificate, text, *place, bus) {
             Ok(told) => told,
@@ -152,9 +150,7 @@ fn read_outputs(
     ensures within { IfOk result (λ _. place.new.before ≤ length text.now) }
     ensures at { IfOk result (λ _. place.new.lines ≡ length tables.now.buses + length tables.now.outputs) }
 {
-    let Ok(mut rows) = Vec::with_capacity(alloc, tables.output_count()) else {
-        return Err(Unread::Memory);
-    };
+    let mut rows = Vec::new(alloc);
     for output in 0..tables.output_count() {
         let (numbers, behind) = match next_output(tables, certificate, text, *place, output) {
             Ok(told) => told,
@@ -183,9 +179,7 @@ fn read_labels(
     ensures within { IfOk result (λ _. place.new.before ≤ length text.now) }
     ensures at { IfOk result (λ _. place.new.lines ≡ row_count tables.now) }
 {
-    let Ok(mut rows) = Vec::with_capacity(alloc, tables.label_count()) else {
-        return Err(Unread::Memory);
-    };
+    let mut rows = Vec::new(alloc);
     for label in 0..tables.label_count() {
         let (numbers, behind) = match next_label(tables, certificate, text, *place, label) {
             Ok(told) => told,
