@@ -8,3 +8,4 @@ mod texts;
 
 pub use hashed::{Hashed, Hashing};
 pub use stages::{DigestCertificate, DigestTables};
+pub use texts::read_text;

@@ -20,7 +20,10 @@ const TOO_LONG: TableFault = TableFault {
     index: 0,
 };
 
-/// The text of a source within the limit of tables and certificates, or the fault of a longer one.
+/// The text of a source, read whole within the limit of all texts.
+///
+/// # Errors
+/// `Refused` with this fault where it is longer; `Failed` where the source failed or memory was refused.
 pub fn read_text<S: Source, F: Copy>(
     alloc: Global,
     source: &mut S,

@@ -1,18 +1,18 @@
 //! What was observed of a run, from a source.
-ghost use Rattle.std.specs.Prelude.{◌≡◌, ◌≢◌, ◌+◌, ◌≤◌, length, IfErr, IfOk, IfSome};
-ghost use Rattle.dc_answer.specs.Inputs.{ReadsText, failed_in};
+ghost use Rattle.std.specs.Prelude.{◌≡◌, ◌≢◌, ◌+◌, IfErr, IfOk, IfSome};
+ghost use Rattle.dc_answer.specs.Inputs.{failed_in};
 ghost use Rattle.dc_cert.specs.Bounds.{certificate_rows};
 ghost use Rattle.dc_device.specs.States.{AsksUpTo, IsCountable};
 ghost use Rattle.dc_document.specs.declared.limits.TheConstants.{TEXT_LIMIT};
-ghost use Rattle.dc_run_report.specs.Paper.{LoadsSeen, observed_of, too_long_text};
+ghost use Rattle.dc_run_report.specs.Paper.{LoadsSeen, observed_of};
 ghost use Rattle.dc_seen.specs.Said.{seen_of};
 ghost use Rattle.dc_seen_page.specs.Rows.{AreSeenOf};
 
 use dc_answer::{Failure, Unloaded};
 use dc_cert::Certificate;
-use dc_device::{Source, Unread, read_at_most};
-use dc_document::TEXT_LIMIT;
-use dc_seen::{Seen, SeenFault, SeenRule, Unread as Unsaid, read_seen};
+use dc_device::Source;
+use dc_digest::read_text;
+use dc_seen::{Seen, SeenFault, SeenRule, Unread, read_seen};
 use dc_tables::Tables;
 use std::alloc::Global;
 
@@ -21,23 +21,6 @@ const TOO_LONG: SeenFault = SeenFault {
     rule: SeenRule::LineTooLong,
     line: 1,
 };
-
-/// The text of a source within its limit, or the fault of a longer one.
-fn read_text<S: Source>(alloc: Global, source: &mut S) -> Result<Vec<u8>, Unloaded<SeenFault>>
-    requires { IsCountable (S.state source.old) }
-    ensures text { IfSome (S.state source.old).remaining (λ text. ReadsText too_long_text text result) }
-    ensures within { IfOk result (λ bytes. length bytes.items ≤ TEXT_LIMIT) }
-    ensures count { (S.state source.new).failed ≡ (S.state source.old).failed + failed_in result }
-    ensures asks { AsksUpTo TEXT_LIMIT (S.state source.old) (S.state source.new) }
-    ensures sink { IfErr result (λ e. e ≢ Unloaded.Failed Failure.Sink) }
-{
-    match read_at_most(alloc, source, TEXT_LIMIT) {
-        Ok(text) => Ok(text),
-        Err(Unread::Device) => Err(Unloaded::Failed(Failure::Source)),
-        Err(Unread::Memory) => Err(Unloaded::Failed(Failure::Memory)),
-        Err(Unread::TooLong) => Err(Unloaded::Refused(TOO_LONG)),
-    }
-}
 
 /// The numbers of a text.
 fn seen_in(
@@ -53,8 +36,8 @@ fn seen_in(
 {
     match read_seen(alloc, tables, certificate, text) {
         Ok(seen) => Ok(seen),
-        Err(Unsaid::Refused(fault)) => Err(Unloaded::Refused(fault)),
-        Err(Unsaid::Memory) => Err(Unloaded::Failed(Failure::Memory)),
+        Err(Unread::Refused(fault)) => Err(Unloaded::Refused(fault)),
+        Err(Unread::Memory) => Err(Unloaded::Failed(Failure::Memory)),
     }
 }
 
@@ -76,7 +59,7 @@ pub(crate) fn load_observed<S: Source>(
     ensures asks { AsksUpTo TEXT_LIMIT (S.state source.old) (S.state source.new) }
     ensures sink { IfErr result (λ e. e ≢ Unloaded.Failed Failure.Sink) }
 {
-    match read_text(alloc, source) {
+    match read_text(alloc, source, TOO_LONG) {
         Ok(text) => seen_in(alloc, tables, certificate, text.as_slice()),
         Err(unloaded) => Err(unloaded),
     }
