@@ -1,7 +1,7 @@
 -- What `check --digest` reports from what the frame does.
-use Rattle.std.proofs.Common.{◌≡◌, ◌≢◌, ◌⊎◌, ℕ, ◌+◌, List, [], ◌∷◌, refl, sym, ◌∙◌, ap, subst, Option, Ok, Err, inl, inr}
+use Rattle.std.proofs.Common.{◌≡◌, ◌≢◌, ◌⊎◌, ℕ, ◌+◌, List, [], ◌∷◌, refl, sym, ◌∙◌, ap, subst, arith, Option, Ok, Err, inl, inr}
 use Rattle.sha2.specs.Sha256.{sha256}
-use Rattle.dc_answer.specs.Answer.{Answer, Reported, WholeOrNone}
+use Rattle.dc_answer.specs.Answer.{Answer, Any, Reported, WholeOrNone}
 use Rattle.dc_answer.specs.Exits.{exit_with, is_answered}
 use Rattle.dc_answer.specs.Inputs.{AnswersClaims}
 use Rattle.dc_answer.specs.Threads.{ReportsThreads}
@@ -48,7 +48,7 @@ outcome_done WasUnreadable e = absurd (cc)
 done_not_failed : Done ≢ Failed
 done_not_failed e = cc
 
-pub digest_reports : (rows text : List ℕ) (old new : Option (List ℕ)) (a a' b b' k k' : ℕ) (exit : Exit)
+digest_reports : (rows text : List ℕ) (old new : Option (List ℕ)) (a a' b b' k k' : ℕ) (exit : Exit)
     → Reported (WholeOrNone (DigestFrame rows text) (is_answered exit)) old new (a + (b + 0)) (a' + (b' + 0)) k k' exit → ReportsDigests rows text old new (a + b) (a' + b') k k' exit
 digest_reports rows text old new a a' b b' k k' exit r = record {
   reported =
@@ -61,9 +61,34 @@ digest_reports rows text old new a a' b b' k k' exit r = record {
       (digest_as rows text r.answer is).1 (outcome_done r.answer.outcome (sym ends ∙ e));
 }
 
--- what is judged by several workers, or that a thread could not be started
-pub digest_reports_or : (rows text : List ℕ) (old new : Option (List ℕ)) (a a' b b' k k' : ℕ) (exit : Exit)
-    → Reported (WholeOrNone (DigestFrame rows text) (is_answered exit)) old new (a + (b + 0)) (a' + (b' + 0)) k k' exit ⊎ (Unit {0} × ReportsThreads old new (a + (b + 0)) (a' + (b' + 0)) k k' exit)
-    → ReportsDigests rows text old new (a + b) (a' + b') k k' exit ⊎ ReportsThreads old new (a + b) (a' + b') k k' exit
-digest_reports_or rows text old new a a' b b' k k' exit (inl r) = inl (digest_reports rows text old new a a' b b' k k' exit r)
-digest_reports_or rows text old new a a' b b' k k' exit (inr h) = inr (threads_two old new k k' exit a a' b b' h.1)
+-- of both sources how often each had failed before the call (`a`, `b`) and has failed after it, as the frame has it (`a'`, `b'`) and as
+-- the caller does (`p`, `q`)
+
+module _ (old new : Option (List ℕ)) (a a' b b' p q k k' : ℕ) (exit : Exit) (first : p ≡ a') (second : q ≡ b') where
+  both : a' + b' ≡ p + q
+  both = omega (arith, first, second)
+
+  pub digest_told : (rows text : List ℕ) → Reported (WholeOrNone (DigestFrame rows text) (is_answered exit)) old new (a + (b + 0)) (a' + (b' + 0)) k k' exit
+      → ReportsDigests rows text old new (a + b) (p + q) k k' exit
+  digest_told rows text r = subst (λ n. ReportsDigests rows text old new (a + b) n k k' exit) both (digest_reports rows text old new a a' b b' k k' exit r)
+
+  pub any_told : Reported Any old new (a + (b + 0)) (a' + (b' + 0)) k k' exit → Reported Any old new (a + b) (p + q) k k' exit
+  any_told r = subst (λ n. Reported Any old new (a + b) n k k' exit) both (of_two Any old new k k' exit a a' b b' r)
+
+  -- by several workers, where a thread may have been missing
+  threads_told : Unit {0} × ReportsThreads old new (a + (b + 0)) (a' + (b' + 0)) k k' exit → ReportsThreads old new (a + b) (p + q) k k' exit
+  threads_told h = subst (λ n. ReportsThreads old new (a + b) n k k' exit) both (threads_two old new k k' exit a a' b b' h.1)
+
+  pub digest_or : (rows text : List ℕ)
+      → Reported (WholeOrNone (DigestFrame rows text) (is_answered exit)) old new (a + (b + 0)) (a' + (b' + 0)) k k' exit ⊎ (Unit {0} × ReportsThreads old new (a + (b + 0)) (a' + (b' + 0)) k k' exit)
+      → ReportsDigests rows text old new (a + b) (p + q) k k' exit ⊎ ReportsThreads old new (a + b) (p + q) k k' exit
+  digest_or rows text (inl r) = inl (digest_told rows text r)
+  digest_or rows text (inr h) = inr (threads_told h)
+
+  pub any_or_threads : Reported Any old new (a + (b + 0)) (a' + (b' + 0)) k k' exit ⊎ (Unit {0} × ReportsThreads old new (a + (b + 0)) (a' + (b' + 0)) k k' exit)
+      → Reported Any old new (a + b) (p + q) k k' exit ⊎ ReportsThreads old new (a + b) (p + q) k k' exit
+  any_or_threads (inl r) = inl (any_told r)
+  any_or_threads (inr h) = inr (threads_told h)
+
+pub quiet_both : (a a' b b' p q k k' : ℕ) → p ≡ a' → q ≡ b' → a' + (b' + 0) + k' ≡ a + (b + 0) + k → p + q + k' ≡ a + b + k
+quiet_both a a' b b' p q k k' first second h = omega (arith, first, second, h)
