@@ -16,7 +16,7 @@ use Rattle.dc_seen.specs.Reading.{seen_rows}
 use Rattle.dc_seen.specs.Said.{SeenRows, seen_of}
 use Rattle.dc_seen.specs.declared.fault.SeenFault.{SeenFault}
 use Rattle.dc_seen.specs.declared.seen.Seen.{Seen}
-use Rattle.dc_answer.specs.Answer.{Answer, Reported, WholeOrNone}
+use Rattle.dc_answer.specs.Answer.{Answer, Any, Reported, WholeOrNone}
 use Rattle.dc_answer.specs.Exits.{is_answered}
 use Rattle.dc_answer.specs.Inputs.{AnswersCertificate, AnswersWritten, AnswersClaims as FrameClaims, ReadsText, failed_in}
 use Rattle.dc_answer.specs.Judging.{Keeps, Raised, Says, to_write}
@@ -104,13 +104,24 @@ observed_as rows given observed answer (Ok w, tells, is) = (Ok w.tables, tables_
 observed_as rows given observed answer (Err (RefusedTables fault), tells, is) = (Err (RefusedTables fault), tells, is)
 observed_as rows given observed answer (Err (NoTables e), tells, is) = absurd is
 
-pub observed_reports : (rows given observed : List ℕ) (old new : Option (List ℕ)) (a a' b b' d d' k k' : ℕ) (exit : Exit)
+pub observed_reports : (rows given observed : List ℕ) (old new : Option (List ℕ)) (a a' b b' d d' p q o k k' : ℕ) (exit : Exit) → p ≡ a' → q ≡ b' → o ≡ d'
     → Reported (WholeOrNone (ObservedFrame rows given observed) (is_answered exit)) old new (a + (b + (d + 0))) (a' + (b' + (d' + 0))) k k' exit
-    → ReportsObserved rows given observed old new (a + (b + d)) (a' + (b' + d')) k k' exit
-observed_reports rows given observed old new a a' b b' d d' k k' exit r =
-    reported_as (WholeOrNone (ObservedFrame rows given observed) (is_answered exit)) (WholeOrNone (AnswersObserved rows given observed) (is_answered exit)) old new (a + (b + d)) (a' + (b' + d')) k k' exit
+    → ReportsObserved rows given observed old new (a + (b + d)) (p + (q + o)) k k' exit
+observed_reports rows given observed old new a a' b b' d d' p q o k k' exit first second third r =
+    let same : a' + (b' + d') ≡ p + (q + o) = omega (arith, first, second, third) in
+    subst (λ n. ReportsObserved rows given observed old new (a + (b + d)) n k k' exit) same
+    (reported_as (WholeOrNone (ObservedFrame rows given observed) (is_answered exit)) (WholeOrNone (AnswersObserved rows given observed) (is_answered exit)) old new (a + (b + d)) (a' + (b' + d')) k k' exit
     (whole_as (ObservedFrame rows given observed) (AnswersObserved rows given observed) (is_answered exit) (observed_as rows given observed))
-    (of_three (WholeOrNone (ObservedFrame rows given observed) (is_answered exit)) old new k k' exit a a' b b' d d' r)
+    (of_three (WholeOrNone (ObservedFrame rows given observed) (is_answered exit)) old new k k' exit a a' b b' d d' r))
+
+pub any_of_three : (old new : Option (List ℕ)) (a a' b b' d d' p q o k k' : ℕ) (exit : Exit) → p ≡ a' → q ≡ b' → o ≡ d'
+    → Reported Any old new (a + (b + (d + 0))) (a' + (b' + (d' + 0))) k k' exit → Reported Any old new (a + (b + d)) (p + (q + o)) k k' exit
+any_of_three old new a a' b b' d d' p q o k k' exit first second third r =
+    let same : a' + (b' + d') ≡ p + (q + o) = omega (arith, first, second, third) in
+    subst (λ n. Reported Any old new (a + (b + d)) n k k' exit) same (of_three Any old new k k' exit a a' b b' d d' r)
+
+pub quiet_of_three : (a a' b b' d d' p q o k k' : ℕ) → p ≡ a' → q ≡ b' → o ≡ d' → a' + (b' + (d' + 0)) + k' ≡ a + (b + (d + 0)) + k → p + (q + o) + k' ≡ a + (b + d) + k
+quiet_of_three a a' b b' d d' p q o k k' first second third h = omega (arith, first, second, third, h)
 
 -- ---- what is asked for
 

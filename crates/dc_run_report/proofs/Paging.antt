@@ -1,5 +1,5 @@
 -- What `report` answers, and what it reports from what the frame does.
-use Rattle.std.proofs.Common.{◌≡◌, ℕ, ◌+◌, ◌++◌, List, [], ◌∷◌, refl, ap, subst, sym, ◌∙◌, append-nil, append_assoc, Option, IfOk, Result, Ok, Err, inl, inr}
+use Rattle.std.proofs.Common.{◌≡◌, ℕ, ◌+◌, ◌++◌, List, [], ◌∷◌, refl, ap, subst, sym, ◌∙◌, append-nil, append_assoc, arith, Option, IfOk, Result, Ok, Err, inl, inr}
 use Rattle.dc_cert.specs.NamedRows.{NamedRows, named_rows}
 use Rattle.dc_cert.specs.Reading.{Reading as CertificateReading, certificate_of}
 use Rattle.dc_check.specs.Verdict.{verdict_of}
@@ -13,7 +13,7 @@ use Rattle.dc_tables.specs.TableRows.{TableRows}
 use Rattle.dc_toml.specs.Faults.{Reading}
 use Rattle.dc_toml.specs.Reading.{tables_of}
 use Rattle.dc_toml.specs.Written.{Written}
-use Rattle.dc_answer.specs.Answer.{Answer, Reported, WholeOrNone, one_line}
+use Rattle.dc_answer.specs.Answer.{Answer, Any, Reported, WholeOrNone, one_line}
 use Rattle.dc_answer.specs.Exits.{is_answered}
 use Rattle.dc_answer.specs.Inputs.{AnswersCertificate, AnswersWritten, AnswersClaims as FrameClaims}
 use Rattle.dc_answer.specs.Judging.{Keeps, Says}
@@ -81,15 +81,38 @@ least_as rows answer (Ok w, tells, is) = (Ok w.tables, tables_alone (tables_of r
 least_as rows answer (Err (RefusedTables fault), tells, is) = (Err (RefusedTables fault), tells, is)
 least_as rows answer (Err (NoTables e), tells, is) = absurd is
 
-pub page_reports : (rows given : List ℕ) (old new : Option (List ℕ)) (a a' b b' k k' : ℕ) (exit : Exit)
-    → Reported (WholeOrNone (ReportFrame rows given) (is_answered exit)) old new (a + (b + 0)) (a' + (b' + 0)) k k' exit → ReportsPage rows given old new (a + b) (a' + b') k k' exit
-page_reports rows given old new a a' b b' k k' exit r =
-    reported_as (WholeOrNone (ReportFrame rows given) (is_answered exit)) (WholeOrNone (AnswersReport rows given) (is_answered exit)) old new (a + b) (a' + b') k k' exit
-    (whole_as (ReportFrame rows given) (AnswersReport rows given) (is_answered exit) (page_as rows given))
-    (of_two (WholeOrNone (ReportFrame rows given) (is_answered exit)) old new k k' exit a a' b b' r)
+-- Of each source how often it had failed before the call (`a`, `b`) and has failed after it, as the frame has it (`a'`, `b'`) and as the
+-- caller does (`p`, `q`).
 
-pub least_reports : (rows : List ℕ) (old new : Option (List ℕ)) (a a' k k' : ℕ) (exit : Exit)
-    → Reported (WholeOrNone (LeastFrame rows) (is_answered exit)) old new (a + 0) (a' + 0) k k' exit → ReportsLeast rows old new a a' k k' exit
-least_reports rows old new a a' k k' exit r =
-    reported_as (WholeOrNone (LeastFrame rows) (is_answered exit)) (WholeOrNone (AnswersLeast rows) (is_answered exit)) old new a a' k k' exit
-    (whole_as (LeastFrame rows) (AnswersLeast rows) (is_answered exit) (least_as rows)) (of_one (WholeOrNone (LeastFrame rows) (is_answered exit)) old new k k' exit a a' r)
+pub page_reports : (rows given : List ℕ) (old new : Option (List ℕ)) (a a' b b' p q k k' : ℕ) (exit : Exit) → p ≡ a' → q ≡ b'
+    → Reported (WholeOrNone (ReportFrame rows given) (is_answered exit)) old new (a + (b + 0)) (a' + (b' + 0)) k k' exit → ReportsPage rows given old new (a + b) (p + q) k k' exit
+page_reports rows given old new a a' b b' p q k k' exit first second r =
+    let same : a' + b' ≡ p + q = omega (arith, first, second) in
+    subst (λ n. ReportsPage rows given old new (a + b) n k k' exit) same
+    (reported_as (WholeOrNone (ReportFrame rows given) (is_answered exit)) (WholeOrNone (AnswersReport rows given) (is_answered exit)) old new (a + b) (a' + b') k k' exit
+    (whole_as (ReportFrame rows given) (AnswersReport rows given) (is_answered exit) (page_as rows given))
+    (of_two (WholeOrNone (ReportFrame rows given) (is_answered exit)) old new k k' exit a a' b b' r))
+
+pub least_reports : (rows : List ℕ) (old new : Option (List ℕ)) (a a' p k k' : ℕ) (exit : Exit) → p ≡ a'
+    → Reported (WholeOrNone (LeastFrame rows) (is_answered exit)) old new (a + 0) (a' + 0) k k' exit → ReportsLeast rows old new a p k k' exit
+least_reports rows old new a a' p k k' exit first r =
+    subst (λ n. ReportsLeast rows old new a n k k' exit) (sym first)
+    (reported_as (WholeOrNone (LeastFrame rows) (is_answered exit)) (WholeOrNone (AnswersLeast rows) (is_answered exit)) old new a a' k k' exit
+    (whole_as (LeastFrame rows) (AnswersLeast rows) (is_answered exit) (least_as rows)) (of_one (WholeOrNone (LeastFrame rows) (is_answered exit)) old new k k' exit a a' r))
+
+-- whatever the sources give
+pub any_of_two : (old new : Option (List ℕ)) (a a' b b' p q k k' : ℕ) (exit : Exit) → p ≡ a' → q ≡ b'
+    → Reported Any old new (a + (b + 0)) (a' + (b' + 0)) k k' exit → Reported Any old new (a + b) (p + q) k k' exit
+any_of_two old new a a' b b' p q k k' exit first second r =
+    let same : a' + b' ≡ p + q = omega (arith, first, second) in
+    subst (λ n. Reported Any old new (a + b) n k k' exit) same (of_two Any old new k k' exit a a' b b' r)
+
+pub any_of_one : (old new : Option (List ℕ)) (a a' p k k' : ℕ) (exit : Exit) → p ≡ a' → Reported Any old new (a + 0) (a' + 0) k k' exit → Reported Any old new a p k k' exit
+any_of_one old new a a' p k k' exit first r = subst (λ n. Reported Any old new a n k k' exit) (sym first) (of_one Any old new k k' exit a a' r)
+
+-- nothing has failed
+pub quiet_of_two : (a a' b b' p q k k' : ℕ) → p ≡ a' → q ≡ b' → a' + (b' + 0) + k' ≡ a + (b + 0) + k → p + q + k' ≡ a + b + k
+quiet_of_two a a' b b' p q k k' first second h = omega (arith, first, second, h)
+
+pub quiet_of_one : (a a' p k k' : ℕ) → p ≡ a' → a' + 0 + k' ≡ a + 0 + k → p + k' ≡ a + k
+quiet_of_one a a' p k k' first h = omega (arith, first, h)

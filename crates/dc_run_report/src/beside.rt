@@ -1,5 +1,5 @@
 //! `report` with a certificate and what was observed of a run.
-ghost use Rattle.std.specs.Prelude.{◌≡◌, ◌≢◌, ℕ, List, [], ◌∷◌, ◌+◌, ◌<◌, IfErr, IfOk, IfSome, Some};
+ghost use Rattle.std.specs.Prelude.{◌≡◌, ◌≢◌, ℕ, List, [], ◌∷◌, ◌+◌, ◌<◌, IfErr, IfSome, Some};
 ghost use Rattle.dc_answer.specs.Answer.{Any, LeavesSink, Reported};
 ghost use Rattle.dc_answer.specs.Inputs.{OnlyBehind};
 ghost use Rattle.dc_answer.specs.Judging.{Keeps, Raised, Says};
@@ -11,7 +11,7 @@ ghost use Rattle.dc_toml.specs.Reading.{tables_of};
 ghost use Rattle.dc_run_report.specs.Paper.{AnswersBeside, AnswersText, IsPage, OnlyBehindBoth, ReportsObserved, outcome_of, seen_end};
 ghost use Rattle.dc_seen_page.specs.Rows.{AreSeenOf};
 
-use crate::given::keep_judged;
+use crate::given::report_on;
 use crate::identity::{PageOf, Shown};
 use crate::observed::load_observed;
 use dc_answer::{
@@ -26,24 +26,6 @@ use dc_seen::{Seen, SeenFault};
 use dc_seen_page::seen_section;
 use std::alloc::{AllocError, Global};
 
-/// Keeps the page on a certificate and on what was seen, with the outcome of its verdict.
-fn keep_beside(
-    alloc: Global,
-    written: &WrittenTables,
-    certificate: &Certificate,
-    seen: &Seen,
-    shown: Shown<'_, '_>,
-    page: &mut Page,
-) -> Result<Outcome, AllocError>
-    requires { AreSeenOf written.now.tables seen.now }
-    ensures outcome { IfOk result (λ o. o ≡ outcome_of (verdict_of written.now.tables (named_rows certificate.now))) }
-{
-    match seen_section(alloc, written.tables(), certificate, seen) {
-        Ok(section) => keep_judged(alloc, written, certificate, shown, section.as_str(), page),
-        Err(error) => Err(error),
-    }
-}
-
 /// Judges a certificate, and keeps the page on it and on what was seen.
 fn report_beside(
     alloc: Global,
@@ -56,7 +38,10 @@ fn report_beside(
     requires { AreSeenOf written.now.tables seen.now }
     ensures { Keeps (IsPage (outcome_of (verdict_of written.now.tables (named_rows certificate.now)))) page.new result }
 {
-    keep_beside(alloc, written, certificate, seen, shown, page)
+    match seen_section(alloc, written.tables(), certificate, seen) {
+        Ok(section) => report_on(alloc, written, certificate, shown, section.as_str(), page),
+        Err(error) => Err(error),
+    }
 }
 
 /// The same, as a stage has it.

@@ -1,5 +1,5 @@
 //! `report` with a certificate.
-ghost use Rattle.std.specs.Prelude.{◌≡◌, ◌≢◌, ℕ, List, ◌+◌, ◌<◌, IfOk, IfSome, Some};
+ghost use Rattle.std.specs.Prelude.{◌≡◌, ◌≢◌, ℕ, List, ◌+◌, ◌<◌, IfSome, Some};
 ghost use Rattle.dc_answer.specs.Answer.{Any, LeavesSink, Reported};
 ghost use Rattle.dc_answer.specs.Inputs.{OnlyBehind};
 ghost use Rattle.dc_answer.specs.Judging.{Keeps};
@@ -11,7 +11,7 @@ ghost use Rattle.dc_toml.specs.Reading.{tables_of};
 ghost use Rattle.dc_run_report.specs.Paper.{IsPage, ReportsPage, outcome_of};
 
 use crate::identity::{PageOf, Shown};
-use crate::pages::keep_page_with;
+use crate::pages::keep_page;
 use dc_answer::{End, Exit, Outcome, Page, ReadCertificate, ReadWritten, Tell, Then, With, run};
 use dc_build::WrittenTables;
 use dc_cert::Certificate;
@@ -19,8 +19,8 @@ use dc_check::verdict;
 use dc_device::{Sink, Source};
 use std::alloc::{AllocError, Global};
 
-/// Keeps the page on a certificate with the outcome of its verdict, and this section behind its parts.
-pub(crate) fn keep_judged(
+/// Judges a certificate, and keeps the page on it, with this section behind its parts.
+pub(crate) fn report_on(
     alloc: Global,
     written: &WrittenTables,
     certificate: &Certificate,
@@ -28,23 +28,10 @@ pub(crate) fn keep_judged(
     section: &str,
     page: &mut Page,
 ) -> Result<Outcome, AllocError>
-    ensures outcome { IfOk result (λ o. o ≡ outcome_of (verdict_of written.now.tables (named_rows certificate.now))) }
-{
-    let fault = verdict(written.tables(), certificate).err();
-    keep_page_with(alloc, written, certificate, fault, shown, section, page)
-}
-
-/// Judges a certificate, and keeps the page on it.
-fn report_on(
-    alloc: Global,
-    written: &WrittenTables,
-    certificate: &Certificate,
-    shown: Shown<'_, '_>,
-    page: &mut Page,
-) -> Result<Outcome, AllocError>
     ensures { Keeps (IsPage (outcome_of (verdict_of written.now.tables (named_rows certificate.now)))) page.new result }
 {
-    keep_judged(alloc, written, certificate, shown, "", page)
+    let fault = verdict(written.tables(), certificate).err();
+    keep_page(alloc, written, certificate, fault, shown, section, page)
 }
 
 /// Makes the page on a certificate for tables, with the outcome of its verdict. No clause says what stands in the page:
@@ -65,7 +52,7 @@ impl<'n, 'h> Tell<(WrittenTables, Certificate)> for Report<'n, 'h> {
         page: &mut Page,
     ) -> Result<Outcome, AllocError> {
         let (written, certificate) = known;
-        report_on(alloc, &written, &certificate, self.shown, page)
+        report_on(alloc, &written, &certificate, self.shown, "", page)
     }
 }
 

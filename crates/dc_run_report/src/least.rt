@@ -25,7 +25,7 @@ fn report_least(
     ensures { Keeps (AnswersRows written.now.tables) page.new result }
 {
     match find(alloc, written.tables()) {
-        Ok(certificate) => keep_page(alloc, written, &certificate, None, shown, page),
+        Ok(certificate) => keep_page(alloc, written, &certificate, None, shown, "", page),
         Err(fault) => keep_sought(alloc, written, fault, shown, page),
     }
 }

@@ -132,7 +132,7 @@ fn page_text(
 ///
 /// # Errors
 /// `AllocError` where memory was refused.
-pub fn keep_page_with(
+pub fn keep_page(
     alloc: Global,
     written: &WrittenTables,
     certificate: &Certificate,
@@ -147,23 +147,4 @@ pub fn keep_page_with(
     let text = page_text(alloc, written, certificate, fault, shown, section)?;
     page.keep(text.as_bytes())?;
     Ok(outcome(fault))
-}
-
-/// Keeps the page on a certificate, given the fault of its verdict, with the outcome of that; and with what is shown
-/// beside it.
-///
-/// # Errors
-/// `AllocError` where memory was refused.
-pub fn keep_page(
-    alloc: Global,
-    written: &WrittenTables,
-    certificate: &Certificate,
-    fault: Option<CheckFault>,
-    shown: Shown<'_, '_>,
-    page: &mut Page,
-) -> Result<Outcome, AllocError>
-    requires { fault ≡ verdict_of written.now.tables (named_rows certificate.now) }
-    ensures outcome { IfOk result (λ o. o ≡ outcome_of fault) }
-{
-    keep_page_with(alloc, written, certificate, fault, shown, "", page)
 }

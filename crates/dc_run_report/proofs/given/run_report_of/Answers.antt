@@ -1,31 +1,20 @@
-use Rattle.std.proofs.Common.{◌≡◌, ◌+◌, [], ◌∷◌, ap, arith, rules, subst, sym}
-use Rattle.dc_answer.specs.Answer.{Any, Reported}
-use Rattle.dc_answer.specs.lemmas.Plain.{of_two, order_written, plain}
-use Rattle.dc_run_report.specs.Paper.{ReportsPage}
-use Rattle.dc_run_report.proofs.Paging.{page_reports}
+use Rattle.std.proofs.Common.{◌≡◌, [], ◌∷◌, ap, rules}
+use Rattle.dc_answer.specs.lemmas.Plain.{order_written, plain}
+use Rattle.dc_run_report.proofs.Paging.{any_of_two, page_reports, quiet_of_two}
 use Rattle.dc_run_report.proofs.given.run_report_of.Goals as goal
 
-pub returns-clause-reports : goal.returns-clause-reports
-returns-clause-reports g c = λ rows text e f.
-    let same0 : c.tables-1.given.0 ≡ c.run.new.given.first.now = search rules in
-    let same1 : c.certificate-1.given.0 ≡ c.run.new.given.rest.first.now = search rules in
-    subst (λ x. ReportsPage rows text (g.K.Sink.state c.args.sink.now).contents (g.K.Sink.state c.run.new.sink).contents ((g.T.Source.state c.args.tables.now).failed + (g.C.Source.state c.args.certificate.now).failed) ((g.T.Source.state c.tables-1.given.0).failed + (g.C.Source.state x).failed) (g.K.Sink.state c.args.sink.now).failed (g.K.Sink.state c.run.new.sink).failed c.run.result) (sym same1) (subst (λ x. ReportsPage rows text (g.K.Sink.state c.args.sink.now).contents (g.K.Sink.state c.run.new.sink).contents ((g.T.Source.state c.args.tables.now).failed + (g.C.Source.state c.args.certificate.now).failed) ((g.T.Source.state x).failed + (g.C.Source.state c.run.new.given.rest.first.now).failed) (g.K.Sink.state c.args.sink.now).failed (g.K.Sink.state c.run.new.sink).failed c.run.result) (sym same0) (page_reports rows text _ _ _ _ _ _ _ _ _ (plain (c.run.ensures.reports (rows ∷ text ∷ []) (e, (f, tt))))))
-
-pub returns-clause-reported : goal.returns-clause-reported
-returns-clause-reported g c =
-    let same0 : c.tables-1.given.0 ≡ c.run.new.given.first.now = search rules in
-    let same1 : c.certificate-1.given.0 ≡ c.run.new.given.rest.first.now = search rules in
-    subst (λ x. Reported Any (g.K.Sink.state c.args.sink.now).contents (g.K.Sink.state c.run.new.sink).contents ((g.T.Source.state c.args.tables.now).failed + (g.C.Source.state c.args.certificate.now).failed) ((g.T.Source.state c.tables-1.given.0).failed + (g.C.Source.state x).failed) (g.K.Sink.state c.args.sink.now).failed (g.K.Sink.state c.run.new.sink).failed c.run.result) (sym same1) (subst (λ x. Reported Any (g.K.Sink.state c.args.sink.now).contents (g.K.Sink.state c.run.new.sink).contents ((g.T.Source.state c.args.tables.now).failed + (g.C.Source.state c.args.certificate.now).failed) ((g.T.Source.state x).failed + (g.C.Source.state c.run.new.given.rest.first.now).failed) (g.K.Sink.state c.args.sink.now).failed (g.K.Sink.state c.run.new.sink).failed c.run.result) (sym same0) (of_two Any _ _ _ _ _ _ _ _ _ (plain c.run.ensures.reported)))
-
-pub returns-clause-order : goal.returns-clause-order
-returns-clause-order g c =
-    let same : c.certificate-1.given.0 ≡ c.run.new.given.rest.first.now = search rules in
-    rw same (order_written _ _ (λ rows e. c.run.ensures.order (rows ∷ []) (e, tt)))
-
-pub returns-clause-quiet : goal.returns-clause-quiet
-returns-clause-quiet g c = λ not.
+pub returns : goal.returns
+returns g c =
     let same0 : c.tables-1.given.0 ≡ c.run.new.given.first.now = search rules in
     let same1 : c.certificate-1.given.0 ≡ c.run.new.given.rest.first.now = search rules in
     let n0 = ap (λ x. (g.T.Source.state x).failed) same0 in
     let n1 = ap (λ x. (g.C.Source.state x).failed) same1 in
-    let q = c.run.ensures.quiet not in omega (arith, q, n0, n1)
+    record {
+      reports = λ rows text e f. page_reports rows text _ _ _ _ _ _ _ _ _ _ _ n0 n1 (plain (c.run.ensures.reports (rows ∷ text ∷ []) (e, (f, tt))));
+      reported = any_of_two _ _ _ _ _ _ _ _ _ _ _ n0 n1 (plain c.run.ensures.reported);
+      asks_tables = rw same0 (c.run.ensures.asks.0);
+      asks_certificate = rw same1 (c.run.ensures.asks.1.0);
+      order = rw same1 (order_written _ _ (λ rows e. c.run.ensures.order (rows ∷ []) (e, tt)));
+      left = c.run.ensures.left;
+      quiet = λ not. quiet_of_two _ _ _ _ _ _ _ _ n0 n1 (c.run.ensures.quiet not);
+    }

@@ -1,22 +1,16 @@
-use Rattle.std.proofs.Common.{◌≡◌, ◌+◌, [], ◌∷◌, ap, arith, rules, subst, sym}
-use Rattle.dc_answer.specs.Answer.{Any, Reported}
-use Rattle.dc_answer.specs.lemmas.Plain.{of_one, plain}
-use Rattle.dc_run_report.specs.Paper.{ReportsLeast}
-use Rattle.dc_run_report.proofs.Paging.{least_reports}
+use Rattle.std.proofs.Common.{◌≡◌, [], ◌∷◌, ap, rules}
+use Rattle.dc_answer.specs.lemmas.Plain.{plain}
+use Rattle.dc_run_report.proofs.Paging.{any_of_one, least_reports, quiet_of_one}
 use Rattle.dc_run_report.proofs.least.run_report_least_of.Goals as goal
 
-pub returns-clause-reports : goal.returns-clause-reports
-returns-clause-reports g c = λ rows e.
-    let same0 : c.tables-1.given.0 ≡ c.run.new.given.first.now = search rules in
-    subst (λ x. ReportsLeast rows (g.K.Sink.state c.args.sink.now).contents (g.K.Sink.state c.run.new.sink).contents (g.T.Source.state c.args.tables.now).failed (g.T.Source.state x).failed (g.K.Sink.state c.args.sink.now).failed (g.K.Sink.state c.run.new.sink).failed c.run.result) (sym same0) (least_reports rows _ _ _ _ _ _ _ (plain (c.run.ensures.reports (rows ∷ []) (e, tt))))
-
-pub returns-clause-reported : goal.returns-clause-reported
-returns-clause-reported g c =
-    let same0 : c.tables-1.given.0 ≡ c.run.new.given.first.now = search rules in
-    subst (λ x. Reported Any (g.K.Sink.state c.args.sink.now).contents (g.K.Sink.state c.run.new.sink).contents (g.T.Source.state c.args.tables.now).failed (g.T.Source.state x).failed (g.K.Sink.state c.args.sink.now).failed (g.K.Sink.state c.run.new.sink).failed c.run.result) (sym same0) (of_one Any _ _ _ _ _ _ _ (plain c.run.ensures.reported))
-
-pub returns-clause-quiet : goal.returns-clause-quiet
-returns-clause-quiet g c = λ not.
+pub returns : goal.returns
+returns g c =
     let same0 : c.tables-1.given.0 ≡ c.run.new.given.first.now = search rules in
     let n0 = ap (λ x. (g.T.Source.state x).failed) same0 in
-    let q = c.run.ensures.quiet not in omega (arith, q, n0)
+    record {
+      reports = λ rows e. least_reports rows _ _ _ _ _ _ _ _ n0 (plain (c.run.ensures.reports (rows ∷ []) (e, tt)));
+      reported = any_of_one _ _ _ _ _ _ _ _ n0 (plain c.run.ensures.reported);
+      asks = rw same0 (c.run.ensures.asks.0);
+      left = c.run.ensures.left;
+      quiet = λ not. quiet_of_one _ _ _ _ _ n0 (c.run.ensures.quiet not);
+    }
