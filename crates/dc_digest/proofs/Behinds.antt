@@ -1,5 +1,5 @@
 -- Digests behind an answer.
-use Rattle.std.proofs.Common.{◌≡◌, ℕ, ◌≤◌, ◌++◌, List, [], ◌∷◌, length, refl, sym, ◌∙◌, ap, subst, append_assoc, codes, IfOk, IfSome, Some, Result, Ok, Err}
+use Rattle.std.proofs.Common.{◌≡◌, ℕ, ◌+◌, ◌≤◌, ◌++◌, List, [], ◌∷◌, length, refl, sym, ◌∙◌, ap, subst, append_assoc, arith, codes, IfOk, IfSome, Some, Result, Ok, Err}
 use Rattle.hex.specs.Hex.{encode_lower}
 use Rattle.sha2.specs.Sha256.{sha256}
 use Rattle.dc_answer.specs.Answer.{Answer}
@@ -23,6 +23,10 @@ use Rattle.dc_device.specs.lemmas.LineLemmas.{spelled-append}
 use Rattle.dc_document.specs.declared.limits.TheConstants.{TEXT_LIMIT}
 use Rattle.dc_digest.specs.Behind.{AnswersBehind, behind}
 use Rattle.dc_digest.specs.lemmas.Behind.{long_behind, whole_behind}
+
+-- where a text is refused, nothing has failed, of its source and those behind it
+pub refused_raised : (a a' b : ℕ) → a' ≡ a + 0 → a' + b ≡ a + b
+refused_raised a a' b h = omega (arith, h)
 
 -- ---- lines
 

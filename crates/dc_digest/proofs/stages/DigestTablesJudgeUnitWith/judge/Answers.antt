@@ -2,6 +2,7 @@ use Rattle.std.proofs.Common.{inl}
 use Rattle.dc_build.specs.Reported.{TellsTables}
 use Rattle.dc_answer.specs.Inputs.{TablesGoOn}
 use Rattle.dc_answer.specs.lemmas.Stages.{tables_order, kept_order, none_ask, read_raised, unread_raised}
+use Rattle.dc_digest.proofs.Behinds.{refused_raised}
 use Rattle.dc_digest.proofs.Digested.{digested_read, digested_refused, tables_loaded}
 use Rattle.dc_digest.proofs.stages.DigestTablesJudgeUnitWith.judge.Goals as goal
 
@@ -33,3 +34,21 @@ returns-in-Err-Failed-clause-order g c = kept_order g.R.Given.kept g.R.Given.kep
 
 pub returns-in-Err-Failed-clause-raises : goal.returns-in-Err-Failed-clause-raises
 returns-in-Err-Failed-clause-raises g c = unread_raised _ _ _ c.in-Err-Failed.failure _ _ c.in-Err-Failed.failure-is c.unread.ensures.told (rw c.in-Err-Failed.field-0-is at c.in-Err-Failed.ensures.count)
+
+pub returns-in-Ok-clause-asks : goal.returns-in-Ok-clause-asks
+returns-in-Ok-clause-asks g c = (c.in-Ok.ensures.asks, c.judge.ensures.asks)
+
+pub returns-in-Ok-clause-threads : goal.returns-in-Ok-clause-threads
+returns-in-Ok-clause-threads g c = c.judge.ensures.threads
+
+pub returns-in-Err-Refused-clause-raises : goal.returns-in-Err-Refused-clause-raises
+returns-in-Err-Refused-clause-raises g c = refused_raised _ _ _ (rw c.in-Err-Refused.field-0-is at c.in-Err-Refused.ensures.count)
+
+pub returns-in-Err-Refused-clause-threads : goal.returns-in-Err-Refused-clause-threads
+returns-in-Err-Refused-clause-threads g c = tt
+
+pub returns-in-Err-Failed-clause-answer : goal.returns-in-Err-Failed-clause-answer
+returns-in-Err-Failed-clause-answer g c = λ texts are. tt
+
+pub returns-in-Err-Failed-clause-threads : goal.returns-in-Err-Failed-clause-threads
+returns-in-Err-Failed-clause-threads g c = λ is. absurd (c.unread.ensures.threads is)
