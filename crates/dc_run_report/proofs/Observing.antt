@@ -6,6 +6,7 @@ use Rattle.dc_cert.specs.NamedRows.{NamedRows, named_rows}
 use Rattle.dc_cert.specs.Reading.{Reading as CertificateReading, certificate_of}
 use Rattle.dc_cert.specs.declared.certificate.Certificate.{Certificate}
 use Rattle.dc_check.specs.Verdict.{verdict_of}
+use Rattle.dc_device.specs.States.{SourceState}
 use Rattle.dc_document.specs.declared.fault.BuildError.TheVariants.{Refused as RefusedTables, Memory as NoTables}
 use Rattle.dc_document.specs.declared.limits.TheConstants.{TEXT_LIMIT}
 use Rattle.dc_build.specs.Reported.{AreWrittenBy}
@@ -18,6 +19,7 @@ use Rattle.dc_seen.specs.declared.fault.SeenFault.{SeenFault}
 use Rattle.dc_seen.specs.declared.seen.Seen.{Seen}
 use Rattle.dc_answer.specs.Answer.{Answer, Any, Reported, WholeOrNone}
 use Rattle.dc_answer.specs.Exits.{is_answered}
+use Rattle.dc_answer.specs.Given.{AreTexts}
 use Rattle.dc_answer.specs.Inputs.{AnswersCertificate, AnswersWritten, AnswersClaims as FrameClaims, ReadsText, failed_in}
 use Rattle.dc_answer.specs.Judging.{Keeps, Raised, Says, to_write}
 use Rattle.dc_answer.specs.declared.answer.Failure.{Failure}
@@ -78,6 +80,15 @@ module _ (t : TableRows) (claims : NamedRows) (page : List ℕ) where
   fault_told (Some text) fault told outcome loads at (answer, is, same, ends) =
       (answer, subst (λ said. AnswersSeen t claims answer said) (sym loads) (is ∙ ap seen_end at), same, ends)
 
+-- nothing is told where it was not read
+pub not_told : (r : Option (List ℕ)) → IfSome r (λ text. Unit {0})
+not_told None = tt
+not_told (Some text) = tt
+
+-- where it was refused, nothing has failed
+pub refused_alone : (a a' : ℕ) → a' ≡ a + 0 → a' ≡ a
+refused_alone a a' h = omega (arith, h)
+
 -- where it was read, what comes then raises no failure
 pub raised_behind : (a a' : ℕ) (result : Result Outcome Unjudged) → a' ≡ a + 0 → ((n : ℕ) → Raised n n result) → Raised a a' result
 raised_behind a a' result e h =
@@ -88,6 +99,18 @@ raised_behind a a' result e h =
 pub unread_alone : (a a' : ℕ) (failure given : Failure) (e : Unjudged) → given ≡ failure → to_write (Err e) ≡ Some (Err given) → a' ≡ a + failed_in {T = ℕ} {F = ℕ} (Err (Failed failure)) → Raised a a' (Err e)
 unread_alone a a' failure given e same told h =
     subst (λ n. Raised n a' (Err e)) (add-zero a) (subst (λ n. Raised (a + 0) n (Err e)) (add-zero a') (unread_raised a a' 0 failure given e same told h))
+
+-- what was answered to the text is so to the texts that are left
+pub beside_answered : (t : TableRows) (claims : NamedRows) (page : List ℕ) (s : SourceState) (result : Result Outcome Unjudged) → IfSome s.remaining (λ text. Keeps (AnswersText t claims text) page result)
+    → (texts : List (List ℕ)) → AreTexts (s ∷ []) texts → Keeps (AnswersBeside t claims texts) page result
+beside_answered t claims page s result told [] are = absurd are
+beside_answered t claims page s result told (text ∷ []) (e, are) =
+    let here = rw e at told in kept_as (AnswersText t claims text) (AnswersBeside t claims (text ∷ [])) page result (λ answer is. is) here
+beside_answered t claims page s result told (text ∷ more ∷ texts) (e, are) = absurd are
+
+-- its failures are those of the sources that are left
+pub raised_alone : (a a' : ℕ) (result : Result Outcome Unjudged) → Raised a a' result → Raised (a + 0) (a' + 0) result
+raised_alone a a' result h = subst (λ n. Raised (a + 0) n result) (sym (add-zero a')) (subst (λ n. Raised n a' result) (sym (add-zero a)) h)
 
 -- ---- what is reported
 
