@@ -3,7 +3,7 @@ use Rattle.std.proofs.Common.{◌≡◌, ◌||◌, Bool, true, false, List, [], 
 use Rattle.std.specs.List.{list_any}
 use Rattle.dc_cell.specs.Strays.{is_any_of_inputs, is_any_of_outputs}
 use Rattle.dc_cell.specs.declared.titles.Column.{Column}
-use Rattle.dc_cell.specs.declared.titles.Column.TheVariants as col
+use Rattle.dc_cell.specs.declared.titles.TheConstants.{INPUT_COLUMNS, OUTPUT_COLUMNS}
 
 -- one after another from the left
 from_left : {X : Type 0} (says : X → Bool) (before : Bool) (xs : List X) → (before || list_any says xs) ≡ fold (λ b x. b || says x) before xs
@@ -12,8 +12,8 @@ from_left says false [] = refl
 from_left says true (x ∷ xs) = from_left says true xs
 from_left says false (x ∷ xs) = from_left says (says x) xs
 
-pub any_of_inputs : (says : Column → Bool) → list_any says (col.Bus ∷ col.Speed ∷ col.Label ∷ col.Equipment ∷ col.Format ∷ col.Min ∷ col.Max ∷ col.Sdi ∷ col.Jitter ∷ col.Name ∷ col.Queue ∷ col.Police ∷ col.Router ∷ []) ≡ is_any_of_inputs says
-any_of_inputs says = from_left says (says col.Bus) (col.Speed ∷ col.Label ∷ col.Equipment ∷ col.Format ∷ col.Min ∷ col.Max ∷ col.Sdi ∷ col.Jitter ∷ col.Name ∷ col.Queue ∷ col.Police ∷ col.Router ∷ [])
+pub any_of_inputs : (says : Column → Bool) → list_any says INPUT_COLUMNS ≡ is_any_of_inputs says
+any_of_inputs says = from_left says false INPUT_COLUMNS
 
-pub any_of_outputs : (says : Column → Bool) → list_any says (col.Output ∷ col.Speed ∷ col.Label ∷ col.Equipment ∷ col.Sources ∷ col.Min ∷ col.Max ∷ col.Sdi ∷ col.MaxAge ∷ col.Timeout ∷ col.Name ∷ col.Format ∷ []) ≡ is_any_of_outputs says
-any_of_outputs says = from_left says (says col.Output) (col.Speed ∷ col.Label ∷ col.Equipment ∷ col.Sources ∷ col.Min ∷ col.Max ∷ col.Sdi ∷ col.MaxAge ∷ col.Timeout ∷ col.Name ∷ col.Format ∷ [])
+pub any_of_outputs : (says : Column → Bool) → list_any says OUTPUT_COLUMNS ≡ is_any_of_outputs says
+any_of_outputs says = from_left says false OUTPUT_COLUMNS

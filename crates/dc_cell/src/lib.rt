@@ -21,7 +21,7 @@ pub use strays::{
     is_output_unitless,
 };
 pub use times::{MOST_US, TimeUnit, time_cell};
-pub use titles::{Column, is_title, key_of, unit_of};
+pub use titles::{Column, INPUT_COLUMNS, OUTPUT_COLUMNS, is_title, key_of, unit_of};
 pub use words::{format_cell, input_sdi_cell, output_sdi_cell, police_cell, speed_cell};
 
 /// So many titles of columns that are not read are kept of a sheet.

@@ -6,7 +6,7 @@ ghost use Rattle.dc_cell.specs.Strays.{are_exchanged as are_exchanged_of, is_fir
 ghost use Rattle.dc_cell.specs.Titles.{is_title as is_title_of};
 ghost use Rattle.dc_cell.specs.declared.titles.Column.TheVariants as col;
 
-use crate::titles::{Column, is_title};
+use crate::titles::{Column, INPUT_COLUMNS, OUTPUT_COLUMNS, is_title};
 use crate::words::is_word;
 
 /// Whether two neighbours stand the other way round at the beginning of two texts, and what is behind them is alike.
@@ -402,48 +402,14 @@ fn is_meant_of_any(columns: &[Column], key: &[u8]) -> bool
 pub fn is_input_title(key: &[u8]) -> bool
     ensures { result ≡ is_any_of_inputs (λ column. is_title_of column key.now) }
 {
-    is_title_of_any(
-        &[
-            Column::Bus,
-            Column::Speed,
-            Column::Label,
-            Column::Equipment,
-            Column::Format,
-            Column::Min,
-            Column::Max,
-            Column::Sdi,
-            Column::Jitter,
-            Column::Name,
-            Column::Queue,
-            Column::Police,
-            Column::Router,
-        ],
-        key,
-    )
+    is_title_of_any(&INPUT_COLUMNS, key)
 }
 
 /// Whether a column of the inputs seems to be meant by a title.
 fn is_input_meant(key: &[u8]) -> bool
     ensures { result ≡ is_any_of_inputs (λ column. is_meant_of column key.now) }
 {
-    is_meant_of_any(
-        &[
-            Column::Bus,
-            Column::Speed,
-            Column::Label,
-            Column::Equipment,
-            Column::Format,
-            Column::Min,
-            Column::Max,
-            Column::Sdi,
-            Column::Jitter,
-            Column::Name,
-            Column::Queue,
-            Column::Police,
-            Column::Router,
-        ],
-        key,
-    )
+    is_meant_of_any(&INPUT_COLUMNS, key)
 }
 
 /// Whether a key is a title of the inputs that is read, or one by which no column of theirs can be meant.
@@ -457,46 +423,14 @@ pub fn is_clear_input(key: &[u8]) -> bool
 pub fn is_output_title(key: &[u8]) -> bool
     ensures { result ≡ is_any_of_outputs (λ column. is_title_of column key.now) }
 {
-    is_title_of_any(
-        &[
-            Column::Output,
-            Column::Speed,
-            Column::Label,
-            Column::Equipment,
-            Column::Sources,
-            Column::Min,
-            Column::Max,
-            Column::Sdi,
-            Column::MaxAge,
-            Column::Timeout,
-            Column::Name,
-            Column::Format,
-        ],
-        key,
-    )
+    is_title_of_any(&OUTPUT_COLUMNS, key)
 }
 
 /// Whether a column of the outputs seems to be meant by a title.
 fn is_output_meant(key: &[u8]) -> bool
     ensures { result ≡ is_any_of_outputs (λ column. is_meant_of column key.now) }
 {
-    is_meant_of_any(
-        &[
-            Column::Output,
-            Column::Speed,
-            Column::Label,
-            Column::Equipment,
-            Column::Sources,
-            Column::Min,
-            Column::Max,
-            Column::Sdi,
-            Column::MaxAge,
-            Column::Timeout,
-            Column::Name,
-            Column::Format,
-        ],
-        key,
-    )
+    is_meant_of_any(&OUTPUT_COLUMNS, key)
 }
 
 /// Whether a key is a title of the outputs that is read, or one by which no column of theirs can be meant.

@@ -48,6 +48,39 @@ pub enum Column {
     Timeout,
 }
 
+/// The columns of the inputs, those that are wanted first.
+pub static INPUT_COLUMNS: [Column; 13] = [
+    Column::Bus,
+    Column::Speed,
+    Column::Label,
+    Column::Equipment,
+    Column::Format,
+    Column::Min,
+    Column::Max,
+    Column::Sdi,
+    Column::Jitter,
+    Column::Name,
+    Column::Queue,
+    Column::Police,
+    Column::Router,
+];
+
+/// The columns of the outputs, those that are wanted first.
+pub static OUTPUT_COLUMNS: [Column; 12] = [
+    Column::Output,
+    Column::Speed,
+    Column::Label,
+    Column::Equipment,
+    Column::Sources,
+    Column::Min,
+    Column::Max,
+    Column::Sdi,
+    Column::MaxAge,
+    Column::Timeout,
+    Column::Name,
+    Column::Format,
+];
+
 /// Whether a byte of a title is a letter or a digit.
 fn is_kept(byte: u8) -> bool
     ensures { result ≡ is_kept_of byte }

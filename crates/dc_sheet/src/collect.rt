@@ -9,46 +9,14 @@ use crate::places::cell;
 use crate::sheet::{are_empty_from, is_passed};
 use csv::ByteRecord;
 use dc_cell::{
-    CellFault, Column, MOST_UNREAD, Shown, TimeUnit, UnreadTitle, equipment_cell, format_cell,
-    input_sdi_cell, is_clear_input, is_clear_output, is_input_title, is_input_unitless, is_meant,
-    is_output_title, is_output_unitless, is_title, key_of, label_cell, name_cell, name_if_any_cell,
-    output_sdi_cell, police_cell, push_names, queue_cell, speed_cell, time_cell, unit_of,
+    CellFault, Column, INPUT_COLUMNS, MOST_UNREAD, OUTPUT_COLUMNS, Shown, TimeUnit, UnreadTitle,
+    equipment_cell, format_cell, input_sdi_cell, is_clear_input, is_clear_output, is_input_title,
+    is_input_unitless, is_meant, is_output_title, is_output_unitless, is_title, key_of, label_cell,
+    name_cell, name_if_any_cell, output_sdi_cell, police_cell, push_names, queue_cell, speed_cell,
+    time_cell, unit_of,
 };
 use dc_document::Name;
 use std::alloc::{AllocError, Global};
-
-/// The columns of the inputs, those that are wanted first.
-static INPUT_COLUMNS: [Column; 13] = [
-    Column::Bus,
-    Column::Speed,
-    Column::Label,
-    Column::Equipment,
-    Column::Format,
-    Column::Min,
-    Column::Max,
-    Column::Sdi,
-    Column::Jitter,
-    Column::Name,
-    Column::Queue,
-    Column::Police,
-    Column::Router,
-];
-
-/// The columns of the outputs, those that are wanted first.
-static OUTPUT_COLUMNS: [Column; 12] = [
-    Column::Output,
-    Column::Speed,
-    Column::Label,
-    Column::Equipment,
-    Column::Sources,
-    Column::Min,
-    Column::Max,
-    Column::Sdi,
-    Column::MaxAge,
-    Column::Timeout,
-    Column::Name,
-    Column::Format,
-];
 
 /// So many columns of each sheet are wanted.
 const WANTED: usize = 7;
