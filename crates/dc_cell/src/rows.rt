@@ -1,6 +1,7 @@
 //! The rows of the two sheets of an interface document, as their cells say them.
 
 use crate::shown::Shown;
+use crate::times::TimeUnit;
 use dc_dict::Equipment;
 use dc_document::{Name, Speed};
 use dc_word::{Format, Label, Sdi};
@@ -86,6 +87,8 @@ pub struct Inputs {
     pub rows: Vec<InputRow>,
     /// The titles of columns that are not read, from the left, the first [`MOST_UNREAD`](crate::MOST_UNREAD) of them.
     pub unread: Vec<UnreadTitle>,
+    /// The unit of its title of least intervals.
+    pub min_unit: TimeUnit,
 }
 
 /// The sheet of the outputs.
@@ -95,4 +98,10 @@ pub struct Outputs {
     pub rows: Vec<OutputRow>,
     /// The titles of columns that are not read, from the left, the first [`MOST_UNREAD`](crate::MOST_UNREAD) of them.
     pub unread: Vec<UnreadTitle>,
+    /// The unit of its title of greatest intervals.
+    pub max_unit: TimeUnit,
+    /// The unit of its title of greatest ages, microseconds where it has none.
+    pub max_age_unit: TimeUnit,
+    /// The unit of its title of timeouts, microseconds where it has none.
+    pub timeout_unit: TimeUnit,
 }

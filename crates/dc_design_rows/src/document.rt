@@ -5,6 +5,7 @@ use crate::lines::{Fact, Lines};
 use crate::names::{name_labels, name_streams};
 use crate::outputs::add_output;
 use crate::parameters::{check_outputs, gather};
+use crate::units::Units;
 use dc_cell::{InputRow, OutputRow};
 use dc_document::{MOST_BUSES, MOST_LABELS, MOST_MEMBERS, MOST_OUTPUTS, MOST_STREAMS, Speed};
 use dc_word::Format;
@@ -155,6 +156,8 @@ pub struct Document {
     pub sources: Vec<usize>,
     /// The parameters.
     pub parameters: Vec<Parameter>,
+    /// In which units its times are told.
+    pub units: Units,
 }
 
 /// Why rows are no document.
@@ -178,10 +181,12 @@ impl Document {
             on_output: Vec::new(alloc),
             sources: Vec::new(alloc),
             parameters: Vec::new(alloc),
+            units: Units::microseconds(),
         }
     }
 
-    /// The document of these rows, or what contradicts what. With `police_all` every bus is policed.
+    /// The document of these rows, or what contradicts what. With `police_all` every bus is policed. Its times are told in
+    /// microseconds.
     pub fn of(
         alloc: Global,
         inputs: &[InputRow],
@@ -203,6 +208,12 @@ impl Document {
             Some(text) => Err(Undocumented::Faults(text)),
             None => Err(Undocumented::NoMemory),
         }
+    }
+
+    /// The same document, whose times are told in these units.
+    pub fn told_in(mut self, units: Units) -> Document {
+        self.units = units;
+        self
     }
 
     /// The parameter of this number.

@@ -1,5 +1,6 @@
 //! Lines that are told, as they grow.
 use crate::letters::Letters;
+use dc_cell::TimeUnit;
 use dc_tell::{Explanation, Value};
 use std::alloc::Global;
 
@@ -22,6 +23,8 @@ pub enum Fact {
     Octal(u64),
     /// A number as three hexadecimal digits.
     Hexadecimal(u64),
+    /// So many microseconds, in a unit and with its name.
+    Time(u64, TimeUnit),
     /// A word.
     Word(&'static str),
     /// A name.
@@ -97,6 +100,7 @@ impl Lines {
             Fact::Less(most, less) => self.put_difference(*most, *less),
             Fact::Octal(number) => self.put_digits(*number, 8),
             Fact::Hexadecimal(number) => self.put_digits(*number, 16),
+            Fact::Time(us, unit) => self.put_time(*us, *unit),
             Fact::Word(word) => self.told.say(word, &[]),
             Fact::Name(name) => self.told.put(Value::Bytes(name.text())),
         }
@@ -116,6 +120,34 @@ impl Lines {
             let digit = number.checked_div(scale).unwrap_or(0);
             let digit = digit.checked_rem(base).unwrap_or(0) as usize;
             self.told.add(DIGITS.get(digit).copied().unwrap_or(""));
+        }
+    }
+
+    /// Writes so many microseconds in a unit, with as many digits behind the point as are needed: 62500 are `62.5 ms`.
+    fn put_time(&mut self, us: u64, unit: TimeUnit) {
+        match unit {
+            TimeUnit::Microseconds => self.told.say("{} us", &[Value::Number(us)]),
+            TimeUnit::Milliseconds => {
+                self.told.put(Value::Number(us / 1_000));
+                self.put_thousandths(us % 1_000);
+                self.told.add(" ms");
+            }
+        }
+    }
+
+    /// Writes so many thousandths behind a point, up to the last digit that is not 0; nothing where there are none.
+    fn put_thousandths(&mut self, number: u64) {
+        if number == 0 {
+            return;
+        }
+        self.told.add(".");
+        let mut rest = number;
+        for scale in [100u64, 10, 1] {
+            if rest > 0 {
+                let digit = rest.checked_div(scale).unwrap_or(0) as usize;
+                self.told.add(DIGITS.get(digit).copied().unwrap_or(""));
+                rest = rest.checked_rem(scale).unwrap_or(0);
+            }
         }
     }
 

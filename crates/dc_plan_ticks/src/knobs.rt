@@ -14,6 +14,8 @@ pub struct Knobs {
     pub is_hard: bool,
     /// So many percent of queues, wires and ages may be used.
     pub share: u64,
+    /// Whether no other tick is tried.
+    pub is_only: bool,
     /// What helps beside, where only this tick is tried.
     pub shorter: &'static str,
     /// Whether buses are visited by timeouts too, and no source is kept for longer than its label's age lets it.
@@ -37,6 +39,7 @@ impl Knobs {
             } else {
                 100
             },
+            is_only,
             shorter: if is_only && tick > 100 {
                 ", or a shorter tick"
             } else {
@@ -51,6 +54,24 @@ impl Knobs {
         Knobs {
             is_prompt: true,
             ..self
+        }
+    }
+
+    /// What is said where less may be used than there is.
+    pub fn with_headroom(&self) -> &'static str {
+        if self.share < 100 {
+            " with the headroom"
+        } else {
+            ""
+        }
+    }
+
+    /// What helps beside, where less may be used than there is.
+    pub fn freer(&self) -> &'static str {
+        if self.share < 100 {
+            ", or less headroom"
+        } else {
+            ""
         }
     }
 

@@ -2,7 +2,7 @@
 use crate::knobs::Knobs;
 use crate::numbers::{part, up};
 use crate::obstacles::Obstacles;
-use dc_design_rows::{Document, Fact, Parameter, Stream};
+use dc_design_rows::{Document, Fact, Parameter, Stream, TimeUnit};
 use std::alloc::AllocError;
 
 /// How a stream comes, in ticks.
@@ -26,13 +26,13 @@ fn pace_of(parameter: &Parameter, stream: &Stream, tick: u64) -> Pace {
 }
 
 /// Tells that the words of a stream may follow one another in less than a tick.
-fn tell_short(stream: &Stream, min: u64, tick: u64, obstacles: &mut Obstacles) {
+fn tell_short(stream: &Stream, min: u64, unit: TimeUnit, tick: u64, obstacles: &mut Obstacles) {
     obstacles.lines.begin("");
     obstacles.lines.line(
-        "inputs row {} column min: {} us is below one tick of {} us (T11); {}",
+        "inputs row {} column min: {} is below one tick of {} us (T11); {}",
         &[
             Fact::Number(stream.row),
-            Fact::Number(min),
+            Fact::Time(min, unit),
             Fact::Number(tick),
             Fact::Word(if min >= 100 {
                 "a shorter tick"
@@ -53,7 +53,7 @@ fn tell_all_short(
     let tick = obstacles.tick;
     for stream in &document.streams {
         if stream.parameter == number {
-            tell_short(stream, parameter.min, tick, obstacles);
+            tell_short(stream, parameter.min, document.units.min, tick, obstacles);
         }
     }
 }

@@ -2,7 +2,7 @@
 use crate::knobs::Knobs;
 use crate::numbers::{part, up};
 use crate::obstacles::Obstacles;
-use dc_design_rows::{Document, Fact, Label, Output};
+use dc_design_rows::{Document, Fact, Label, Output, Parameter, TimeUnit};
 use dc_document::{Speed, output_gap};
 
 /// So many ticks lie between two sends of an output at least.
@@ -11,42 +11,48 @@ pub fn gap_of(output: &Output, knobs: &Knobs) -> u64 {
     up(spacing_us, knobs.tick)
 }
 
+/// What helps beside, where an output is slow.
+fn faster(output: &Output) -> &'static str {
+    match output.speed {
+        Speed::Low => ", or high speed",
+        Speed::High => "",
+    }
+}
+
 /// Tells a label whose gaps leave nothing beside the waiting of its sends.
 fn tell_window(
     output: &Output,
     label: &Label,
-    min: u64,
-    max: u64,
+    parameter: &Parameter,
+    unit: TimeUnit,
     knobs: &Knobs,
     obstacles: &mut Obstacles,
 ) {
     let (tick, gap) = (knobs.tick, gap_of(output, knobs));
-    let low = up(min, tick).saturating_add(1);
-    let high = part(max, tick);
+    let low = up(parameter.min, tick).saturating_add(1);
+    let high = part(parameter.max, tick);
     let wanted = low.saturating_add(gap.saturating_mul(2)).saturating_add(1);
     obstacles.lines.begin("");
     obstacles.lines.say(
-        "outputs row {} column max: {} to {} us are {} to {} ticks of {} us, ",
+        "outputs row {} column max: {} to {} are {} to {} ticks of {} us, ",
         &[
             Fact::Number(label.row),
-            Fact::Number(min),
-            Fact::Number(max),
+            Fact::Time(parameter.min, unit),
+            Fact::Time(parameter.max, unit),
             Fact::Number(low),
             Fact::Less(high, 1),
             Fact::Number(tick),
         ],
     );
     obstacles.lines.line(
-        "and a send that waits up to {} leaves gaps of {} to {}: none (T12, C08, C09); a max of {} us{}{}",
+        "and a send that waits up to {} {} leaves gaps of {} to {} ticks: none (T12, C08, C09); a max of {}{}{}",
         &[
             Fact::Number(gap),
+            Fact::Word(if gap == 1 { "tick" } else { "ticks" }),
             Fact::Number(low.saturating_add(gap)),
             Fact::Less(high, gap.saturating_add(1)),
-            Fact::Number(wanted.saturating_mul(tick)),
-            Fact::Word(match output.speed {
-                Speed::Low => ", or high speed",
-                Speed::High => "",
-            }),
+            Fact::Time(wanted.saturating_mul(tick), unit),
+            Fact::Word(faster(output)),
             Fact::Word(knobs.shorter),
         ],
     );
@@ -74,8 +80,8 @@ pub fn is_window_told(
             tell_window(
                 output,
                 label,
-                parameter.min,
-                parameter.max,
+                &parameter,
+                document.units.max,
                 knobs,
                 obstacles,
             );

@@ -7,9 +7,10 @@ ghost use Rattle.dc_run_design.specs.Design.{AreDesigned, Designs, IsCertified};
 
 use crate::judged::{Said, Unfit, Wanted, certify};
 use dc_answer::{Outcome, Page};
+use dc_cell::{Inputs, Outputs};
 use dc_cert::{Certificate, cert_text};
 use dc_design::{Furthest, Obstacles, Unread, Untabled, Wish, draft, ticks_of};
-use dc_design_rows::{Document, Fact, Undocumented};
+use dc_design_rows::{Document, Fact, Undocumented, Units};
 use dc_print::{Text, print_table_fault};
 use std::alloc::{AllocError, Global};
 use std::str::from_utf8;
@@ -247,6 +248,25 @@ fn design_task(
     }
 }
 
+/// The document of the rows of both sheets, whose times are told in the units of their titles; or what is wrong between rows.
+fn document_of(
+    alloc: Global,
+    plan: Plan,
+    inputs: &Inputs,
+    outputs: &Outputs,
+) -> Result<Document, Undocumented> {
+    let units = Units {
+        min: inputs.min_unit,
+        max: outputs.max_unit,
+        max_age: outputs.max_age_unit,
+        timeout: outputs.timeout_unit,
+    };
+    match Document::of(alloc, &inputs.rows, &outputs.rows, plan.police) {
+        Ok(document) => Ok(document.told_in(units)),
+        Err(undocumented) => Err(undocumented),
+    }
+}
+
 /// Designs tables for the rows of both sheets, and keeps their text without its last line feed, and the text of their certificate; or
 /// keeps what stands in the way, or what is wrong between rows.
 pub(crate) fn design_rows(
@@ -258,12 +278,7 @@ pub(crate) fn design_rows(
 ) -> Result<Outcome, AllocError>
     ensures { Designs wanted.entry.inputs.now.rows.items wanted.entry.outputs.now.rows.items page.new certificate.new.items result }
 {
-    match Document::of(
-        alloc,
-        &wanted.inputs.rows,
-        &wanted.outputs.rows,
-        plan.police,
-    ) {
+    match document_of(alloc, plan, wanted.inputs, wanted.outputs) {
         Ok(document) => {
             let task = Task {
                 wish: plan.wish(),

@@ -121,7 +121,11 @@ fn input_sheet(alloc: Global, records: &[ByteRecord], commas: bool) -> Result<In
         return Err(SheetError::Memory);
     };
     match input_rows(alloc, lines, header.len(), &places, commas) {
-        Ok(Some(rows)) => Ok(Inputs { rows, unread }),
+        Ok(Some(rows)) => Ok(Inputs {
+            rows,
+            unread,
+            min_unit: places.min.unit,
+        }),
         Ok(None) => Err(row_faults(alloc, Sheet::Inputs, lines, header.len(), &read, commas)),
         Err(_) => Err(SheetError::Memory),
     }

@@ -199,7 +199,13 @@ fn output_sheet(alloc: Global, records: &[ByteRecord], commas: bool) -> Result<O
         commas,
     };
     match output_rows(alloc, lines, titles) {
-        Ok(Some(rows)) => Ok(Outputs { rows, unread }),
+        Ok(Some(rows)) => Ok(Outputs {
+            rows,
+            unread,
+            max_unit: places.max.unit,
+            max_age_unit: places.max_age.unit,
+            timeout_unit: places.timeout.unit,
+        }),
         Ok(None) => Err(row_faults(alloc, Sheet::Outputs, lines, header.len(), &read, commas)),
         Err(_) => Err(SheetError::Memory),
     }
