@@ -47,11 +47,7 @@ fn tell_wire(scene: &Scene<'_>, words: u64, obstacles: &mut Obstacles) {
             Fact::Number(up(words.saturating_mul(scene.gap), WORD / 100)),
             Fact::Number(up(words, WORD / 1_000)),
             Fact::Number(part(share.saturating_mul(10), scene.gap)),
-            Fact::Word(if share < 100 {
-                " with the headroom"
-            } else {
-                ""
-            }),
+            Fact::Word(scene.knobs.with_headroom()),
         ],
     );
     obstacles.lines.line(
@@ -61,11 +57,7 @@ fn tell_wire(scene: &Scene<'_>, words: u64, obstacles: &mut Obstacles) {
                 Speed::Low => "high speed, ",
                 Speed::High => "",
             }),
-            Fact::Word(if scene.knobs.is_hard {
-                "less headroom, "
-            } else {
-                ""
-            }),
+            Fact::Word(if share < 100 { "less headroom, " } else { "" }),
             Fact::Word(scene.knobs.shorter),
         ],
     );
@@ -173,8 +165,13 @@ fn tell_frames(scene: &Scene<'_>, found: &Deciding, windows: &[Window], obstacle
         );
     }
     obstacles.lines.line(
-        "within {} entries and the wire (C08, C09, T08); a wider interval for it, or a lesser min of the slow ones{}",
-        &[Fact::Number(ENTRIES), Fact::Word(scene.knobs.shorter)],
+        "within {} entries and the wire{} (C08, C09, T08); a wider interval for it, or a lesser min of the slow ones{}{}",
+        &[
+            Fact::Number(ENTRIES),
+            Fact::Word(scene.knobs.with_headroom()),
+            Fact::Word(scene.knobs.freer()),
+            Fact::Word(scene.knobs.shorter),
+        ],
     );
 }
 
@@ -204,8 +201,11 @@ pub(crate) fn tell_no_place(scene: &Scene<'_>, lost: Option<Lost>, obstacles: &m
             &[Fact::Number(scene.gap)],
         );
         return obstacles.lines.line(
-            "this is no proof that there is none: a wider interval for the narrowest{}",
-            &[Fact::Word(scene.knobs.shorter)],
+            "this is no proof that there is none: a wider interval for the narrowest{}{}",
+            &[
+                Fact::Word(scene.knobs.freer()),
+                Fact::Word(scene.knobs.shorter),
+            ],
         );
     };
     obstacles.lines.say("no place was found for ", &[]);
@@ -215,7 +215,10 @@ pub(crate) fn tell_no_place(scene: &Scene<'_>, lost: Option<Lost>, obstacles: &m
         &[Fact::Number(lost.frame)],
     );
     obstacles.lines.line(
-        "this is no proof that there is none: a wider interval for it, or another output for some labels{}",
-        &[Fact::Word(scene.knobs.shorter)],
+        "this is no proof that there is none: a wider interval for it, or another output for some labels{}{}",
+        &[
+            Fact::Word(scene.knobs.freer()),
+            Fact::Word(scene.knobs.shorter),
+        ],
     );
 }

@@ -97,14 +97,22 @@ fn tell_room(
     knobs: &Knobs,
     obstacles: &mut Obstacles,
 ) {
+    let queue = bus.queue.unwrap_or(LONGEST_QUEUE);
     obstacles.lines.say(
-        "up to {} words wait, since {} may come within two ticks; its queue takes {} (C05); ",
+        "up to {} words wait, since {} may come within two ticks; its queue takes {}",
         &[
             Fact::Number(best.backlog),
             Fact::Number(arrivals.count(2)),
-            Fact::Number(room),
+            Fact::Number(queue),
         ],
     );
+    if room < queue {
+        obstacles.lines.say(
+            ", of which --headroom {} lets {} be used",
+            &[Fact::Number(knobs.leave), Fact::Number(room)],
+        );
+    }
+    obstacles.lines.say(" (C05); ", &[]);
     if bus.queue.is_some() {
         let queue = whole_of(best.backlog, knobs.share);
         obstacles
@@ -112,8 +120,8 @@ fn tell_room(
             .say("a queue of {}, ", &[Fact::Number(queue)]);
     }
     obstacles.lines.line(
-        "fewer streams, or less jitter{}",
-        &[Fact::Word(knobs.shorter)],
+        "fewer streams, or less jitter{}{}",
+        &[Fact::Word(knobs.freer()), Fact::Word(knobs.shorter)],
     );
 }
 
@@ -138,13 +146,15 @@ fn tell_none(
     }
     obstacles.lines.line(
         if knobs.is_prompt {
-            "{} ticks are the least delay, {} are left by the ages and timeouts (C06, C11, C12); fewer streams, less jitter, or greater ages and timeouts{}"
+            "{} ticks are the least delay, {} are left by the ages and timeouts{} (C06, C11, C12); fewer streams, less jitter, or greater ages and timeouts{}{}"
         } else {
-            "{} ticks are the least delay, {} are left by the ages (C06, C11); fewer streams, less jitter, or a greater age{}"
+            "{} ticks are the least delay, {} are left by the ages{} (C06, C11); fewer streams, less jitter, or a greater age{}{}"
         },
         &[
             Fact::Number(best.delay),
             Fact::Number(most.delay),
+            Fact::Word(knobs.with_headroom()),
+            Fact::Word(knobs.freer()),
             Fact::Word(knobs.shorter),
         ],
     );
