@@ -53,7 +53,15 @@ fn write_head(output: &Output, plan: &OutputPlan, lines: &mut Lines) {
     );
 }
 
-/// Says by which numbers the offsets of a label are as they are.
+/// That no greatest age is asked of a label, where none is.
+fn unasked_word(label: &Label) -> Fact {
+    Fact::Word(match label.max_age {
+        Some(_) => "",
+        None => "no greatest age is asked; age is the least that holds: ",
+    })
+}
+
+/// Says by which numbers the offsets of a label are as they are, and how old its data are.
 fn say_gaps(
     document: &Document,
     plan: &Plan,
@@ -77,9 +85,10 @@ fn say_gaps(
         ],
     );
     lines.line(
-        "{}; at most {} {} old",
+        "{}; {}at most {} {} old",
         &[
             Fact::Number(part(parameter.max, plan.tick).saturating_sub(1)),
+            unasked_word(label),
             Fact::Number(least_age),
             ticks_word(least_age),
         ],
