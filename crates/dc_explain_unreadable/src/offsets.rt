@@ -38,6 +38,41 @@ fn free(refused: &Refused<'_>, output: usize, frame: u64) -> u64 {
     frame
 }
 
+/// How far an offset lies at least from the entries of an output, round its frame; the frame where it has none.
+fn room_at(refused: &Refused<'_>, output: usize, offset: u64, frame: u64) -> u64 {
+    let mut room = frame;
+    for (row, it) in refused.layout.rows.iter().enumerate() {
+        if it.parent != output || !matches!(it.kind, Kind::Label) {
+            continue;
+        }
+        for member in refused.layout.members(row, "offsets") {
+            let other = number(refused.layout.piece(*member)).unwrap_or(0);
+            let apart = offset.max(other).saturating_sub(offset.min(other));
+            room = room.min(apart).min(frame.saturating_sub(apart));
+        }
+    }
+    room
+}
+
+/// The first offset of an output that lies so far behind one of its entries, and as far from all others, round its frame;
+/// the frame where there is none.
+fn apart(refused: &Refused<'_>, output: usize, frame: u64, far: u64) -> u64 {
+    let mut first = frame;
+    for (row, it) in refused.layout.rows.iter().enumerate() {
+        if it.parent != output || !matches!(it.kind, Kind::Label) {
+            continue;
+        }
+        for member in refused.layout.members(row, "offsets") {
+            let own = number(refused.layout.piece(*member)).unwrap_or(0);
+            let offset = own.saturating_add(far);
+            if offset < first && room_at(refused, output, offset, frame) >= far {
+                first = offset;
+            }
+        }
+    }
+    first
+}
+
 /// Tells of an offset that is not below the frame of its output.
 pub(crate) fn tell_offset(out: &mut Explanation, refused: &Refused<'_>) -> bool {
     let output = refused.parent(refused.row);
@@ -79,13 +114,20 @@ pub(crate) fn tell_offset_twice(out: &mut Explanation, refused: &Refused<'_>) ->
         return false;
     };
     let frame = refused.count(output, "frame");
+    let far = refused.count(output, "within").saturating_add(1);
     let at = free(refused, output, frame);
+    let clear = apart(refused, output, frame, far);
     refused.fill_where(
         out,
-        "`offsets` of {row} has {number 0}, where in {row 0} there is an entry already, of {row 1} in line {line 1 offsets}{here 2}\n{if 0}help: move one of the two, to a free offset near it, since C08 and C09 judge the gaps; the first that is free in this output is {number 1}\n{if 1}help: or take one of the two out, if the label is due there once\n{if 2}help: each of the {number 2} ticks of this frame has an entry: take one out, or write a longer `frame` (line {line 0 frame}); both weaken what is promised: labels are then sent less often",
+        "`offsets` of {row} has {number 0}, where in {row 0} there is an entry already, of {row 1} in line {line 1 offsets}{here 2}\n{if 0}help: move one of the two, to a free offset near it, since C08 and C09 judge the gaps; {number 3} is {number 4} ticks or more from all others of this output, so that no word waits for another\n{if 1}help: move one of the two, to a free offset near it, since C08 and C09 judge the gaps; the first that is free in this output is {number 1}\n{if 2}help: or take one of the two out, if the label is due there once\n{if 3}help: each of the {number 2} ticks of this frame has an entry: take one out, or write a longer `frame` (line {line 0 frame}); both weaken what is promised: labels are then sent less often",
         &[output, holder, member.from],
-        &[offset, at, frame],
-        &[at < frame, at < frame && holder == refused.row, at >= frame],
+        &[offset, at, frame, clear, far],
+        &[
+            clear < frame,
+            at < frame && clear >= frame,
+            at < frame && holder == refused.row,
+            at >= frame,
+        ],
     );
     true
 }

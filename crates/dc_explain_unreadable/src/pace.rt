@@ -52,7 +52,7 @@ fn tick_for(steps: u64, within: u64, is_low: bool) -> u64 {
 }
 
 /// Writes which changes let an output make so many steps within so many ticks, where its words are so many ticks apart or
-/// more.
+/// more: first a longer time for the same words, since a bus has the speed that it has.
 fn tell_paces(
     out: &mut Explanation,
     refused: &Refused<'_>,
@@ -66,14 +66,14 @@ fn tell_paces(
     let tick = tick_for(steps, within, is_low);
     refused.fill_where(
         out,
-        "\n{if 0}help: write `speed = \"high\"` (line {line own speed}), where the bus is of that speed\n{if 1}help: write a `tick_us` of {number 0} or more (line {line 0 tick_us}), where ticks are so long: all that the tables count in ticks is then longer\n{if 2}help: write `steps` of {number 1} or less (line {line own steps}); this weakens what is promised: the output sends fewer words\n{if 3}help: write a `within` of {number 2} or more; this weakens what is promised: the output sends them in a longer time\nnote: these numbers satisfy this rule alone: `dc429 find TABLES` then tells whether they are enough",
+        "\n{if 0}help: write a `within` of {number 2} or more; this weakens what is promised: the output sends them in a longer time\n{if 1}help: write `speed = \"high\"` (line {line own speed}), where the bus is of that speed\n{if 2}help: write a `tick_us` of {number 0} or more (line {line 0 tick_us}), where ticks are so long: all that the tables count in ticks is then longer\n{if 3}help: write `steps` of {number 1} or less (line {line own steps}); this weakens what is promised: the output sends fewer words\nnote: these numbers satisfy this rule alone: `dc429 find TABLES` then tells whether they are enough",
         &[0],
         &[tick, fewer, longer],
         &[
+            longer <= MOST,
             is_low && quick <= within,
             tick <= LONGEST,
             fewer >= 1,
-            longer <= MOST,
         ],
     );
 }
