@@ -89,24 +89,38 @@ fn tell_limit_ways(
     );
 }
 
+/// Tells that a source that keeps sending may go stale, and where that is mended. The least delay that the certificate may
+/// claim of its bus.
+fn tell_silence(
+    out: &mut Explanation,
+    of: &About<'_>,
+    code: &str,
+    own: &Aging,
+    server: &Server,
+) -> u64 {
+    let source = own.rarest.number as u64;
+    let (silence, delay) = (own.rarest.silence, own.rarest.delay);
+    let longest = own.rarest.maximum;
+    let most = own.stale.saturating_sub(longest);
+    of.begin_label(out, code, Condition::SourceGoesStale, own.number);
+    of.say(
+        out,
+        server,
+        "its source `{stream 0}` may bring no word to the router for {ticks 1}, {number 2} on bus `{name}` and {number 3} in the queue; a word is fresh for {number 4} (`stale`)",
+        &[source, silence, longest, delay, own.stale],
+    );
+    tell_mended(out, of, server, most, own.number, "stale")
+}
+
 /// C12: a source that keeps sending may go stale.
 pub(crate) fn tell_stale(out: &mut Explanation, of: &About<'_>, code: &str, own: &Aging) {
     let Some(server) = server_of(of.tables, of.certificate, Queue::Input(own.rarest.bus)) else {
         return;
     };
-    let source = own.rarest.number as u64;
-    let (silence, delay) = (own.rarest.silence, own.rarest.delay);
     let longest = own.rarest.maximum;
     let most = own.stale.saturating_sub(longest);
     let tick = of.tables.tick_us() as u64;
-    of.begin_label(out, code, Condition::SourceGoesStale, own.number);
-    of.say(
-        out,
-        &server,
-        "its source `{stream 0}` may bring no word to the router for {ticks 1}, {number 2} on bus `{name}` and {number 3} in the queue; a word is fresh for {number 4} (`stale`)",
-        &[source, silence, longest, delay, own.stale],
-    );
-    let claimed = tell_mended(out, of, &server, most, own.number, "stale");
+    let claimed = tell_silence(out, of, code, own, &server);
     of.say(
         out,
         &server,
@@ -115,6 +129,33 @@ pub(crate) fn tell_stale(out: &mut Explanation, of: &About<'_>, code: &str, own:
     );
     let is_claimed = tell_claim(out, of, &server, claimed, most);
     tell_stale_ways(out, of, own, &server, if is_claimed { 0 } else { most });
+}
+
+/// The least `stale` with which a source of a label does not go stale, where one does and words keep the `age` of the tables
+/// with it; 0 of another label.
+pub(crate) fn wanted_stale(own: &Aging) -> u64 {
+    let wanted = own.rarest.silence;
+    let age = wanted.saturating_add(own.slowest.delay);
+    if wanted > own.stale && wanted <= STALEST && age <= own.limit {
+        wanted
+    } else {
+        0
+    }
+}
+
+/// C12 of one label more whose source may go stale, behind the first that is mended by a longer `stale` too: that alone.
+pub(crate) fn tell_stale_again(out: &mut Explanation, of: &About<'_>, own: &Aging) {
+    let Some(server) = server_of(of.tables, of.certificate, Queue::Input(own.rarest.bus)) else {
+        return;
+    };
+    let longest = own.limit.saturating_sub(own.slowest.delay).min(STALEST);
+    tell_silence(out, of, "F3", own, &server);
+    of.say(
+        out,
+        &server,
+        "\nhelp: write a `stale` of {span 0}; what else would do is told of the first such label",
+        &[own.rarest.silence, longest],
+    );
 }
 
 /// The least ticks from `min_us` to `max_us` with which a label of the same parameter has an interval, whatever is rounded.

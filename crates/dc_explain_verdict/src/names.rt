@@ -48,7 +48,12 @@ pub(crate) fn kinds_of(section: Section) -> (Kind, Kind) {
 
 /// Behind how many bytes of a text the value stands at a key of the table or object of this kind and number, or that
 /// itself where it has no such key.
-fn offset_in(layout: &Layout<'_>, kind: Kind, number: usize, key: &str) -> Option<usize> {
+pub(crate) fn offset_in(
+    layout: &Layout<'_>,
+    kind: Kind,
+    number: usize,
+    key: &str,
+) -> Option<usize> {
     let Some(row) = layout.row(kind, number) else {
         return None;
     };

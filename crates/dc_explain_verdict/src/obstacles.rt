@@ -1,8 +1,10 @@
 //! Why no certificate is found.
 ghost use Rattle.dc_find.specs.Ways.{IsFirstInTheWay};
 
+use crate::ages::{tell_stale_again, wanted_stale};
 use crate::bounds::counts_of;
 use crate::labels::{Aging, Sending, aging_of, sending_of};
+use crate::names::{name_of, offset_in};
 use crate::refused::tell_rule;
 use crate::servers::{Server, begin_counts, server_of, tell_terms};
 use crate::steps::closing_of;
@@ -12,10 +14,11 @@ use crate::ways::tell_never_ways;
 use dc_busy::LONGEST_WINDOW;
 use dc_cert::Certificate;
 use dc_check::Condition;
+use dc_document::Section;
 use dc_find::FindFault::{LabelRule, QueueTooShort, WindowNeverCloses};
 use dc_find::{FindFault, Queue, find, reach};
 use dc_tables::Tables;
-use dc_tell::{Explanation, File, Value};
+use dc_tell::{Explanation, File, Kind, Layout, Value, layout_of, place_at};
 use std::alloc::Global;
 
 /// How many are told in full.
@@ -105,6 +108,25 @@ fn tell_queue(out: &mut Explanation, of: &About<'_>, queue: Queue, count: usize)
     count.saturating_add(1)
 }
 
+/// The least `stale` with which a source of the label of this number does not go stale, as [`wanted_stale`] has it.
+fn stale_of(of: &About<'_>, label: usize) -> u64 {
+    match aging_of(of.tables, of.certificate, label) {
+        Some(aging) if aging.slowest.delay <= LONGEST => wanted_stale(&aging),
+        _ => 0,
+    }
+}
+
+/// How many labels before this one are mended by a longer `stale`.
+fn stales_before(of: &About<'_>, label: usize) -> usize {
+    let mut count = 0usize;
+    for earlier in 0..label {
+        if stale_of(of, earlier) != 0 {
+            count = count.saturating_add(1);
+        }
+    }
+    count
+}
+
 /// Tells of a rule on a label that is broken, behind so many things that stand in the way.
 fn tell_broken(
     out: &mut Explanation,
@@ -117,7 +139,12 @@ fn tell_broken(
     if !begin_next(out, count) {
         return;
     }
-    tell_rule(out, of, "F3", sending, aging, rule);
+    let is_stale = matches!(rule, Condition::SourceGoesStale) && wanted_stale(aging) != 0;
+    if is_stale && stales_before(of, aging.number) != 0 {
+        tell_stale_again(out, of, aging);
+    } else {
+        tell_rule(out, of, "F3", sending, aging, rule);
+    }
     if count == 0 {
         tell_alone(out, ALONE);
     }
@@ -171,6 +198,53 @@ fn tell_rest(out: &mut Explanation, of: &About<'_>, rest: usize) {
     );
 }
 
+/// How many labels stand in a line of a list.
+const LISTED: usize = 10;
+
+/// Lists the `stale` of each label that is mended by a longer one, by where it stands in the text of the tables.
+fn list_stales(out: &mut Explanation, of: &About<'_>, layout: &Layout<'_>) {
+    let mut count = 0usize;
+    for label in 0..of.tables.label_count() {
+        let wanted = stale_of(of, label);
+        if wanted == 0 {
+            continue;
+        }
+        let offset = offset_in(layout, Kind::Label, label, "stale").unwrap_or(0);
+        let line = place_at(of.file.text, offset).line as u64;
+        let name = name_of(of.tables, Section::Label, label);
+        if count == 0 {
+            out.note(
+                "write these, with which the words of these labels are fresh and keep their `age`: ",
+                &[],
+            );
+        } else if count % LISTED == 0 {
+            out.note("", &[]);
+        } else {
+            out.add("; ");
+        }
+        out.say(
+            "line {} `{}` `stale = {}`",
+            &[
+                Value::Number(line),
+                Value::Text(name),
+                Value::Number(wanted),
+            ],
+        );
+        count = count.saturating_add(1);
+    }
+}
+
+/// The same, where several labels are.
+fn tell_stales(out: &mut Explanation, of: &About<'_>) {
+    if stales_before(of, of.tables.label_count()) < 2 {
+        return;
+    }
+    match layout_of(of.alloc, of.file.text, false) {
+        Some(layout) => list_stales(out, of, &layout),
+        None => out.lose(),
+    }
+}
+
 /// Tells the first of what stands in the way, in the order in which the first is found, and how many more do.
 fn tell_all(out: &mut Explanation, of: &About<'_>) {
     let mut count = 0usize;
@@ -186,6 +260,7 @@ fn tell_all(out: &mut Explanation, of: &About<'_>) {
     if count > TOLD {
         tell_rest(out, of, count.saturating_sub(TOLD));
     }
+    tell_stales(out, of);
 }
 
 /// Tells all that stands in the way, by what was found of a certificate.
