@@ -1,10 +1,12 @@
-//! Tests of the lowest crates: words, parameters, devices, queues, bounds, windows, texts and the board.
+//! Tests of the lowest crates: words, parameters, devices, queues, bounds, windows, texts, codes and the board.
 #![tactic(auto)]
 
 #[cfg(test)]
 mod board;
 #[cfg(test)]
 mod bounds;
+#[cfg(test)]
+mod codes;
 #[cfg(test)]
 mod devices;
 #[cfg(test)]

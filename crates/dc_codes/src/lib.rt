@@ -5,8 +5,6 @@ mod code;
 mod kind;
 mod listed;
 mod meaning;
-#[cfg(test)]
-mod tests;
 mod texts;
 
 pub use code::Code;

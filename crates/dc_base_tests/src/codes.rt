@@ -1,8 +1,6 @@
 //! That each code has its meaning, and no more are told than there are.
 
-use crate::kind::Kind;
-use crate::listed::all;
-use crate::meaning::meaning_of;
+use dc_codes::{Kind, all, meaning_of};
 use std::test::Fail;
 
 #[test]
