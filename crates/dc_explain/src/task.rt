@@ -40,9 +40,9 @@ pub(crate) struct Task<'a> {
     pub(crate) is_found: bool,
 }
 
-/// What an order asks.
-pub(crate) fn task_of(order: Order<'_>) -> Task<'_> {
-    let mut task = Task {
+/// What most orders ask: to judge tables and a certificate.
+fn usual<'a>() -> Task<'a> {
+    Task {
         wanted: JUDGED,
         system: None,
         lines: Kind::Trace,
@@ -52,7 +52,12 @@ pub(crate) fn task_of(order: Order<'_>) -> Task<'_> {
         is_audit: false,
         is_design: false,
         is_found: false,
-    };
+    }
+}
+
+/// What an order asks.
+pub(crate) fn task_of(order: Order<'_>) -> Task<'_> {
+    let mut task = usual();
     match order {
         Order::Decode(_) => task.lines = Kind::Decoded,
         Order::Trace { .. } => task.lines = Kind::Capture,
@@ -76,15 +81,8 @@ pub(crate) fn task_of(order: Order<'_>) -> Task<'_> {
             task.is_design = true;
             task.wanted = ("the sheet of inputs", "the sheet of outputs");
         }
-        Order::Find { .. }
-        | Order::Report {
-            certificate: None,
-            ..
-        }
-        | Order::Margins {
-            certificate: None,
-            ..
-        } => task.is_found = true,
+        Order::Find { .. } => task.is_found = true,
+        Order::Report { certificate, .. } | Order::Margins { certificate, .. } => task.is_found = certificate.is_none(),
         _ => {}
     }
     task
@@ -99,55 +97,42 @@ pub(crate) fn told(name: &str) -> &str {
     }
 }
 
-/// The names of the files of an order, in the order in which it opens them; an empty one where it has none.
-pub(crate) fn names_of(order: Order<'_>) -> (&str, &str, &str) {
-    let (first, second, third) = match order {
-        Order::Decode(_) | Order::Explain { .. } => ("", "", ""),
-        Order::Network { system, .. } | Order::ReportNetwork { system } => (system, "", ""),
+/// The first file that an order opens; no name where it opens none.
+fn first_of(order: Order<'_>) -> &str {
+    match order {
+        Order::Decode(_) | Order::Explain { .. } => "",
+        Order::Network { system, .. } | Order::ReportNetwork { system } => system,
+        Order::Design { inputs, .. } => inputs,
         Order::Find { tables, .. }
         | Order::Survey { tables }
         | Order::Trace { tables, .. }
-        | Order::Replay { tables, .. } => (tables, "", ""),
-        Order::ReportObserved {
-            tables,
-            certificate,
-            observed,
-            ..
-        } => (tables, certificate, observed),
-        Order::Report {
-            tables,
-            certificate,
-            ..
-        }
-        | Order::Margins {
-            tables,
-            certificate,
-            ..
-        } => (tables, certificate.unwrap_or(""), ""),
-        Order::Check {
-            tables,
-            certificate,
-            ..
-        }
-        | Order::Audit {
-            tables,
-            certificate,
-            ..
-        }
-        | Order::Observe {
-            tables,
-            certificate,
-        }
-        | Order::Bench {
-            tables,
-            certificate,
-            ..
-        } => (tables, certificate, ""),
-        Order::Design {
-            inputs,
-            outputs,
-            ..
-        } => (inputs, outputs, ""),
-    };
-    (told(first), told(second), told(third))
+        | Order::Replay { tables, .. }
+        | Order::Report { tables, .. }
+        | Order::ReportObserved { tables, .. }
+        | Order::Margins { tables, .. }
+        | Order::Check { tables, .. }
+        | Order::Audit { tables, .. }
+        | Order::Observe { tables, .. }
+        | Order::Bench { tables, .. } => tables,
+    }
+}
+
+/// The second file that an order opens, as the first.
+fn second_of(order: Order<'_>) -> &str {
+    match order {
+        Order::Design { outputs, .. } => outputs,
+        Order::Report { certificate, .. } | Order::Margins { certificate, .. } => certificate.unwrap_or(""),
+        Order::ReportObserved { certificate, .. }
+        | Order::Check { certificate, .. }
+        | Order::Audit { certificate, .. }
+        | Order::Observe { certificate, .. }
+        | Order::Bench { certificate, .. } => certificate,
+        _ => "",
+    }
+}
+
+/// The names of the files of an order, in the order in which it opens them; an empty one where it has none.
+pub(crate) fn names_of(order: Order<'_>) -> (&str, &str, &str) {
+    let third = if let Order::ReportObserved { observed, .. } = order { observed } else { "" };
+    (told(first_of(order)), told(second_of(order)), told(third))
 }
