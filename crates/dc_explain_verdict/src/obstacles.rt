@@ -245,6 +245,23 @@ fn tell_stales(out: &mut Explanation, of: &About<'_>) {
     }
 }
 
+/// So many have to stand in the way for what all share to be looked at.
+const FEW: usize = 5;
+
+/// Tells what all share, where more than half of all inputs, outputs and labels stand in the way.
+fn tell_shared(out: &mut Explanation, of: &About<'_>, count: usize) {
+    let tables = of.tables;
+    let queues = tables.bus_count().saturating_add(tables.output_count());
+    let all = queues.saturating_add(tables.label_count());
+    if count < FEW || count <= all / 2 {
+        return;
+    }
+    out.note(
+        "more than half of the {} inputs, outputs and labels do not hold: before each by itself look at what they share, a `tick_us` of {}, and then at `steps` and `within` of the routers, which count in such ticks",
+        &[Value::Number(all as u64), Value::Number(tables.tick_us() as u64)],
+    );
+}
+
 /// Tells the first of what stands in the way, in the order in which the first is found, and how many more do.
 fn tell_all(out: &mut Explanation, of: &About<'_>) {
     let mut count = 0usize;
@@ -261,6 +278,7 @@ fn tell_all(out: &mut Explanation, of: &About<'_>) {
         tell_rest(out, of, count.saturating_sub(TOLD));
     }
     tell_stales(out, of);
+    tell_shared(out, of, count);
 }
 
 /// Tells all that stands in the way, by what was found of a certificate.
