@@ -1,5 +1,5 @@
 use Rattle.std.proofs.Common.{inl}
-use Rattle.dc_answer.specs.lemmas.Stages.{read_raised, unread_raised}
+use Rattle.dc_answer.specs.lemmas.Stages.{read_raised}
 use Rattle.dc_digest.proofs.Behinds.{long_refused, read_whole, refused_raised}
 use Rattle.dc_digest.proofs.stages.DigestCertificateJudgeTuple2ArrayU832WithEnd.judge.Goals as goal
 
@@ -35,18 +35,3 @@ returns-in-Err-Refused-clause-order g c = λ first are. inl tt
 
 pub returns-in-Err-Refused-clause-threads : goal.returns-in-Err-Refused-clause-threads
 returns-in-Err-Refused-clause-threads g c = tt
-
-pub returns-in-Err-Failed-clause-answer : goal.returns-in-Err-Failed-clause-answer
-returns-in-Err-Failed-clause-answer g c = λ texts are. tt
-
-pub returns-in-Err-Failed-clause-raises : goal.returns-in-Err-Failed-clause-raises
-returns-in-Err-Failed-clause-raises g c = unread_raised _ _ 0 c.in-Err-Failed.failure _ _ c.in-Err-Failed.failure-is c.unread.ensures.told (rw c.in-Err-Failed.field-0-is at c.in-Err-Failed.ensures.count)
-
-pub returns-in-Err-Failed-clause-asks : goal.returns-in-Err-Failed-clause-asks
-returns-in-Err-Failed-clause-asks g c = (c.in-Err-Failed.ensures.asks, tt)
-
-pub returns-in-Err-Failed-clause-order : goal.returns-in-Err-Failed-clause-order
-returns-in-Err-Failed-clause-order g c = λ first are. inl tt
-
-pub returns-in-Err-Failed-clause-threads : goal.returns-in-Err-Failed-clause-threads
-returns-in-Err-Failed-clause-threads g c = λ is. absurd (c.unread.ensures.threads is)
