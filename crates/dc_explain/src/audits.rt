@@ -31,8 +31,16 @@ pub(crate) fn tell_failing(out: &mut Explanation, ran: &Ran<'_>, line: &Line<'_>
 /// Says that nothing was tested, where an audit found nothing wanting in a trace that is empty.
 pub(crate) fn tell_empty(out: &mut Explanation, ran: &Ran<'_>) {
     let input = ran.input;
-    let is_empty = input.text.is_empty() && input.before.lines == 0 && !input.is_cut;
-    if ran.task.is_audit && is_empty {
+    if !ran.task.is_audit {
+        return;
+    }
+    if input.is_cut {
+        return;
+    }
+    if input.before.lines != 0 {
+        return;
+    }
+    if input.text.is_empty() {
         out.say(
             "note: the trace is empty, so nothing was tested: silence is always allowed",
             &[],

@@ -3,7 +3,7 @@ use crate::ends::{concentrator_at, end_of};
 use crate::fits::{tables_at, tell_numbers};
 use crate::output::{index_in, word};
 use crate::ran::Ran;
-use dc_codes::{Kind as Sort, meaning_of};
+use dc_codes::{Kind as Sort, Meaning, meaning_of};
 use dc_explain_text::Refused;
 use dc_explain_unreadable::refused_of;
 use dc_tell::Value::{Names, Text};
@@ -141,28 +141,52 @@ fn tell_names_at<'a>(
     }
 }
 
+/// Whether a rule on links is one of times.
+fn is_of_times(code: &str) -> bool {
+    if code == "N18" {
+        return true;
+    }
+    code == "N19"
+}
+
+/// Tells of a link that was read what of it does not fit.
+fn tell_joined<'a>(
+    out: &mut Explanation,
+    ran: &Ran<'a>,
+    refused: &Refused<'a>,
+    code: &str,
+    meaning: &Meaning,
+) {
+    let stream = word(ran.line, 5);
+    out.begin(code);
+    if is_of_times(code) {
+        tell_ends(out, refused, code, stream, meaning.means);
+        if tell_numbers(out, refused, ran, code, stream) {
+            return;
+        }
+    } else {
+        tell_ends(out, refused, code, stream, "");
+    }
+    if code == "N14" {
+        tell_names_at(out, refused, ran, "from", Kind::Output);
+        tell_names_at(out, refused, ran, "to", Kind::Bus);
+    }
+    out.help("{}", &[Text(meaning.mend)]);
+}
+
 /// Tells of a link that does not fit what it joins.
-pub(crate) fn tell_link(out: &mut Explanation, ran: &Ran<'_>) {
+pub(crate) fn tell_link<'a>(out: &mut Explanation, ran: &Ran<'a>) {
     let code = word(ran.line, 1);
     let (file, _) = ran.files();
     let Some(meaning) = meaning_of(Sort::Link, code) else {
         return;
     };
-    let Some(mut refused) = refused_of(ran.alloc, file, Kind::System, true) else {
-        return;
-    };
-    let index = index_in(word(ran.line, 3));
-    refused.row = refused.layout.row(Kind::Link, index).unwrap_or(0);
-    out.begin(code);
-    let stream = word(ran.line, 5);
-    let is_of_times = code == "N18" || code == "N19";
-    let means = if is_of_times { meaning.means } else { "" };
-    tell_ends(out, &refused, code, stream, means);
-    if code == "N14" {
-        tell_names_at(out, &refused, ran, "from", Kind::Output);
-        tell_names_at(out, &refused, ran, "to", Kind::Bus);
-    }
-    if !is_of_times || !tell_numbers(out, &refused, ran, code, stream) {
-        out.help("{}", &[Text(meaning.mend)]);
+    match refused_of(ran.alloc, file, Kind::System, true) {
+        Some(mut refused) => {
+            let index = index_in(word(ran.line, 3));
+            refused.row = refused.layout.row(Kind::Link, index).unwrap_or(0);
+            tell_joined(out, ran, &refused, code, &meaning);
+        }
+        None => {}
     }
 }

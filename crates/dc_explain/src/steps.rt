@@ -228,12 +228,16 @@ pub(crate) fn tell_budget(
 ) -> bool {
     let (kind, _) = field(line.bytes, 0);
     let (name, _) = field(line.bytes, 1);
-    let (code, number) = match kind {
-        b"T" => ("owed", owing_at(line, ran.input, tables)),
-        b"R" => ("spent", number_of(tables, "spent", name)),
-        _ => ("early", number_of(tables, "early", name)),
-    };
-    tell_actor(out, code, line, ran.input, tables, number)
+    if kind == b"T".as_slice() {
+        let number = owing_at(line, ran.input, tables);
+        return tell_actor(out, "owed", line, ran.input, tables, number);
+    }
+    if kind == b"R".as_slice() {
+        let number = number_of(tables, "spent", name);
+        return tell_actor(out, "spent", line, ran.input, tables, number);
+    }
+    let number = number_of(tables, "early", name);
+    tell_actor(out, "early", line, ran.input, tables, number)
 }
 
 /// Tells why an event may not follow those before it, by the word of its refusal and the name that it is about.

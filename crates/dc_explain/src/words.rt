@@ -13,30 +13,40 @@ fn before(line: &[u8], wanted: u8) -> usize {
     line.len()
 }
 
-/// Tells what of a line is not seen and keeps it from being read, where there is such.
-pub(crate) fn tell_unseen(out: &mut Explanation, line: &Line<'_>) -> bool {
-    let bytes = line.bytes;
+/// What of a line is not seen and keeps it from being read, and where that stands; nothing where there is no such.
+fn unseen(bytes: &[u8]) -> Option<(usize, &'static str)> {
     let tab = before(bytes, b'\t');
     let last = bytes.len().saturating_sub(1);
-    let (at, sentence) = if bytes.starts_with(b"\xEF\xBB\xBF") {
-        (
+    if bytes.starts_with(b"\xEF\xBB\xBF") {
+        return Some((
             0,
             "the line begins with a byte order mark\nsave the text as UTF-8 without a byte order mark",
-        )
-    } else if bytes.ends_with(b"\r") {
-        (
+        ));
+    }
+    if bytes.ends_with(b"\r") {
+        return Some((
             last,
             "the line ends in a carriage return and a line feed\nlines end in a line feed alone: convert them all by `tr -d '\\r' < OLD > NEW`",
-        )
-    } else if tab < bytes.len() {
-        (tab, "the line has a tab\npart the fields by one blank")
-    } else if bytes.ends_with(b" ") {
-        (last, "the line has a blank at its end\ntake the blank out")
-    } else {
-        return false;
-    };
-    line.tell(out, at, sentence, &[]);
-    true
+        ));
+    }
+    if tab < bytes.len() {
+        return Some((tab, "the line has a tab\npart the fields by one blank"));
+    }
+    if bytes.ends_with(b" ") {
+        return Some((last, "the line has a blank at its end\ntake the blank out"));
+    }
+    None
+}
+
+/// Tells what of a line is not seen and keeps it from being read, where there is such.
+pub(crate) fn tell_unseen(out: &mut Explanation, line: &Line<'_>) -> bool {
+    match unseen(line.bytes) {
+        Some((at, sentence)) => {
+            line.tell(out, at, sentence, &[]);
+            true
+        }
+        None => false,
+    }
 }
 
 /// Tells what keeps a line from being read, whatever it is to say, by the code of its fault: that it is longer than lines
@@ -78,31 +88,41 @@ fn digits_in(bytes: &[u8]) -> usize {
     bytes.len()
 }
 
+/// What is told of a word that is written as in C.
+const PREFIXED: &str =
+    "`{}` is no word: it is written without `0x`\na word of 32 bits is written as 8 hexadecimal digits, as 600000C1";
+
+/// Why a piece of a line, with so many hexadecimal digits in front, is no word, and where in it that is seen.
+fn unlike_word(piece: &[u8], digits: usize) -> (usize, &'static str) {
+    if piece.is_empty() {
+        return (
+            0,
+            "there is no word: the line is empty\na word of 32 bits is written as 8 hexadecimal digits, as 600000C1",
+        );
+    }
+    if piece.starts_with(b"0x") {
+        return (0, PREFIXED);
+    }
+    if piece.starts_with(b"0X") {
+        return (0, PREFIXED);
+    }
+    if digits < piece.len() {
+        return (
+            digits,
+            "`{}` is no word: it has what is no hexadecimal digit\na word of 32 bits is written as 8 hexadecimal digits, as 600000C1",
+        );
+    }
+    (
+        0,
+        "`{}` is no word: it has {}, and a word has 8\na word of 32 bits is written as 8 hexadecimal digits, as 600000C1",
+    )
+}
+
 /// Tells why a piece of a line, from this byte on, is no word.
 pub(crate) fn tell_no_word(out: &mut Explanation, line: &Line<'_>, from: usize) {
     let piece = line.bytes.get(from..).unwrap_or(b"");
     let digits = digits_in(piece);
-    let (at, sentence) = if piece.is_empty() {
-        (
-            0,
-            "there is no word: the line is empty\na word of 32 bits is written as 8 hexadecimal digits, as 600000C1",
-        )
-    } else if piece.starts_with(b"0x") || piece.starts_with(b"0X") {
-        (
-            0,
-            "`{}` is no word: it is written without `0x`\na word of 32 bits is written as 8 hexadecimal digits, as 600000C1",
-        )
-    } else if digits < piece.len() {
-        (
-            digits,
-            "`{}` is no word: it has what is no hexadecimal digit\na word of 32 bits is written as 8 hexadecimal digits, as 600000C1",
-        )
-    } else {
-        (
-            0,
-            "`{}` is no word: it has {}, and a word has 8\na word of 32 bits is written as 8 hexadecimal digits, as 600000C1",
-        )
-    };
+    let (at, sentence) = unlike_word(piece, digits);
     let count = Several(digits as u64, "hexadecimal digit", "hexadecimal digits");
     line.tell(
         out,

@@ -51,6 +51,35 @@ pub(crate) fn counts_of(tables: &Tables, queue: Queue, ticks: u32, served: u32) 
     }
 }
 
+/// This window, with its peaks, where it is one that closes.
+fn closed_at<A: ArrivalBound, S: ServiceBound>(
+    arrivals: &A,
+    service: &S,
+    window: u32,
+) -> Option<Closing> {
+    if window < 1 {
+        return None;
+    }
+    if window > LONGEST_WINDOW {
+        return None;
+    }
+    if !closes(arrivals, service, window) {
+        return None;
+    }
+    Some(Closing {
+        window,
+        peaks: peaks_of(arrivals, service, window),
+    })
+}
+
+/// Whether it is seen at once that no window closes, where that is asked: the longest one does not.
+fn is_hopeless<A: ArrivalBound, S: ServiceBound>(arrivals: &A, service: &S, quick: bool) -> bool {
+    if !quick {
+        return false;
+    }
+    !closes(arrivals, service, LONGEST_WINDOW)
+}
+
 /// This window where it closes, or the least that does where none is named. Where none closes that costs a walk through all
 /// of them; `quick` asks that the longest one closes too, and says no of most such queues at once.
 pub(crate) fn closed_by<A: ArrivalBound, S: ServiceBound>(
@@ -59,21 +88,14 @@ pub(crate) fn closed_by<A: ArrivalBound, S: ServiceBound>(
     claimed: Option<u32>,
     quick: bool,
 ) -> Option<Closing> {
-    if quick && !closes(arrivals, service, LONGEST_WINDOW) {
+    if is_hopeless(arrivals, service, quick) {
         return None;
     }
-    let found = match claimed {
-        None => least_window(arrivals, service),
-        Some(window) => Some(window),
-    };
-    let Some(window) = found else {
-        return None;
-    };
-    if window < 1 || window > LONGEST_WINDOW || !closes(arrivals, service, window) {
-        return None;
+    if let Some(window) = claimed {
+        return closed_at(arrivals, service, window);
     }
-    Some(Closing {
-        window,
-        peaks: peaks_of(arrivals, service, window),
-    })
+    match least_window(arrivals, service) {
+        Some(window) => closed_at(arrivals, service, window),
+        None => None,
+    }
 }

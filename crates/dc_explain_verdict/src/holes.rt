@@ -66,6 +66,8 @@ pub(crate) fn hole_of(word: &str) -> (Hole, &'static str, &'static str) {
 
 /// The place of a number from 0 to 9, with which a hole ends; one behind all numbers where it ends with none.
 pub(crate) fn place_in(hole: &str) -> usize {
-    let last = hole.as_bytes().last().copied().unwrap_or(b' ');
-    last.wrapping_sub(b'0') as usize
+    match hole.as_bytes().last() {
+        Some(last) => last.wrapping_sub(b'0') as usize,
+        None => usize::MAX,
+    }
 }

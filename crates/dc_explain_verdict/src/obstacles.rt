@@ -79,10 +79,13 @@ const ALONE: &str =
 
 /// Begins to tell one thing more that stands in the way, behind so many. Whether it is to be told in full.
 fn begin_next(out: &mut Explanation, count: usize) -> bool {
-    if count > 0 && count < TOLD {
+    if count >= TOLD {
+        return false;
+    }
+    if count != 0 {
         out.add("\n");
     }
-    count < TOLD
+    true
 }
 
 /// Tells of a queue, where it stands in the way by what was found of it, behind so many things that do. How many do then.
