@@ -21,21 +21,19 @@ fn tell_by(
     line: &Line<'_>,
     tables: &Tables,
 ) -> bool {
-    if kind == Kind::Table {
-        return false;
-    }
-    if kind != Kind::Condition {
-        return tell_event_of(out, ran, kind, line, tables);
-    }
     let (first, second) = ran.files();
-    if ran.task.is_found {
-        return repeat(out, explain_find(ran.alloc, tables, first));
+    match kind {
+        Kind::Table => false,
+        Kind::Condition if ran.task.is_found => repeat(out, explain_find(ran.alloc, tables, first)),
+        Kind::Condition => {
+            let files = Files {
+                tables: first,
+                certificate: second,
+            };
+            repeat(out, explain_text(ran.alloc, tables, files))
+        }
+        _ => tell_event_of(out, ran, kind, line, tables),
     }
-    let files = Files {
-        tables: first,
-        certificate: second,
-    };
-    repeat(out, explain_text(ran.alloc, tables, files))
 }
 
 /// Reads the tables again, and tells what is of such a code: by them, or why they can't be read. The one function that
