@@ -251,12 +251,17 @@ fn tell_stales(out: &mut Explanation, of: &About<'_>) {
 /// So many have to stand in the way for what all share to be looked at.
 const FEW: usize = 5;
 
-/// Tells what all share, where more than half of all inputs, outputs and labels stand in the way.
+/// Tells what all share, where more than half of all inputs, outputs and labels stand in the way, and not by a `stale` alone
+/// that is too short: those are listed.
 fn tell_shared(out: &mut Explanation, of: &About<'_>, count: usize) {
     let tables = of.tables;
     let queues = tables.bus_count().saturating_add(tables.output_count());
     let all = queues.saturating_add(tables.label_count());
-    if count < FEW || count <= all / 2 {
+    let count = count.saturating_sub(stales_before(of, tables.label_count()));
+    if count < FEW {
+        return;
+    }
+    if count <= all / 2 {
         return;
     }
     out.note(
