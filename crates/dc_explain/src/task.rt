@@ -82,7 +82,8 @@ pub(crate) fn task_of(order: Order<'_>) -> Task<'_> {
             task.wanted = ("the sheet of inputs", "the sheet of outputs");
         }
         Order::Find { .. } => task.is_found = true,
-        Order::Report { certificate, .. } | Order::Margins { certificate, .. } => task.is_found = certificate.is_none(),
+        Order::Report { certificate, .. } | Order::Margins { certificate, .. } => task.is_found =
+            certificate.is_none(),
         _ => {}
     }
     task
@@ -121,7 +122,8 @@ fn first_of(order: Order<'_>) -> &str {
 fn second_of(order: Order<'_>) -> &str {
     match order {
         Order::Design { outputs, .. } => outputs,
-        Order::Report { certificate, .. } | Order::Margins { certificate, .. } => certificate.unwrap_or(""),
+        Order::Report { certificate, .. } | Order::Margins { certificate, .. } =>
+            certificate.unwrap_or(""),
         Order::ReportObserved { certificate, .. }
         | Order::Check { certificate, .. }
         | Order::Audit { certificate, .. }
@@ -133,6 +135,10 @@ fn second_of(order: Order<'_>) -> &str {
 
 /// The names of the files of an order, in the order in which it opens them; an empty one where it has none.
 pub(crate) fn names_of(order: Order<'_>) -> (&str, &str, &str) {
-    let third = if let Order::ReportObserved { observed, .. } = order { observed } else { "" };
+    let third = if let Order::ReportObserved { observed, .. } = order {
+        observed
+    } else {
+        ""
+    };
     (told(first_of(order)), told(second_of(order)), told(third))
 }

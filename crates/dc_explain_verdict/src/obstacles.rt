@@ -266,7 +266,10 @@ fn tell_shared(out: &mut Explanation, of: &About<'_>, count: usize) {
     }
     out.note(
         "more than half of the {} inputs, outputs and labels do not hold: before each by itself look at what they share, a `tick_us` of {}, and then at `steps` and `within` of the routers, which count in such ticks",
-        &[Value::Number(all as u64), Value::Number(tables.tick_us() as u64)],
+        &[
+            Value::Number(all as u64),
+            Value::Number(tables.tick_us() as u64),
+        ],
     );
 }
 
