@@ -58,6 +58,32 @@ def laid_out(crates, room, with_kept_work=False):
     shutil.copy(ROOT / "HANDLES", room)
 
 
+def linked(file, to):
+    """Gives a file another name, or copies it where that lies on another disk."""
+    try:
+        os.link(file, to)
+    except OSError:
+        shutil.copy2(file, to)
+
+
+class Kept:
+    """In which workspace each crate was proved. What is kept of it there, the whole of its out/, `rt` uses at any path."""
+
+    def __init__(self):
+        self.makers = {}
+
+    def note(self, crate, top):
+        self.makers.setdefault(crate, top)
+
+    def hand(self, crate, top):
+        """Puts what is kept of a crate into a workspace, where another has proved it. Nothing may prove it meanwhile."""
+        maker = self.makers.get(crate, top)
+        if maker != top:
+            kept = top / "crates" / crate / "out"
+            shutil.rmtree(kept, ignore_errors=True)
+            shutil.copytree(maker / "crates" / crate / "out", kept, symlinks=True, copy_function=linked)
+
+
 def processors():
     """How many processors this process may use."""
     return len(os.sched_getaffinity(0))
@@ -131,7 +157,7 @@ class Queue:
 def side_by_side(crates, jobs, commands, one, tops=(), last=len):
     """Calls `one` with the top of a workspace and a crate for each crate once all below it are well, in so many workspaces at once, and
     answers what `last` says to those for which it said yes. The first workspaces are those that are given, the others copies of the
-    sources: what one has proved `rt` takes over in another in a second or two, while it stands. They are taken away behind `last`."""
+    sources, which are taken away behind `last`."""
     queue = Queue(crates)
     signal.signal(signal.SIGTERM, lambda *_: sys.exit(143))
     with tempfile.TemporaryDirectory(prefix="dc429-lanes-") as room:
