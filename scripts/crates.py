@@ -48,22 +48,23 @@ def is_program(crate):
     return (ROOT / "crates" / crate / "src/main.rt").is_file()
 
 
-def laid_out(crates, room, with_kept_work=False):
-    """Puts crates into a workspace of their own, and where it is wanted with the whole of what earlier checks kept of them: nothing may
-    run in these crates meanwhile."""
-    for crate in crates:
-        nothing = None if with_kept_work else shutil.ignore_patterns("out")
-        shutil.copytree(ROOT / "crates" / crate, room / "crates" / crate, symlinks=True, ignore=nothing)
-    (room / "crates.txt").write_text("".join(f"{lines()[it]}\n" for it in in_order(crates)))
-    shutil.copy(ROOT / "HANDLES", room)
-
-
 def linked(file, to):
     """Gives a file another name, or copies it where that lies on another disk."""
     try:
         os.link(file, to)
     except OSError:
         shutil.copy2(file, to)
+
+
+def laid_out(crates, room, with_kept_work=False, own=None):
+    """Puts crates into a workspace of their own, and where it is wanted with the whole of what earlier checks kept of them: nothing may
+    run in these crates meanwhile. Where `own` names the one that is worked on there, the others, which nothing changes, are links."""
+    for crate in crates:
+        nothing = None if with_kept_work else shutil.ignore_patterns("out")
+        how = shutil.copy2 if own in (None, crate) else linked
+        shutil.copytree(ROOT / "crates" / crate, room / "crates" / crate, symlinks=True, ignore=nothing, copy_function=how)
+    (room / "crates.txt").write_text("".join(f"{lines()[it]}\n" for it in in_order(crates)))
+    shutil.copy(ROOT / "HANDLES", room)
 
 
 class Kept:
@@ -76,12 +77,15 @@ class Kept:
         self.makers.setdefault(crate, top)
 
     def hand(self, crate, top):
-        """Puts what is kept of a crate into a workspace, where another has proved it. Nothing may prove it meanwhile."""
+        """Puts what is kept of a crate into a workspace, where another has proved it, and says whether that is so. Nothing may prove it
+        meanwhile."""
         maker = self.makers.get(crate, top)
-        if maker != top:
-            kept = top / "crates" / crate / "out"
-            shutil.rmtree(kept, ignore_errors=True)
-            shutil.copytree(maker / "crates" / crate / "out", kept, symlinks=True, copy_function=linked)
+        if maker == top:
+            return False
+        kept = top / "crates" / crate / "out"
+        shutil.rmtree(kept, ignore_errors=True)
+        shutil.copytree(maker / "crates" / crate / "out", kept, symlinks=True, copy_function=linked)
+        return True
 
 
 def processors():
