@@ -1,2 +1,3 @@
 mod Behinds
 mod Digested
+mod Reporting

@@ -1,4 +1,6 @@
--- The digests of two texts, and what `check --digest` answers.
+-- The digests of two texts behind what is answered.
 pub mod Behind
+-- What `check --digest` answers.
+pub mod Digests
 -- lemmas that crates above cite
 pub mod lemmas

@@ -19,7 +19,7 @@ use Rattle.dc_document.specs.declared.fault.BuildError.TheVariants.{Refused, Mem
 use Rattle.dc_run.specs.Check.{AnswersCheck, AnswersTables, AreCertified, ReportsCheck, answer_claims, answer_verdict}
 use Rattle.sha2.specs.Sha256.{sha256}
 use Rattle.dc_digest.specs.Behind.{behind, digest_lines, with_lines}
-use Rattle.dc_run_digest.specs.Digests.{AnswersDigests, AnswersRead, ReportsDigests}
+use Rattle.dc_digest.specs.Digests.{AnswersDigests, AnswersRead, ReportsDigests}
 use Rattle.dc_digest.specs.lemmas.Behind.{behind_outcome, read_behind}
 use Rattle.dc_tables.specs.TableRows.{TableRows}
 use Rattle.dc_toml.specs.Reading.{tables_of}

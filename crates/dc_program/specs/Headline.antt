@@ -16,7 +16,7 @@ use Rattle.dc_document.specs.declared.fault.TableFault.{TableFault}
 use Rattle.dc_print.specs.Verdicts.{accepted_text}
 use Rattle.dc_program.specs.World.{WorldState}
 use Rattle.dc_run.specs.Check.{AreCertified}
-use Rattle.dc_run_digest.specs.Digests.{told_behind}
+use Rattle.dc_digest.specs.Digests.{told_behind}
 use Rattle.dc_tables.specs.TableRows.{TableRows}
 use Rattle.dc_toml.specs.Reading.{tables_of}
 

@@ -18,7 +18,7 @@ use Rattle.dc_run.specs.Find.{ReportsFind}
 use Rattle.dc_run.specs.Limits.{trace_limit}
 use Rattle.dc_run.specs.Replay.{ReportsReplay}
 use Rattle.dc_run_bench.specs.Bench.{ReportsBench}
-use Rattle.dc_run_digest.specs.Digests.{ReportsDigests}
+use Rattle.dc_digest.specs.Digests.{ReportsDigests}
 use Rattle.dc_run_explain.specs.Explain.{ReportsExplain}
 use Rattle.dc_run_observe.specs.Answer.{ReportsObserve}
 use Rattle.dc_run.specs.declared.limits.TheConstants.{LONG_TRACE_LIMIT}

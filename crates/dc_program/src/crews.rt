@@ -7,15 +7,15 @@ ghost use Rattle.dc_answer.specs.Threads.{ReportsThreads};
 ghost use Rattle.dc_device.specs.States.{CanFail, IsCountable};
 ghost use Rattle.dc_run.specs.Check.{ReportsCheck};
 ghost use Rattle.dc_run_bench.specs.Bench.{ReportsBench};
-ghost use Rattle.dc_run_digest.specs.Digests.{ReportsDigests};
+ghost use Rattle.dc_digest.specs.Digests.{ReportsDigests};
 ghost use Rattle.dc_run_network.specs.Answer.{IsLines, ReportsNetwork};
 ghost use Rattle.dc_run_network.specs.Paths.{folder_of};
 
 use dc_answer::Exit;
 use dc_device::{Sink, Source};
+use dc_digest::run_check_par_digest;
 use dc_run::run_check_par;
 use dc_run_bench::run_bench;
-use dc_run_digest::run_check_par_digest;
 use dc_run_network::{Shelf, run_network_par};
 use std::marker::Sync;
 use std::sync::Wait;
@@ -56,7 +56,7 @@ pub trait ByThreads {
         ensures left { LeavesSink (K.state sink.old).failed (K.state sink.new).failed (K.state sink.new).last_failed (K.state sink.new).hidden };
 
     /// The same with the digests of both texts behind the verdict, as
-    /// [`run_check_par_digest`](dc_run_digest::run_check_par_digest) does.
+    /// [`run_check_par_digest`](dc_digest::run_check_par_digest) does.
     fn check_digest<T: Source, C: Source, K: Sink>(
         &self,
         workers: u8,

@@ -11,7 +11,7 @@ use crate::opening::{end_unopened, open_both, open_for};
 use crate::world::{Crew, World};
 use dc_answer::Exit;
 use dc_device::Sink;
-use dc_run_digest::run_check_digest;
+use dc_digest::run_check_digest;
 use std::alloc::Global;
 
 /// Judges a certificate by one thread, and tells the digests.

@@ -1,7 +1,7 @@
 use Rattle.std.proofs.Common.{◌+◌, refl, None, true}
 use Rattle.dc_answer.specs.Answer.{Any, Reported}
 use Rattle.dc_command.specs.declared.asked.Order.TheVariants.{Check}
-use Rattle.dc_run_digest.specs.Digests.{ReportsDigests}
+use Rattle.dc_digest.specs.Digests.{ReportsDigests}
 use Rattle.dc_program.proofs.Running.{of_two, ran, two_texts}
 use Rattle.dc_program.proofs.digests.check_digest.Goals as goal
 

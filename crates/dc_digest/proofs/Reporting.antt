@@ -17,7 +17,7 @@ use Rattle.dc_run.specs.Check.{AnswersVerdict, AreCertified, Certifies, answer_c
 use Rattle.dc_tables.specs.TableRows.{TableRows}
 use Rattle.dc_digest.specs.Behind.{AnswersBehind, AnswersDigested, behind}
 use Rattle.dc_digest.specs.lemmas.Behind.{behind_outcome}
-use Rattle.dc_run_digest.specs.Digests.{AnswersDigests, ReportsDigests}
+use Rattle.dc_digest.specs.Digests.{AnswersDigests, ReportsDigests}
 
 -- the words of the frame for this engine
 abbrev pub DigestFrame : List ℕ → List ℕ → Answer → Type 0

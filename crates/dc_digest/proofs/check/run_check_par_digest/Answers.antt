@@ -1,7 +1,7 @@
 use Rattle.std.proofs.Common.{◌≡◌, [], ◌∷◌, ap, rules}
-use Rattle.dc_answer.specs.lemmas.Plain.{order_one, plain}
-use Rattle.dc_run_digest.proofs.Reporting.{any_told, digest_told, quiet_both}
-use Rattle.dc_run_digest.proofs.check.run_check_digest.Goals as goal
+use Rattle.dc_answer.specs.lemmas.Plain.{order_one}
+use Rattle.dc_digest.proofs.Reporting.{any_or_threads, digest_or, quiet_both}
+use Rattle.dc_digest.proofs.check.run_check_par_digest.Goals as goal
 
 pub returns : goal.returns
 returns g c =
@@ -18,8 +18,8 @@ returns g c =
     let n0 : p ≡ a' = ap (λ x. (g.T.Source.state x).failed) same0 in
     let n1 : q ≡ b' = ap (λ x. (g.C.Source.state x).failed) same1 in
     record {
-      reports = λ rows text e f. digest_told before.contents after.contents a a' b b' p q before.failed after.failed c.run.result n0 n1 rows text (plain (c.run.ensures.reports (rows ∷ text ∷ []) (e, (f, tt))));
-      reported = any_told before.contents after.contents a a' b b' p q before.failed after.failed c.run.result n0 n1 (plain c.run.ensures.reported);
+      reports = λ rows text e f. digest_or before.contents after.contents a a' b b' p q before.failed after.failed c.run.result n0 n1 rows text (c.run.ensures.reports (rows ∷ text ∷ []) (e, (f, tt)));
+      reported = any_or_threads before.contents after.contents a a' b b' p q before.failed after.failed c.run.result n0 n1 c.run.ensures.reported;
       asks_tables = rw same0 (c.run.ensures.asks.0);
       asks_certificate = rw same1 (c.run.ensures.asks.1.0);
       order = rw same1 (order_one (g.T.Source.state c.args.tables.now).remaining (c.run.new.given.rest.first.now ≡ c.args.certificate.now) (λ rows e. c.run.ensures.order (rows ∷ []) (e, tt)));

@@ -7,11 +7,11 @@ ghost use Rattle.dc_checkpar.specs.declared.limits.TheConstants.{MOST_WORKERS};
 ghost use Rattle.dc_device.specs.States.{AsksUpTo, CanFail, IsCountable};
 ghost use Rattle.dc_document.specs.declared.limits.TheConstants.{TEXT_LIMIT};
 ghost use Rattle.dc_toml.specs.Reading.{tables_of};
-ghost use Rattle.dc_run_digest.specs.Digests.{ReportsDigests};
+ghost use Rattle.dc_digest.specs.Digests.{ReportsDigests};
 
+use crate::stages::{DigestCertificate, DigestTables};
 use dc_answer::{End, Exit, Then, With, run};
 use dc_device::{Sink, Source};
-use dc_digest::{DigestCertificate, DigestTables};
 use dc_run::{Check, Shared, Workers};
 use std::alloc::Global;
 use std::marker::Sync;

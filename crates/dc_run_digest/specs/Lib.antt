@@ -1,2 +1,0 @@
--- What `check --digest` answers.
-pub mod Digests
