@@ -24,6 +24,9 @@ const WIDTH: u64 = 3_480;
 /// Where the counts of a plot begin, from the top of the picture.
 const FOOT: u64 = 1_880;
 
+/// What a curve that ends below this height is called stands above it: below stand the numbers of the ticks.
+const LOW: u64 = 1_600;
+
 /// How far the counts go up.
 const HEIGHT: u64 = 1_620;
 
@@ -266,7 +269,13 @@ fn push_taken<S: ServiceBound>(html: &mut Html, service: &S, plane: Plane) {
         }
     }
     html.add("H388");
-    push_end(html, plane.x(plane.span), plane.y(last), "24")
+    let end = plane.y(last);
+    push_end(
+        html,
+        plane.x(plane.span),
+        end,
+        if end.0 > LOW { "-5" } else { "24" },
+    )
 }
 
 /// Adds the greatest height between the curves: over tick w, from what is taken by the end of the tick before it.

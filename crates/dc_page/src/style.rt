@@ -22,7 +22,7 @@ path{fill:none;stroke:var(--ink);stroke-width:2}.x{stroke:var(--soft);stroke-wid
 .a,path.s{stroke-width:2.5}path.s{stroke-dasharray:7 3}.f{stroke:var(--back);stroke-width:4}.g svg,.h svg{border-bottom:1px solid var(--soft)}.b{stroke:var(--band);stroke-width:8}.d{stroke-width:6}.q{stroke-width:10}.o{stroke:var(--come);stroke-width:10}
 @media (max-width:560px){.n{white-space:normal}.card{padding:10px}}
 @page{margin:14mm;@bottom-right{content:counter(page) ' / ' counter(pages)}}
-@media print{body{max-width:none;font-size:10pt;padding:0}.card{background:none;break-inside:avoid;max-height:118mm}.two svg{max-width:420px}h2,h3,h4,h2+.s{break-after:avoid}thead{display:table-header-group}tr{break-inside:avoid}a{color:inherit;text-decoration:none}}
+@media print{body{max-width:none;font-size:10pt;padding:0}.card{background:none;break-inside:avoid;max-height:118mm}.n,.n small{white-space:normal}.two svg{max-width:420px}h2,h3,h4,h2+.s{break-after:avoid}thead{display:table-header-group}tr{break-inside:avoid}a{color:inherit;text-decoration:none}}
 </style></head><body>
 <h1>Certification report</h1>
 ";
