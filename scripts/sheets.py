@@ -14,16 +14,18 @@ from random import Random
 IN_SPACING, OUT_SPACING = {"high": 350, "low": 2450}, {"high": 365, "low": 3050}
 MEMBERS, STREAMS, LABELS = 256, 1024, 1024
 
-INPUT_COLUMNS = ["bus", "speed", "label", "equipment", "format", "min", "max", "sdi", "jitter", "police", "queue", "router", "name"]
-OUTPUT_COLUMNS = ["output", "speed", "label", "equipment", "sources", "min", "max", "sdi", "max_age", "timeout", "name", "format"]
+INPUT_COLUMNS = ["bus", "speed", "label", "equipment", "format", "min", "max", "sdi", "jitter", "police", "queue", "router", "name",
+                 "steps", "within"]
+OUTPUT_COLUMNS = ["output", "speed", "label", "equipment", "sources", "min", "max", "sdi", "max_age", "timeout", "name", "format",
+                  "steps", "within"]
 NEEDED = ["bus", "output", "speed", "label", "equipment", "format", "sources", "min", "max"]
-TIMES = ["min", "max", "jitter", "max_age", "timeout"]
+TIMES = ["min", "max", "jitter", "max_age", "timeout", "within"]
 ALIASES = {"bus": ["Bus", "Input bus", "source_bus"], "output": ["Output", "Output Bus"], "speed": ["Speed", "Bus speed"],
            "label": ["Label", "Octal Label", "label (octal)"], "equipment": ["Equipment", "Equipment ID", "Equip. ID", "Eqpt ID (hex)", "EQ_ID"],
            "format": ["Format", "Type", "Data type"], "min": ["Min", "Minimum", "Min interval", "Min transmit interval"],
            "max": ["Max", "Maximum", "Max interval", "Max transmit interval"], "sdi": ["SDI"], "jitter": ["Jitter"], "police": ["Police", "policed"],
            "queue": ["Queue"], "router": ["Router"], "name": ["Name"], "sources": ["Sources", "Source", "Streams"],
-           "max_age": ["Max age", "Maximum age"], "timeout": ["Timeout"]}
+           "max_age": ["Max age", "Maximum age"], "timeout": ["Timeout"], "steps": ["Steps"], "within": ["Within"]}
 SPEEDS = {"high": ["high", "High", "HS", "100"], "low": ["low", "LOW", "LS", "12.5"]}
 FORMATS = {"bnr": ["bnr", "BNR"], "bcd": ["bcd", "BCD"], "disc": ["disc", "DISC", "Discrete", "dis"]}
 
@@ -173,6 +175,17 @@ def drawn(chance):
     return inputs, draw_outputs(chance, inputs, interval)
 
 
+def with_tasks(chance, rows, tasks, slower, group):
+    """Rows that say what the task of their bus or output does: by the name of that, its steps and microseconds, so many times slower. All
+    rows of one say it, or the first alone; one step is said or not."""
+    told = set()
+    for row in rows:
+        steps, within = tasks[row[group]]
+        if row[group] not in told or chance.random() < 0.5:
+            row |= {"steps": None if steps == 1 and chance.random() < 0.5 else steps, "within": within * slower}
+        told.add(row[group])
+
+
 # ---- sheets
 
 
@@ -189,7 +202,7 @@ def in_unit(chance, microseconds, unit, point):
 
 def cell_of(chance, column, row, unit, point):
     """The text of a cell."""
-    value = row[column]
+    value = row.get(column)
     if value is None:
         return chance.choice(["", "any", "x", "-"]) if column == "sdi" and "bus" in row and chance.random() < 0.5 else ""
     if column in TIMES:
@@ -247,10 +260,14 @@ def written(chance, rows, all_columns):
     return (b"\xef\xbb\xbf" if chance.random() < 0.3 else b"") + text.encode()
 
 
+def sheets_of(chance, inputs, outputs):
+    """The bytes of both sheets with these rows."""
+    return written(chance, inputs, INPUT_COLUMNS), written(chance, outputs, OUTPUT_COLUMNS)
+
+
 def sheets(chance):
     """The bytes of both sheets of a document."""
-    inputs, outputs = drawn(chance)
-    return written(chance, inputs, INPUT_COLUMNS), written(chance, outputs, OUTPUT_COLUMNS)
+    return sheets_of(chance, *drawn(chance))
 
 
 def main(words):

@@ -1,5 +1,5 @@
 -- One letter off, and the last gap, step by step.
-use Rattle.std.proofs.Common.{◌≡◌, ℕ, suc, zero, ◌+◌, ◌-◌, ◌<◌, ◌≤◌, ◌==◌, Bool, true, false, List, [], ◌∷◌, length, drop, slice_index, if◌then◌else◌, refl, sym, ap, ◌∙◌, arith}
+use Rattle.std.proofs.Common.{◌≡◌, ℕ, suc, zero, ◌+◌, ◌-◌, ◌<◌, ◌==◌, true, false, List, [], ◌∷◌, length, drop, slice_index, refl, arith}
 use Rattle.dc_cell.specs.Strays.{is_one_off, is_first_off, gap_before}
 
 -- where both have the same letter, it is what is behind it that tells

@@ -1,11 +1,12 @@
 -- Cells that hold digits: a label, an equipment code, a length.
-use Rattle.std.specs.Prelude.{ℕ, ◌+◌, ◌-◌, ◌*◌, ◌==◌, ◌&&◌, ◌||◌, Bool, false, nat_lt, nat_le, if◌then◌else◌, Option, Some, None, option_and_then, List, [], ◌∷◌, length, take, drop, slice_index, position, Result, Ok, Err}
+use Rattle.std.specs.Prelude.{ℕ, ◌+◌, ◌*◌, ◌==◌, ◌&&◌, ◌||◌, Bool, false, nat_lt, nat_le, if◌then◌else◌, Option, Some, None, option_and_then, List, [], ◌∷◌, length, take, drop, slice_index, position, Result, Ok, Err}
 use Rattle.std.specs.List.{list_all}
 use Rattle.dc_word.specs.Digits.{digit_in}
 use Rattle.dc_bound.specs.declared.limits.TheConstants.{GREATEST_QUEUE}
 use Rattle.dc_dict.specs.declared.parameter.TheConstants.{EQUIPMENT_CODES}
+use Rattle.dc_document.specs.declared.limits.TheConstants.{MOST_STEPS}
 use Rattle.dc_cell.specs.declared.fault.CellFault.{CellFault}
-use Rattle.dc_cell.specs.declared.fault.CellFault.TheVariants.{NotLabel, NotEquipment, MadeNumber, NotQueue}
+use Rattle.dc_cell.specs.declared.fault.CellFault.TheVariants.{NotLabel, NotEquipment, MadeNumber, NotQueue, NotSteps}
 
 -- the number that digits of a base write, behind n
 abbrev pub number_behind : (base n : ℕ) → List ℕ → Option ℕ
@@ -32,6 +33,14 @@ queue_of_number (Some n) = if nat_le 1 n && nat_le n GREATEST_QUEUE then Ok n el
 
 abbrev pub queue_of : List ℕ → Result ℕ CellFault
 queue_of text = queue_of_number (number_in 10 4 text)
+
+-- a number of steps, of a cell of one to four decimal digits
+abbrev pub steps_of_number : Option ℕ → Result ℕ CellFault
+steps_of_number None = Err NotSteps
+steps_of_number (Some n) = if nat_le 1 n && nat_le n MOST_STEPS then Ok n else Err NotSteps
+
+abbrev pub steps_of : List ℕ → Result ℕ CellFault
+steps_of text = steps_of_number (number_in 10 4 text)
 
 -- a decimal digit, a point or a comma, an E
 abbrev pub is_digit : ℕ → Bool

@@ -1,5 +1,5 @@
 -- Titles by which a column seems to be meant, though none is read under them.
-use Rattle.std.specs.Prelude.{ℕ, suc, zero, ◌+◌, ◌==◌, ◌&&◌, ◌||◌, Bool, true, false, not, nat_le, codes, if◌then◌else◌, List, [], ◌∷◌, ◌++◌, length, take, drop, slice_index}
+use Rattle.std.specs.Prelude.{ℕ, suc, zero, ◌==◌, ◌&&◌, ◌||◌, Bool, false, not, nat_le, codes, if◌then◌else◌, List, [], ◌∷◌, ◌++◌, length, take, drop, slice_index}
 use Rattle.dc_cell.specs.Words.{is_word}
 use Rattle.dc_cell.specs.Titles.{is_title}
 use Rattle.dc_cell.specs.declared.titles.Column.{Column}
@@ -74,12 +74,15 @@ is_near col.Max key stem = is_near_timed (codes "maximum") key stem || is_near_t
 is_near col.Jitter key stem = is_near_timed (codes "jitter") key stem
 is_near col.MaxAge key stem = is_near_timed (codes "max_age") key stem || is_near_timed (codes "maximum_age") key stem
 is_near col.Timeout key stem = is_near_timed (codes "timeout") key stem
+is_near col.Steps key stem = is_one_off (codes "steps") key
+is_near col.Within key stem = is_near_timed (codes "within") key stem
 
 -- a name of a time that a sheet need not have, whatever follows it: with one of its units it is a title
 abbrev pub is_unitless : Column → (key : List ℕ) → Bool
 is_unitless col.Jitter key = begins_with (codes "jitter") key
 is_unitless col.MaxAge key = begins_with (codes "max_age") key || begins_with (codes "maximum_age") key
 is_unitless col.Timeout key = begins_with (codes "timeout") key
+is_unitless col.Within key = begins_with (codes "within") key
 is_unitless column key = false
 
 -- a column seems to be meant
@@ -91,12 +94,12 @@ is_meant column key = is_unitless column key || is_near column key (stem_of key)
 abbrev pub is_any_of_inputs : (Column → Bool) → Bool
 is_any_of_inputs says =
     says col.Bus || says col.Speed || says col.Label || says col.Equipment || says col.Format || says col.Min || says col.Max || says col.Sdi || says col.Jitter
-    || says col.Name || says col.Queue || says col.Police || says col.Router
+    || says col.Name || says col.Queue || says col.Police || says col.Router || says col.Steps || says col.Within
 
 abbrev pub is_any_of_outputs : (Column → Bool) → Bool
 is_any_of_outputs says =
     says col.Output || says col.Speed || says col.Label || says col.Equipment || says col.Sources || says col.Min || says col.Max || says col.Sdi || says col.MaxAge
-    || says col.Timeout || says col.Name || says col.Format
+    || says col.Timeout || says col.Name || says col.Format || says col.Steps || says col.Within
 
 -- a title of the inputs that is read, or by which no column of theirs can be meant
 abbrev pub is_clear_input : (key : List ℕ) → Bool

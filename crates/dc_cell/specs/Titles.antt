@@ -1,5 +1,5 @@
 -- Titles of columns.
-use Rattle.std.specs.Prelude.{ℕ, ◌-◌, ◌==◌, ◌&&◌, ◌||◌, Bool, true, false, nat_le, codes, if◌then◌else◌, Option, Some, None, List, [], ◌∷◌, ◌++◌, length, take, drop, slice_index}
+use Rattle.std.specs.Prelude.{ℕ, ◌-◌, ◌==◌, ◌&&◌, ◌||◌, Bool, nat_le, codes, if◌then◌else◌, List, [], ◌∷◌, ◌++◌, length, take, drop, slice_index}
 use Rattle.std.specs.Char.{to_ascii_lowercase}
 use Rattle.dc_cell.specs.Words.{is_word}
 use Rattle.dc_cell.specs.declared.titles.Column.{Column}
@@ -70,3 +70,5 @@ is_title col.Max key = is_timed (codes "max") key || is_timed (codes "maximum") 
 is_title col.Jitter key = is_timed (codes "jitter") key
 is_title col.MaxAge key = is_timed (codes "max_age") key || is_timed (codes "maximum_age") key
 is_title col.Timeout key = is_timed (codes "timeout") key
+is_title col.Steps key = is_word (codes "steps") key
+is_title col.Within key = is_timed (codes "within") key

@@ -1,5 +1,5 @@
 -- Cells that hold a word: a speed, a format, an SDI, yes or no. Letters are taken in either case.
-use Rattle.std.specs.Prelude.{◌≡◌, ℕ, Bool, true, false, ◌||◌, ◌==◌, bytes_eq, codes, map, List, length, nat_lt, if◌then◌else◌, Option, Some, None, Result, Ok, Err}
+use Rattle.std.specs.Prelude.{ℕ, Bool, true, false, ◌||◌, ◌==◌, bytes_eq, codes, map, List, length, nat_lt, if◌then◌else◌, Option, Some, None, Result, Ok, Err}
 use Rattle.std.specs.Char.{to_ascii_lowercase}
 use Rattle.dc_document.specs.declared.parts.Speed.{Speed}
 use Rattle.dc_document.specs.declared.parts.Speed.TheVariants.{High, Low}

@@ -2,11 +2,12 @@
 
 ghost use Rattle.std.specs.Prelude.{◌≡◌, ◌==◌, ◌||◌, ◌+◌, ◌*◌, ◌^◌, ◌<◌, ◌≤◌, length, position, IfSome};
 ghost use Rattle.std.specs.List.{list_all, position_from};
-ghost use Rattle.dc_cell.specs.Digits.{number_in as number_of_text, is_digit as is_digit_of, is_mark as is_mark_of, is_power_mark as is_power_mark_of, is_digit_or_mark as is_digit_or_mark_of, are_digits as are_digits_of, is_fraction_at, is_exponent as is_exponent_of, is_factor as is_factor_of, is_power_at, is_made_number as is_made_number_of, label_of, queue_of, equipment_of};
+ghost use Rattle.dc_cell.specs.Digits.{number_in as number_of_text, is_digit as is_digit_of, is_mark as is_mark_of, is_power_mark as is_power_mark_of, is_digit_or_mark as is_digit_or_mark_of, are_digits as are_digits_of, is_fraction_at, is_exponent as is_exponent_of, is_factor as is_factor_of, is_power_at, is_made_number as is_made_number_of, label_of, queue_of, steps_of, equipment_of};
 
 use crate::fault::CellFault;
 use dc_bound::GREATEST_QUEUE;
 use dc_dict::{EQUIPMENT_CODES, Equipment};
+use dc_document::MOST_STEPS;
 use dc_word::{Label, digit_in};
 
 /// A number with one more digit behind it.
@@ -64,6 +65,19 @@ pub fn queue_cell(text: &[u8]) -> Result<u32, CellFault>
     };
     if number < 1 || number > u64::from(GREATEST_QUEUE) {
         return Err(CellFault::NotQueue);
+    }
+    Ok(number as u32)
+}
+
+/// A number of steps, 1 to [`MOST_STEPS`].
+pub fn steps_cell(text: &[u8]) -> Result<u32, CellFault>
+    ensures { result ≡ steps_of text.now }
+{
+    let Some(number) = number_in(10, 4, text) else {
+        return Err(CellFault::NotSteps);
+    };
+    if number < 1 || number > u64::from(MOST_STEPS) {
+        return Err(CellFault::NotSteps);
     }
     Ok(number as u32)
 }

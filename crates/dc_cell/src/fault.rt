@@ -21,6 +21,10 @@ pub enum CellFault {
     NotSdi,
     /// It is no length of a queue.
     NotQueue,
+    /// It is no number of steps.
+    NotSteps,
+    /// It is empty, and the row says how many steps are made in the time that it is to say.
+    NoWithin,
     /// It is no number.
     NotNumber,
     /// What stands behind its mark may be thousands or a fraction.

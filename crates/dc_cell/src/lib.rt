@@ -11,10 +11,10 @@ mod times;
 mod titles;
 mod words;
 
-pub use digits::{equipment_cell, label_cell, queue_cell};
+pub use digits::{equipment_cell, label_cell, queue_cell, steps_cell};
 pub use fault::CellFault;
 pub use names::{name_cell, name_if_any_cell, parts_names, push_names};
-pub use rows::{InputRow, Inputs, OutputRow, Outputs, UnreadTitle};
+pub use rows::{InputRow, Inputs, OutputRow, Outputs, Task, UnreadTitle};
 pub use shown::{SHOWN_LIMIT, Shown};
 pub use strays::{
     is_clear_input, is_clear_output, is_input_title, is_input_unitless, is_meant, is_output_title,

@@ -6,6 +6,15 @@ use dc_dict::Equipment;
 use dc_document::{Name, Speed};
 use dc_word::{Format, Label, Sdi};
 
+/// What a task surely does: a router's steps, of which each visits a queue, or an output's sends.
+#[derive(Clone, Copy, Debug, PartialEq)]
+pub struct Task {
+    /// So many steps or more, 1 to [`MOST_STEPS`](dc_document::MOST_STEPS) ..
+    pub steps: u32,
+    /// .. in any so many microseconds, 1 to [`MOST_US`](crate::MOST_US).
+    pub within_us: u32,
+}
+
 /// A row of the inputs: the words of one label that come on a bus, with one SDI or with any.
 #[derive(Clone, Copy, Debug, PartialEq)]
 pub struct InputRow {
@@ -35,6 +44,8 @@ pub struct InputRow {
     pub queue: Option<u32>,
     /// The router of its bus, where one is named.
     pub router: Option<Name>,
+    /// What the task of that router surely does, where it is said.
+    pub task: Option<Task>,
     /// What the stream is called, where it is named.
     pub name: Option<Name>,
 }
@@ -69,6 +80,8 @@ pub struct OutputRow {
     pub max_age_us: Option<u32>,
     /// How long a source that is silent counts as live, in microseconds, where that is said.
     pub timeout_us: Option<u32>,
+    /// What the task of its output surely does, where it is said.
+    pub task: Option<Task>,
 }
 
 /// A title of a column that is not read.

@@ -315,6 +315,21 @@ fn is_near_timeout(key: &[u8], stem: &[u8]) -> bool
     )
 }
 
+/// Whether a key lies one letter from a title of the column `within`.
+fn is_near_within(key: &[u8], stem: &[u8]) -> bool
+    ensures { result ≡ is_near_of col.Within key.now stem.now }
+{
+    is_near_timed(
+        key,
+        stem,
+        b"within",
+        b"within_us",
+        b"within_usec",
+        b"within_ms",
+        b"within_msec",
+    )
+}
+
 /// Whether a key lies one letter from a title of this column.
 fn is_near(column: Column, key: &[u8], stem: &[u8]) -> bool
     ensures { result ≡ is_near_of column key.now stem.now }
@@ -337,6 +352,8 @@ fn is_near(column: Column, key: &[u8], stem: &[u8]) -> bool
         Column::Jitter => is_near_jitter(key, stem),
         Column::MaxAge => is_near_max_age(key, stem),
         Column::Timeout => is_near_timeout(key, stem),
+        Column::Steps => is_one_off(b"steps", key),
+        Column::Within => is_near_within(key, stem),
     }
 }
 
@@ -348,6 +365,7 @@ fn is_unitless(column: Column, key: &[u8]) -> bool
         Column::Jitter => begins_with(b"jitter", key),
         Column::MaxAge => begins_with(b"max_age", key) || begins_with(b"maximum_age", key),
         Column::Timeout => begins_with(b"timeout", key),
+        Column::Within => begins_with(b"within", key),
         _ => false,
     }
 }

@@ -46,10 +46,14 @@ pub enum Column {
     MaxAge,
     /// How long a silent source counts as live.
     Timeout,
+    /// How many steps the task of a bus or an output makes.
+    Steps,
+    /// In which time it makes them.
+    Within,
 }
 
 /// The columns of the inputs, those that are wanted first.
-pub static INPUT_COLUMNS: [Column; 13] = [
+pub static INPUT_COLUMNS: [Column; 15] = [
     Column::Bus,
     Column::Speed,
     Column::Label,
@@ -63,10 +67,12 @@ pub static INPUT_COLUMNS: [Column; 13] = [
     Column::Queue,
     Column::Police,
     Column::Router,
+    Column::Steps,
+    Column::Within,
 ];
 
 /// The columns of the outputs, those that are wanted first.
-pub static OUTPUT_COLUMNS: [Column; 12] = [
+pub static OUTPUT_COLUMNS: [Column; 14] = [
     Column::Output,
     Column::Speed,
     Column::Label,
@@ -79,6 +85,8 @@ pub static OUTPUT_COLUMNS: [Column; 12] = [
     Column::Timeout,
     Column::Name,
     Column::Format,
+    Column::Steps,
+    Column::Within,
 ];
 
 /// Whether a byte of a title is a letter or a digit.
@@ -305,6 +313,19 @@ fn is_timeout_title(key: &[u8]) -> bool
     )
 }
 
+/// Whether a key is a title of the column `within`.
+fn is_within_title(key: &[u8]) -> bool
+    ensures { result ≡ is_title_of col.Within key.now }
+{
+    is_timed(
+        key,
+        b"within_us",
+        b"within_usec",
+        b"within_ms",
+        b"within_msec",
+    )
+}
+
 /// Whether a key is a title of this column; those of times have their unit.
 pub fn is_title(column: Column, key: &[u8]) -> bool
     ensures { result ≡ is_title_of column key.now }
@@ -327,6 +348,8 @@ pub fn is_title(column: Column, key: &[u8]) -> bool
         Column::Jitter => is_jitter_title(key),
         Column::MaxAge => is_max_age_title(key),
         Column::Timeout => is_timeout_title(key),
+        Column::Steps => is_word(key, b"steps"),
+        Column::Within => is_within_title(key),
     }
 }
 
@@ -351,6 +374,8 @@ impl Column {
             Column::Sources => "sources",
             Column::MaxAge => "max_age",
             Column::Timeout => "timeout",
+            Column::Steps => "steps",
+            Column::Within => "within",
         }
     }
 
@@ -358,7 +383,12 @@ impl Column {
     pub fn is_time(self) -> bool {
         matches!(
             self,
-            Column::Min | Column::Max | Column::Jitter | Column::MaxAge | Column::Timeout
+            Column::Min
+                | Column::Max
+                | Column::Jitter
+                | Column::MaxAge
+                | Column::Timeout
+                | Column::Within
         )
     }
 }

@@ -156,10 +156,14 @@ there is something to say sdi (else any), jitter (0), police (no), queue and
 router (worked out), name (<bus>-<label>). Columns of outputs: output, speed,
 label, equipment, sources (names, parted by blanks, or one each in Source 1 to
 Source 8), min, max; and likewise sdi (else 0), max_age (else no limit),
-timeout, name, format. A time's title has its unit, as in \"Min ms\". A label
-that leaves at another rate than it comes has an equipment code of its own. A
-name has 1 to 16 of A-Z a-z 0-9 _ -. A task that empties several buses has one
-name under router in all their rows; without, each bus gets a task of its own.
+timeout, name, format. Of both, where your tasks are settled: steps (else 1)
+and within, the looks into queues, or sends, that the task of the bus or output
+surely makes in any so much time: its period and how late it may be, together.
+Without, what tasks are to do is worked out. A time's title has its unit, as in
+\"Min ms\". A label that leaves at another rate than it comes has an equipment
+code of its own. A name has 1 to 16 of A-Z a-z 0-9 _ -. A task that empties
+several buses has one name under router in all their rows; without, each bus
+gets a task of its own.
 
 A file named - is standard input, which only one of the two sheets can be; one
 of that name is ./-. Where no --tick is said, the first of eight that does is

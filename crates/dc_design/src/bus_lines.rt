@@ -5,7 +5,12 @@ use dc_plan::{BusPlan, Pace, Plan, RouterPlan};
 
 /// Says how often a bus is visited.
 fn say_often(bus: &BusPlan, lines: &mut Lines) {
-    if bus.within > 1 {
+    if bus.within > 1 && bus.steps > 1 {
+        lines.say(
+            "{} times in {} ticks",
+            &[Fact::Number(bus.steps), Fact::Number(bus.within)],
+        );
+    } else if bus.within > 1 {
         lines.say("once in {} ticks", &[Fact::Number(bus.within)]);
     } else if bus.steps == 1 {
         lines.say("once a tick", &[]);

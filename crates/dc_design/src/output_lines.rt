@@ -43,10 +43,11 @@ fn write_head(output: &Output, plan: &OutputPlan, lines: &mut Lines) {
         ],
     );
     lines.line(
-        "name = \"{}\"\nspeed = \"{}\"\nsteps = 1\nwithin = {}\nframe = {}",
+        "name = \"{}\"\nspeed = \"{}\"\nsteps = {}\nwithin = {}\nframe = {}",
         &[
             Fact::Name(output.name),
             speed_word(output.speed),
+            Fact::Number(plan.steps),
             Fact::Number(plan.within),
             Fact::Number(plan.frame),
         ],

@@ -5,6 +5,7 @@ use crate::lines::{Fact, Lines};
 use crate::names::{name_labels, name_streams};
 use crate::outputs::add_output;
 use crate::parameters::{check_outputs, gather};
+use crate::tasks::share_tasks;
 use crate::units::Units;
 use dc_cell::{InputRow, OutputRow};
 use dc_document::{MOST_BUSES, MOST_LABELS, MOST_MEMBERS, MOST_OUTPUTS, MOST_STREAMS, Speed};
@@ -18,6 +19,17 @@ pub struct Span {
     pub first: usize,
     /// The place behind the last one.
     pub end: usize,
+}
+
+/// What a task surely does.
+#[derive(Clone, Copy)]
+pub struct Task {
+    /// So many steps or sends ..
+    pub steps: u64,
+    /// .. in any so many microseconds.
+    pub within: u64,
+    /// The number of the row that says so.
+    pub row: u64,
 }
 
 /// A bus, as its rows say it together: for each thing the first row that says it counts.
@@ -37,6 +49,8 @@ pub struct Bus {
     pub router: Option<Letters>,
     /// The number of that row.
     pub router_row: u64,
+    /// What the task of its router surely does, where a row says so.
+    pub task: Option<Task>,
     /// Whether it is policed.
     pub police: bool,
     /// Its streams, in [`Document::on_bus`].
@@ -79,6 +93,8 @@ pub struct Output {
     pub speed: Speed,
     /// The number of the row that says so.
     pub speed_row: u64,
+    /// What its task surely does, where a row says so.
+    pub task: Option<Task>,
     /// Its labels, in [`Document::on_output`].
     pub labels: Span,
 }
@@ -349,6 +365,7 @@ fn fill(
     for row in inputs {
         add_input(document, row, police_all, faults)?;
     }
+    share_tasks(&mut document.buses, faults);
     order_streams(document)?;
     name_streams(document, faults);
     for row in outputs {

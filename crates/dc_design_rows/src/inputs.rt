@@ -2,6 +2,7 @@
 use crate::document::{Bus, Document, Span, Stream};
 use crate::letters::Letters;
 use crate::lines::{Fact, Lines};
+use crate::tasks::settle_bus_task;
 use crate::words::{sdi_word, speed_word};
 use dc_cell::InputRow;
 use std::alloc::AllocError;
@@ -26,6 +27,7 @@ fn bus_of(row: &InputRow, name: Letters, police_all: bool) -> Bus {
         queue_row: 0,
         router: None,
         router_row: 0,
+        task: None,
         police: police_all,
         streams: Span { first: 0, end: 0 },
     }
@@ -176,6 +178,7 @@ fn settle(document: &mut Document, number: usize, row: &InputRow, faults: &mut L
     settle_speed(bus, row, faults);
     settle_queue(bus, row, faults);
     settle_router(bus, row, faults);
+    settle_bus_task(bus, row, faults);
     bus.police = bus.police || row.police;
     bus.name
 }

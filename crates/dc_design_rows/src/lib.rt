@@ -10,11 +10,12 @@ mod names;
 mod outputs;
 mod parameters;
 mod sources;
+mod tasks;
 mod units;
 mod words;
 
 pub use dc_cell::TimeUnit;
-pub use document::{Bus, Document, Label, Output, Parameter, Span, Stream, Undocumented};
+pub use document::{Bus, Document, Label, Output, Parameter, Span, Stream, Task, Undocumented};
 pub use letters::Letters;
 pub use lines::{Fact, Lines, MOST_LINES};
 pub use units::Units;

@@ -4,6 +4,7 @@ use crate::inputs::{tell_contradiction, tell_twice};
 use crate::letters::Letters;
 use crate::lines::{Fact, Lines};
 use crate::sources::add_sources;
+use crate::tasks::{settle_output_task, task_of};
 use crate::words::speed_word;
 use dc_cell::OutputRow;
 use std::alloc::AllocError;
@@ -78,8 +79,9 @@ fn output_of(
 ) -> Result<usize, AllocError> {
     let name = Letters::named(&row.output);
     if let Some(number) = output_named(&document.outputs, &name) {
-        if let Some(output) = document.outputs.get(number) {
+        if let Some(output) = document.outputs.get_mut(number) {
             settle_speed(output, row, faults);
+            settle_output_task(output, row, faults);
         }
         return Ok(number);
     }
@@ -88,6 +90,7 @@ fn output_of(
         name,
         speed: row.speed,
         speed_row: u64::from(row.row),
+        task: task_of(&row.task, row.row),
         labels: Span { first: 0, end: 0 },
     })?;
     Ok(number)

@@ -150,7 +150,7 @@ pub(crate) fn fits(frame: u64, entries: u64, spacing: &Spacing, loads: &Loads) -
     let ticks = frame.saturating_mul(spacing.unit);
     let used = entries.saturating_mul(spacing.gap).saturating_mul(100);
     entries <= ENTRIES
-        && entries.saturating_mul(spacing.within) < ticks
+        && entries.saturating_mul(spacing.within) < ticks.saturating_mul(spacing.steps)
         && ticks.saturating_mul(loads.over) < used
         && used <= ticks.saturating_mul(loads.most)
 }

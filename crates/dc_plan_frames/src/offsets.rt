@@ -1,12 +1,12 @@
 //! Stage 4: the frame and the offsets of an output.
 use crate::filling::{Filling, Trial};
 use crate::frames::list_frames;
-use crate::outputs::{Filled, Room, Search, fill_output, spacing_at};
+use crate::outputs::{Filled, Room, Search, fill_output};
 use crate::planned::{Frames, OutputPlan};
 use crate::whys::{tell_no_frame, tell_no_place};
 use crate::windows::{Scene, Spacing, Windows};
 use dc_design_rows::{Document, Output, Span};
-use dc_plan_ticks::{Knobs, Obstacles, gap_of, is_window_told, part};
+use dc_plan_ticks::{Knobs, Obstacles, gap_of, is_window_told, part, sends_of};
 use std::alloc::{AllocError, Global};
 
 /// Adds the offsets of a label in ascending order.
@@ -50,6 +50,7 @@ fn keep_output(
     let entries = filling.spots.len() as u64;
     let used = entries.saturating_mul(scene.gap).saturating_mul(100);
     frames.outputs.push(OutputPlan {
+        steps: filled.spacing.steps,
         within: filled.spacing.within,
         frame,
         entries,
@@ -67,10 +68,12 @@ fn has_frame(
     if is_window_told(scene.document, scene.output, scene.knobs, obstacles) {
         return Ok(false);
     }
-    let Some(dense) = spacing_at(scene.gap, 2) else {
-        return Ok(false);
+    let spacing = Spacing {
+        unit: 1,
+        steps: scene.sends.steps,
+        within: scene.sends.within,
+        gap: scene.gap,
     };
-    let spacing = Spacing { unit: 1, ..dense };
     room.windows.fill(scene, &spacing)?;
     let share = scene.knobs.share;
     list_frames(&room.windows, &spacing, share, 1, &mut room.frames)?;
@@ -120,6 +123,7 @@ pub fn plan_output(
         output,
         knobs,
         gap: gap_of(output, knobs),
+        sends: sends_of(output, knobs),
     };
     let mut room = Room {
         windows: Windows::new(alloc),

@@ -4,7 +4,7 @@ use crate::counts::{Kind, Loads, Rhythm};
 use crate::filling::{Filling, Trial, fill_frame};
 use crate::frames::list_frames;
 use crate::windows::{Scene, Spacing, Windows};
-use dc_plan_ticks::Knobs;
+use dc_plan_ticks::{Knobs, Sends, up};
 use std::alloc::AllocError;
 
 /// So many frames are filled, each in so many orders.
@@ -77,9 +77,25 @@ struct Attempt<'a> {
     effort: &'a Effort,
 }
 
+/// The spacing of this number for sends as the rows say them: entries in units of the ticks in which one is surely sent
+/// first, then anywhere.
+fn spacing_said(scene: &Scene<'_>, number: usize) -> Option<Spacing> {
+    let Sends { steps, within } = scene.sends;
+    let apart = up(within, steps);
+    if number >= 2 || (number == 1 && apart == 1) {
+        return None;
+    }
+    Some(Spacing {
+        unit: if number == 0 { apart } else { 1 },
+        steps,
+        within,
+        gap: scene.gap,
+    })
+}
+
 /// The spacing of this number: sends that may be late by a gap first, then such as must leave on time; entries in units
 /// of these first, then anywhere.
-pub(crate) fn spacing_at(gap: u64, number: usize) -> Option<Spacing> {
+fn spacing_chosen(gap: u64, number: usize) -> Option<Spacing> {
     let within = if number < 2 {
         gap.saturating_mul(2)
     } else {
@@ -91,9 +107,18 @@ pub(crate) fn spacing_at(gap: u64, number: usize) -> Option<Spacing> {
     }
     Some(Spacing {
         unit: if is_whole { within } else { 1 },
+        steps: 1,
         within,
         gap,
     })
+}
+
+/// The spacing of this number.
+fn spacing_at(scene: &Scene<'_>, number: usize) -> Option<Spacing> {
+    match scene.output.task {
+        Some(_) => spacing_said(scene, number),
+        None => spacing_chosen(scene.gap, number),
+    }
 }
 
 /// The loads of this number: with room on the wire first.
@@ -220,7 +245,7 @@ pub(crate) fn fill_output(
 ) -> Result<Option<Filled>, AllocError> {
     for effort in &EFFORTS {
         for number in 0..4usize {
-            if let Some(spacing) = spacing_at(scene.gap, number) {
+            if let Some(spacing) = spacing_at(scene, number) {
                 if let Some(frame) = fill_spacing(scene, &spacing, effort, room, search)? {
                     return Ok(Some(Filled { frame, spacing }));
                 }

@@ -5,7 +5,9 @@ use std::alloc::Global;
 /// An output.
 #[derive(Clone, Copy)]
 pub struct OutputPlan {
-    /// It sends once in each so many ticks.
+    /// It sends so often ..
+    pub steps: u64,
+    /// .. in each so many ticks.
     pub within: u64,
     /// After so many ticks its entries are due again.
     pub frame: u64,

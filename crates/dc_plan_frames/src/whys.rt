@@ -38,21 +38,31 @@ fn say_label(scene: &Scene<'_>, number: usize, obstacles: &mut Obstacles) {
 /// Tells that the labels of an output want more of the wire than there is.
 fn tell_wire(scene: &Scene<'_>, words: u64, obstacles: &mut Obstacles) {
     let share = scene.knobs.share;
-    let labels = scene.output.labels;
+    let (labels, sends) = (scene.output.labels, scene.sends);
     begin(scene, obstacles);
     obstacles.lines.say(
         "its {} labels want {} % of the sends, {} in 1000 ticks, and {} are there{} (F1, T24); ",
         &[
             Fact::Number(labels.end.saturating_sub(labels.first) as u64),
-            Fact::Number(up(words.saturating_mul(scene.gap), WORD / 100)),
+            Fact::Number(up(
+                words.saturating_mul(sends.within),
+                (WORD / 100).saturating_mul(sends.steps),
+            )),
             Fact::Number(up(words, WORD / 1_000)),
-            Fact::Number(part(share.saturating_mul(10), scene.gap)),
+            Fact::Number(part(
+                share.saturating_mul(10).saturating_mul(sends.steps),
+                sends.within,
+            )),
             Fact::Word(scene.knobs.with_headroom()),
         ],
     );
     obstacles.lines.line(
-        "longer intervals, {}{}or another output for some{}",
+        "longer intervals, {}{}{}or another output for some{}",
         &[
+            Fact::Word(match scene.output.task {
+                Some(_) => "more steps or a shorter within, ",
+                None => "",
+            }),
             Fact::Word(match scene.output.speed {
                 Speed::Low => "high speed, ",
                 Speed::High => "",
@@ -179,7 +189,8 @@ fn tell_frames(scene: &Scene<'_>, found: &Deciding, windows: &[Window], obstacle
 pub(crate) fn tell_no_frame(scene: &Scene<'_>, windows: &Windows, obstacles: &mut Obstacles) {
     let found = deciding_of(windows);
     let share = (WORD / 100).saturating_mul(scene.knobs.share);
-    if found.words.saturating_mul(scene.gap) >= share {
+    let sends = scene.sends;
+    if found.words.saturating_mul(sends.within) >= share.saturating_mul(sends.steps) {
         return tell_wire(scene, found.words, obstacles);
     }
     let (slowest, fastest) = (windows.slowest, windows.fastest);

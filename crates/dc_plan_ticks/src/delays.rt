@@ -6,7 +6,7 @@ use crate::paces::Pace;
 use dc_design_rows::{Document, Fact, Label, Letters, Stream, TimeUnit};
 use std::alloc::AllocError;
 
-/// No word waits longer than so many microseconds, or one tick.
+/// No word waits longer than so many microseconds, or one tick, where the plan chooses what tasks are to do.
 const POLL_US: u64 = 5_000;
 
 /// So many microseconds long are the ticks of most tasks.
@@ -285,8 +285,11 @@ pub fn limit_all(
     wanted: &mut Vec<u64>,
     obstacles: &mut Obstacles,
 ) -> Result<(), AllocError> {
-    for _ in &document.buses {
-        wanted.push(up(POLL_US, knobs.tick).max(1))?;
+    for bus in &document.buses {
+        wanted.push(match bus.task {
+            Some(_) => u64::MAX,
+            None => up(POLL_US, knobs.tick).max(1),
+        })?;
     }
     for number in &document.on_output {
         if let Some(label) = document.labels.get(*number) {

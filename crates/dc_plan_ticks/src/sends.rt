@@ -11,6 +11,38 @@ pub fn gap_of(output: &Output, knobs: &Knobs) -> u64 {
     up(spacing_us, knobs.tick)
 }
 
+/// What the task of an output surely does, in ticks: so many sends in any so many.
+#[derive(Clone, Copy)]
+pub struct Sends {
+    /// So many sends ..
+    pub steps: u64,
+    /// .. in any so many ticks.
+    pub within: u64,
+}
+
+/// What the task of an output surely does, as its rows say it, and its wire takes; where no row does the wire's own pace.
+pub fn sends_of(output: &Output, knobs: &Knobs) -> Sends {
+    let gap = gap_of(output, knobs);
+    match output.task {
+        Some(task) => Sends {
+            steps: task.steps,
+            within: up(task.within, knobs.tick).max(gap.saturating_mul(task.steps)),
+        },
+        None => Sends {
+            steps: 1,
+            within: gap,
+        },
+    }
+}
+
+/// What helps beside, where the task of an output is said.
+fn sooner(output: &Output) -> &'static str {
+    match output.task {
+        Some(_) => ", or a shorter within",
+        None => "",
+    }
+}
+
 /// What helps beside, where an output is slow.
 fn faster(output: &Output) -> &'static str {
     match output.speed {
@@ -28,10 +60,10 @@ fn tell_window(
     knobs: &Knobs,
     obstacles: &mut Obstacles,
 ) {
-    let (tick, gap) = (knobs.tick, gap_of(output, knobs));
+    let (tick, late) = (knobs.tick, sends_of(output, knobs).within);
     let low = up(parameter.min, tick).saturating_add(1);
     let high = part(parameter.max, tick);
-    let wanted = low.saturating_add(gap.saturating_mul(2)).saturating_add(1);
+    let wanted = low.saturating_add(late.saturating_mul(2)).saturating_add(1);
     obstacles.lines.begin("");
     obstacles.lines.say(
         "outputs row {} column max: {} to {} are {} to {} ticks of {} us, ",
@@ -45,13 +77,14 @@ fn tell_window(
         ],
     );
     obstacles.lines.line(
-        "and a send that waits up to {} {} leaves gaps of {} to {} ticks: none (T12, C08, C09); a max of {}{}{}",
+        "and a send that waits up to {} {} leaves gaps of {} to {} ticks: none (T12, C08, C09); a max of {}{}{}{}",
         &[
-            Fact::Number(gap),
-            Fact::Word(if gap == 1 { "tick" } else { "ticks" }),
-            Fact::Number(low.saturating_add(gap)),
-            Fact::Less(high, gap.saturating_add(1)),
+            Fact::Number(late),
+            Fact::Word(if late == 1 { "tick" } else { "ticks" }),
+            Fact::Number(low.saturating_add(late)),
+            Fact::Less(high, late.saturating_add(1)),
             Fact::Time(wanted.saturating_mul(tick), unit),
+            Fact::Word(sooner(output)),
             Fact::Word(faster(output)),
             Fact::Word(knobs.shorter),
         ],
@@ -65,7 +98,7 @@ pub fn is_window_told(
     knobs: &Knobs,
     obstacles: &mut Obstacles,
 ) -> bool {
-    let gap = gap_of(output, knobs);
+    let late = sends_of(output, knobs).within;
     for place in output.labels.first..output.labels.end {
         let number = document.on_output.get(place).copied().unwrap_or(0);
         let Some(label) = document.labels.get(number) else {
@@ -75,7 +108,7 @@ pub fn is_window_told(
             continue;
         };
         let low = up(parameter.min, knobs.tick).saturating_add(1);
-        let wanted = low.saturating_add(gap.saturating_mul(2)).saturating_add(1);
+        let wanted = low.saturating_add(late.saturating_mul(2)).saturating_add(1);
         if wanted > part(parameter.max, knobs.tick) {
             tell_window(
                 output,

@@ -4,6 +4,9 @@ use dc_document::input_spacing;
 use dc_plan_ticks::{Knobs, Pace, part, up};
 use std::alloc::{AllocError, Global};
 
+/// So many ticks averages are of.
+pub(crate) const MANY: u64 = 1_000_000_000;
+
 /// So many streams that come alike.
 #[derive(Clone, Copy)]
 pub(crate) struct Term {
@@ -89,6 +92,19 @@ impl Arrivals {
         }
         if self.is_wired {
             total.min(self.carried(ticks))
+        } else {
+            total
+        }
+    }
+
+    /// How many words come at most in a billion ticks, on the average.
+    pub(crate) fn rate(&self) -> u64 {
+        let mut total = 0u64;
+        for term in &self.terms {
+            total = total.saturating_add(part(term.streams.saturating_mul(MANY), term.least));
+        }
+        if self.is_wired {
+            total.min(part(self.tick.saturating_mul(MANY), self.spacing))
         } else {
             total
         }

@@ -1,5 +1,6 @@
 //! Stage 3: how often each bus is visited.
 use crate::arrivals::Arrivals;
+use crate::budgets::{Asked, budget_of, plan_said, round_of, share_rounds};
 use crate::busy::{ANY, Busy, LONGEST, Service, least_window};
 use crate::visits::{BusPlan, Visits};
 use dc_bound::GREATEST_QUEUE;
@@ -71,7 +72,7 @@ fn quicker(service: Service, knobs: &Knobs) -> Service {
 }
 
 /// Begins a line on a bus.
-fn begin(bus: &Bus, obstacles: &mut Obstacles) {
+pub(crate) fn begin(bus: &Bus, obstacles: &mut Obstacles) {
     obstacles.lines.begin("");
     obstacles.lines.say("bus {}: ", &[Fact::Name(bus.name)]);
 }
@@ -187,7 +188,13 @@ fn load_of(document: &Document, bus: &Bus, paces: &[Pace], knobs: &Knobs) -> u64
 }
 
 /// The plan of a bus that is visited so.
-fn planned(bus: &Bus, service: Service, found: Busy, load: u64, knobs: &Knobs) -> BusPlan {
+pub(crate) fn planned(
+    bus: &Bus,
+    service: Service,
+    found: Busy,
+    load: u64,
+    knobs: &Knobs,
+) -> BusPlan {
     let queue = match bus.queue {
         Some(queue) => queue,
         None => whole_of(found.backlog, knobs.used()).min(LONGEST_QUEUE),
@@ -199,6 +206,8 @@ fn planned(bus: &Bus, service: Service, found: Busy, load: u64, knobs: &Knobs) -
         delay: found.delay,
         queue,
         load,
+        turns: 0,
+        budget: None,
     }
 }
 
@@ -248,14 +257,39 @@ pub fn plan_buses(
     visits: &mut Visits,
     obstacles: &mut Obstacles,
 ) -> Result<(), AllocError> {
+    let mut asked = Vec::new(alloc);
     for (number, bus) in document.buses.iter().enumerate() {
-        let arrivals = Arrivals::of(alloc, document, bus, paces, knobs)?;
-        let most = Busy {
-            backlog: share_of(bus.queue.unwrap_or(LONGEST_QUEUE), knobs.share),
-            delay: wanted.get(number).copied().unwrap_or(1),
+        asked.push(Asked {
+            arrivals: Arrivals::of(alloc, document, bus, paces, knobs)?,
+            most: Busy {
+                backlog: share_of(bus.queue.unwrap_or(LONGEST_QUEUE), knobs.share),
+                delay: wanted.get(number).copied().unwrap_or(1),
+            },
+            turns: 1,
+        })?;
+    }
+    share_rounds(&document.buses, knobs, &mut asked);
+    for (number, bus) in document.buses.iter().enumerate() {
+        let Some(own) = asked.get(number) else {
+            continue;
         };
         let load = load_of(document, bus, paces, knobs);
-        if let Some(plan) = plan_bus(bus, &arrivals, &most, load, knobs, obstacles) {
+        let plan = match bus.task {
+            Some(task) => {
+                let round = round_of(&document.buses, &asked, number);
+                plan_said(
+                    bus,
+                    own,
+                    &budget_of(&task, knobs),
+                    round,
+                    load,
+                    knobs,
+                    obstacles,
+                )
+            }
+            None => plan_bus(bus, &own.arrivals, &own.most, load, knobs, obstacles),
+        };
+        if let Some(plan) = plan {
             visits.buses.push(plan)?;
         }
     }

@@ -1,5 +1,5 @@
 //! The least window that closes.
-use crate::arrivals::Arrivals;
+use crate::arrivals::{Arrivals, MANY};
 use dc_plan_ticks::{part, up};
 
 /// The longest window.
@@ -29,6 +29,11 @@ impl Service {
     /// How many ticks so many words take at most, whenever they come.
     fn ticks(&self, words: u64) -> u64 {
         up(words, self.steps).saturating_mul(self.within)
+    }
+
+    /// How many steps are made at least in a billion ticks, on the average.
+    pub(crate) fn rate(&self) -> u64 {
+        part(self.steps.saturating_mul(MANY), self.within)
     }
 
     /// How many steps are made at least in so many ticks.

@@ -3,6 +3,7 @@
 #![tactic(auto)]
 
 mod arrivals;
+mod budgets;
 mod buses;
 mod busy;
 mod rounds;
@@ -11,4 +12,4 @@ mod visits;
 
 pub use buses::plan_buses;
 pub use routers::plan_routers;
-pub use visits::{BusPlan, RouterPlan, Visits};
+pub use visits::{Budget, BusPlan, RouterPlan, Visits};

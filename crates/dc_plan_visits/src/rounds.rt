@@ -1,5 +1,5 @@
 //! The visits of a router in turn.
-use crate::visits::BusPlan;
+use crate::visits::{Budget, BusPlan};
 use dc_document::{MOST_STEPS, MOST_VISITS};
 use dc_plan_ticks::up;
 use std::alloc::AllocError;
@@ -24,6 +24,24 @@ fn round_of(steps: u64, within: u64) -> Round {
         steps,
         within,
         most: up(steps, within).saturating_mul(2).min(MOST),
+    }
+}
+
+/// What the task of a router surely does, where the rows say so.
+fn budget_in(buses: &[BusPlan], group: &[usize]) -> Option<Budget> {
+    let number = group.first().copied()?;
+    match buses.get(number) {
+        Some(bus) => bus.budget,
+        None => None,
+    }
+}
+
+/// How many visits of a bus a round has that is made so many times.
+fn turns_in(bus: &BusPlan, rounds: u64) -> u64 {
+    if bus.turns > 0 {
+        bus.turns
+    } else {
+        up(bus.steps, rounds)
     }
 }
 
@@ -69,7 +87,7 @@ fn deal(
     for turn in 0..VISITS {
         for number in group {
             if let Some(bus) = buses.get(*number) {
-                if turn < up(bus.steps, rounds) {
+                if turn < turns_in(bus, rounds) {
                     turns.push(*number)?;
                 }
             }
@@ -84,6 +102,14 @@ pub(crate) fn round_for(
     group: &[usize],
     turns: &mut Vec<usize>,
 ) -> Result<Option<Round>, AllocError> {
+    if let Some(budget) = budget_in(buses, group) {
+        deal(buses, group, 1, turns)?;
+        return Ok(Some(Round {
+            steps: budget.steps,
+            within: budget.within,
+            most: budget.most,
+        }));
+    }
     if let [number] = group {
         turns.push(*number)?;
         return Ok(match buses.get(*number) {

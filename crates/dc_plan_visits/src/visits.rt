@@ -2,6 +2,17 @@
 use dc_design_rows::{Letters, Span};
 use std::alloc::Global;
 
+/// What the task of a router surely does, as the rows say it, in ticks.
+#[derive(Clone, Copy)]
+pub struct Budget {
+    /// So many steps ..
+    pub steps: u64,
+    /// .. in any so many ticks.
+    pub within: u64,
+    /// At most so many in one tick, with room for two runs of the task where one makes all its steps.
+    pub most: u64,
+}
+
 /// How a bus is visited.
 #[derive(Clone, Copy)]
 pub struct BusPlan {
@@ -17,6 +28,10 @@ pub struct BusPlan {
     pub queue: u64,
     /// So many percent of the wire its streams may take.
     pub load: u64,
+    /// How often it is visited in a round of its router, where the rows say what the task of that does.
+    pub turns: u64,
+    /// What that task does, where the rows say so.
+    pub budget: Option<Budget>,
 }
 
 /// A router.

@@ -1,30 +1,31 @@
 -- Each test decides what it stands for.
-use Rattle.std.proofs.Common.{zero, suc, cond, MatchOption, ◌≡◌, ◌≢◌, ℕ, ◌+◌, ◌*◌, ◌<◌, ◌≤◌, Bool, true, false, not, ◌&&◌, ◌||◌, ◌==◌, nat_eq, nat_le, List, [], ◌∷◌, length, slice_get, slice_index_or, get_or, position, Option, Some, None, IfSome, IsSomeAnd, refl, sym, ap, subst, ◌∙◌, arith, rules}
+use Rattle.std.proofs.Common.{zero, suc, cond, MatchOption, ◌≡◌, ℕ, ◌+◌, ◌*◌, ◌<◌, ◌≤◌, Bool, true, false, not, ◌&&◌, ◌||◌, nat_eq, nat_le, List, [], ◌∷◌, length, slice_get, slice_index_or, get_or, position, Option, Some, None, IfSome, IsSomeAnd, refl, sym, ap, subst, ◌∙◌, arith, rules}
 use Rattle.std.specs.Bool.{Decides}
-use Rattle.std.specs.Cmp.Lexicographic.{pointwise}
-use Rattle.std.specs.List.{All, Any, Contains, list_any, position_from}
+use Rattle.std.specs.List.{All, Contains, list_all, list_any, position_from}
 use Rattle.std.specs.Option.{option_eq}
 use Rattle.std.specs.Str.{bytes_eq}
-use Rattle.std.proofs.lemmas.Bool.Decides.{Decides-and, Decides-eqb, Decides-like, Decides-ltb}
+use Rattle.std.proofs.lemmas.Bool.Decides.{Decides-and, Decides-eqb, Decides-like}
 use Rattle.std.proofs.lemmas.List.Folds.{Any-from_list_any, list_any-from_Any}
 use Rattle.std.proofs.lemmas.Iterator.Adapters.{position_from-zero}
 use Rattle.std.proofs.lemmas.List.Quantifiers.{position-Some}
 use Rattle.std.proofs.lemmas.Slice.Eq.{bytes_eq-Decides, slice_eq-Decides}
 use Rattle.dc_cell.specs.declared.rows.InputRow.{InputRow}
 use Rattle.dc_cell.specs.declared.rows.OutputRow.{OutputRow}
+use Rattle.dc_cell.specs.declared.rows.Task.{Task}
 use Rattle.dc_dict.specs.Rows.{row_of}
 use Rattle.dc_dict.specs.declared.parameter.Parameter.{Parameter as ParameterPart}
 use Rattle.dc_document.specs.Document.{Document}
 use Rattle.dc_document.specs.declared.parts.BusPart.{BusPart}
 use Rattle.dc_document.specs.declared.parts.StreamPart.{StreamPart}
 use Rattle.dc_document.specs.declared.parts.OutputPart.{OutputPart}
+use Rattle.dc_document.specs.declared.parts.RouterPart.{RouterPart}
 use Rattle.dc_document.specs.declared.parts.LabelPart.{LabelPart}
 use Rattle.dc_document.specs.declared.parts.Speed.{Speed}
 use Rattle.dc_document.specs.declared.parts.Speed.TheVariants.{High, Low}
 use Rattle.dc_word.specs.declared.format.Format.{Format}
 use Rattle.dc_word.specs.declared.format.Format.TheVariants.{Bnr, Bcd, Disc}
-use Rattle.dc_rows_kept.specs.KeepsRows.{HasLabel, HasStream, IsBusOf, IsFirstUnkept, IsFirstWithout, IsLabelOf, IsStreamOf, KeepsInput, KeepsOutput, LetsCome, SendsData, SendsWithin}
-use Rattle.dc_rows_kept.specs.Tests.{has_label, has_stream, is_bus_of, is_format, is_label_of, is_stream_of, keeps_input, keeps_output, lets_come, passes_if_some, same_names, same_speed, sends_data, sends_within, some_passes}
+use Rattle.dc_rows_kept.specs.KeepsRows.{AsksNoMore, HasLabel, HasStream, IsBusOf, IsFirstWithout, IsLabelOf, IsStreamOf, KeepsInput, KeepsOutput, LetsCome, RoutersAskNoMore, SendsData, SendsWithin}
+use Rattle.dc_rows_kept.specs.Tests.{asks_no_more, has_label, has_stream, is_bus_of, is_format, is_label_of, is_of_output, is_stream_of, keeps_input, keeps_output, lets_come, passes_if_some, router_asks_no_more, routers_ask_no_more, same_names, same_speed, sends_data, sends_within, some_passes, visits}
 
 -- ---- parts of tests
 
@@ -72,6 +73,60 @@ policed true false = (λ e. cc, λ h. h refl)
 policed false true = (λ e. λ _. refl, λ h. refl)
 policed false false = (λ e. λ no. cc, λ h. refl)
 
+-- ---- all and some of a list
+
+both : (a b : Bool) → (a && b) ≡ true → (a ≡ true) × (b ≡ true)
+both true b e = (refl, e)
+both false b e = absurd (cc e)
+
+and_both : (a b : Bool) → a ≡ true → b ≡ true → (a && b) ≡ true
+and_both true b e more = more
+and_both false b e more = absurd (cc e)
+
+each_passes : {X : Type 0} (test : X → Bool) (P : X → Type 0) → ((x : X) → Decides (test x) (P x)) → (xs : List X) → list_all test xs ≡ true → All P xs
+each_passes test P each [] e k d l = absurd (omega (arith, l))
+each_passes test P each (x ∷ xs) e zero d l = (each x).0 (both (test x) (list_all test xs) e).0
+each_passes test P each (x ∷ xs) e (suc k) d l = each_passes test P each xs (both (test x) (list_all test xs) e).1 k d (omega (arith, l))
+
+all_pass : {X : Type 0} (test : X → Bool) (P : X → Type 0) → ((x : X) → Decides (test x) (P x)) → (xs : List X) → All P xs → list_all test xs ≡ true
+all_pass test P each [] h = refl
+all_pass test P each (x ∷ xs) h = and_both (test x) (list_all test xs) ((each x).1 (h zero x (omega arith))) (all_pass test P each xs (λ k d l. h (suc k) d (omega (arith, l))))
+
+all_of : {X : Type 0} (test : X → Bool) (P : X → Type 0) → ((x : X) → Decides (test x) (P x)) → (xs : List X) → Decides (list_all test xs) (All P xs)
+all_of test P each xs = (each_passes test P each xs, all_pass test P each xs)
+
+some_of : {X : Type 0} (test : X → Bool) (P : X → Type 0) → ((x : X) → Decides (test x) (P x)) → (xs : List X) → Decides (list_any test xs) ((x : X) × Contains xs x × P x)
+some_of test P each xs = (
+  λ e. let (k, x, there, is, so) = Any-from_list_any test xs e in (x, (k, there, is), (each x).0 so),
+  λ (x, (k, there, is), h). list_any-from_Any test xs (k, x, there, is, (each x).1 h),
+)
+
+-- what is asked where a test holds
+implies : (a b : Bool) (A B : Type 0) → Decides a A → Decides b B → Decides (not a || b) (A → B)
+implies true b A B one other = (λ e. λ _. other.0 e, λ h. other.1 (h (one.0 refl)))
+implies false b A B one other = (λ e. λ h. absurd (cc (one.1 h)), λ h. refl)
+
+-- ---- what a task surely does
+
+decides_task : (tick steps within : ℕ) (task : Task) → Decides (asks_no_more tick steps within task) (AsksNoMore tick steps within task)
+decides_task tick steps within task =
+    Decides-like (asks_no_more tick steps within task) (λ (few, long). record { steps = few; within = long }) (λ r. (r.steps, r.within))
+    (Decides-and _ _ (at_most steps task.steps) (at_most task.within_us (within * tick)))
+
+decides_visits : (bus : List ℕ) (r : RouterPart) → Decides (visits bus r) (Contains r.visits.items bus)
+decides_visits bus r =
+    Decides-like (visits bus r) (λ (name, there, same). subst (Contains r.visits.items) same there) (λ there. (bus, there, refl))
+    (some_of (λ name. bytes_eq name bus) (λ name. name ≡ bus) (λ name. bytes_eq-Decides name bus) r.visits.items)
+
+decides_router : (tick : ℕ) (bus : List ℕ) (task : Task) (r : RouterPart) → Decides (router_asks_no_more tick bus task r) (Contains r.visits.items bus → AsksNoMore tick r.steps r.within task)
+decides_router tick bus task r =
+    implies (visits bus r) (asks_no_more tick r.steps r.within task) (Contains r.visits.items bus) (AsksNoMore tick r.steps r.within task) (decides_visits bus r)
+    (decides_task tick r.steps r.within task)
+
+decides_routers : (d : Document) (bus : List ℕ) (task : Task) → Decides (routers_ask_no_more d bus task) (RoutersAskNoMore d bus task)
+decides_routers d bus task =
+    all_of (router_asks_no_more d.tick_us bus task) (λ r. Contains r.visits.items bus → AsksNoMore d.tick_us r.steps r.within task) (decides_router d.tick_us bus task) d.routers
+
 -- ---- a row of the inputs
 
 decides_stream : (row : InputRow) (s : StreamPart) (b : BusPart) → Decides (is_stream_of row s b) (IsStreamOf row s b)
@@ -96,10 +151,11 @@ decides_words row s p =
 
 decides_input : (d : Document) (row : InputRow) (s : StreamPart) → Decides (keeps_input d row s) (KeepsInput d row s)
 decides_input d row s =
-    Decides-like (keeps_input d row s) (λ (bus, words). record { bus = bus; words = words }) (λ r. (r.bus, r.words))
-    (Decides-and _ _
+    Decides-like (keeps_input d row s) (λ ((bus, words), task). record { bus = bus; words = words; task = task }) (λ r. ((r.bus, r.words), r.task))
+    (Decides-and _ _ (Decides-and _ _
     (there (λ b. is_stream_of row s b && is_bus_of row b) (λ b. IsStreamOf row s b × IsBusOf row b) (λ b. Decides-and _ _ (decides_stream row s b) (decides_bus row b)) (slice_get d.buses s.bus))
     (there (lets_come row s) (LetsCome row s) (decides_words row s) (row_of d.parameters s.label s.equipment)))
+    (if_there (routers_ask_no_more d row.bus) (RoutersAskNoMore d row.bus) (decides_routers d row.bus) row.task))
 
 -- ---- a row of the outputs
 
@@ -110,6 +166,11 @@ decides_label row x o =
     (λ r. ((((r.output, r.speed), r.label), r.sdi), r.named))
     (Decides-and _ _ (Decides-and _ _ (Decides-and _ _ (Decides-and _ _ (bytes_eq-Decides o.name row.output) (speed o.speed row.speed)) (Decides-eqb x.label row.label)) (Decides-eqb x.sdi row.sdi))
     (if_there (bytes_eq x.name) (λ n. x.name ≡ n) (bytes_eq-Decides x.name) row.name))
+
+decides_place : (tick : ℕ) (row : OutputRow) (x : LabelPart) (o : OutputPart) → Decides (is_of_output tick row x o) (IsLabelOf row x o × IfSome row.task (AsksNoMore tick o.steps o.within))
+decides_place tick row x o =
+    Decides-and _ _ (decides_label row x o)
+    (if_there (asks_no_more tick o.steps o.within) (AsksNoMore tick o.steps o.within) (decides_task tick o.steps o.within) row.task)
 
 decides_within : (row : OutputRow) (x : LabelPart) (p : ParameterPart) → Decides (sends_within row x p) (SendsWithin row x p)
 decides_within row x p =
@@ -129,17 +190,11 @@ decides_output : (d : Document) (row : OutputRow) (x : LabelPart) → Decides (k
 decides_output d row x =
     Decides-like (keeps_output d row x) (λ ((output, words), sent). record { output = output; words = words; sent = sent }) (λ r. ((r.output, r.words), r.sent))
     (Decides-and _ _ (Decides-and _ _
-    (there (is_label_of row x) (IsLabelOf row x) (decides_label row x) (slice_get d.outputs x.output))
+    (there (is_of_output d.tick_us row x) (λ o. IsLabelOf row x o × IfSome row.task (AsksNoMore d.tick_us o.steps o.within)) (decides_place d.tick_us row x) (slice_get d.outputs x.output))
     (there (sends_within row x) (SendsWithin row x) (decides_within row x) (row_of d.parameters x.label x.equipment)))
     (decides_data d.tick_us row x))
 
 -- ---- one of a list
-
-some_of : {X : Type 0} (test : X → Bool) (P : X → Type 0) → ((x : X) → Decides (test x) (P x)) → (xs : List X) → Decides (list_any test xs) ((x : X) × Contains xs x × P x)
-some_of test P each xs = (
-  λ e. let (k, x, there, is, so) = Any-from_list_any test xs e in (x, (k, there, is), (each x).0 so),
-  λ (x, (k, there, is), h). list_any-from_Any test xs (k, x, there, is, (each x).1 h),
-)
 
 pub decides_has_stream : (d : Document) (row : InputRow) → Decides (has_stream d row) (HasStream d row)
 decides_has_stream d row = some_of (keeps_input d row) (KeepsInput d row) (decides_input d row) d.streams

@@ -3,6 +3,7 @@ use Rattle.std.specs.Prelude.{◌≡◌, ◌≢◌, ℕ, ◌+◌, ◌*◌, ◌�
 use Rattle.std.specs.List.{All, Contains}
 use Rattle.dc_cell.specs.declared.rows.InputRow.{InputRow}
 use Rattle.dc_cell.specs.declared.rows.OutputRow.{OutputRow}
+use Rattle.dc_cell.specs.declared.rows.Task.{Task}
 use Rattle.dc_dict.specs.Rows.{row_of}
 use Rattle.dc_dict.specs.declared.parameter.Parameter.{Parameter as ParameterPart}
 use Rattle.dc_document.specs.Document.{Document}
@@ -12,6 +13,18 @@ use Rattle.dc_document.specs.declared.parts.OutputPart.{OutputPart}
 use Rattle.dc_document.specs.declared.parts.LabelPart.{LabelPart}
 use Rattle.dc_rows_kept.specs.declared.kept.Unkept.{Unkept}
 use Rattle.dc_rows_kept.specs.declared.kept.Unkept.TheVariants.{StreamCount, LabelCount, Input, Output}
+
+-- ---- what a task surely does
+
+-- who makes the steps that a row says, in the time that it says, makes so many in so many ticks: these are no more steps, and no
+-- fewer microseconds
+pub record AsksNoMore (tick many ticks : ℕ) (task : Task) : Type 0 where
+  pub steps : many ≤ task.steps
+  pub within : task.within_us ≤ ticks * tick
+
+-- each router that visits a bus asks no more of its task
+abbrev pub RoutersAskNoMore : Document → (bus : List ℕ) → Task → Type 0
+RoutersAskNoMore d bus task = All (λ r. Contains r.visits.items bus → AsksNoMore d.tick_us r.steps r.within task) d.routers
 
 -- ---- a row of the inputs
 
@@ -36,10 +49,11 @@ pub record LetsCome (row : InputRow) (s : StreamPart) (p : ParameterPart) : Type
   pub greatest : row.max_us ≤ p.max_us
   pub jitter : row.jitter_us ≤ s.jitter_us
 
--- the document's bus of the stream and its parameter are such
+-- the document's bus of the stream and its parameter are such, and the routers of the row's bus ask no more of their tasks than it says
 pub record KeepsInput (d : Document) (row : InputRow) (s : StreamPart) : Type 0 where
   pub bus : IsSomeAnd (slice_get d.buses s.bus) (λ b. IsStreamOf row s b × IsBusOf row b)
   pub words : IsSomeAnd (row_of d.parameters s.label s.equipment) (LetsCome row s)
+  pub task : IfSome row.task (RoutersAskNoMore d row.bus)
 
 -- the document has such a stream
 abbrev pub HasStream : Document → InputRow → Type 0
@@ -69,9 +83,9 @@ pub record SendsData (tick : ℕ) (row : OutputRow) (x : LabelPart) : Type 0 whe
   pub age : IfSome row.max_age_us (λ most. (x.age + 1) * tick ≤ most)
   pub timeout : IfSome row.timeout_us (λ most. x.stale * tick ≤ most)
 
--- the document's output of the label, its parameter and its data are such
+-- the document's output of the label, its parameter and its data are such, and the output asks no more of its task than the row says
 pub record KeepsOutput (d : Document) (row : OutputRow) (x : LabelPart) : Type 0 where
-  pub output : IsSomeAnd (slice_get d.outputs x.output) (IsLabelOf row x)
+  pub output : IsSomeAnd (slice_get d.outputs x.output) (λ o. IsLabelOf row x o × IfSome row.task (AsksNoMore d.tick_us o.steps o.within))
   pub words : IsSomeAnd (row_of d.parameters x.label x.equipment) (SendsWithin row x)
   pub sent : SendsData d.tick_us row x
 

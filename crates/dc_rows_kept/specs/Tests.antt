@@ -1,17 +1,19 @@
 -- What keeps the rows of the sheets, as tests.
 use Rattle.std.specs.Prelude.{ℕ, ◌+◌, ◌*◌, nat_eq, nat_le, Bool, true, false, not, ◌&&◌, ◌||◌, ◌==◌, List, Option, Some, None, slice_get}
-use Rattle.std.specs.List.{list_any}
+use Rattle.std.specs.List.{list_all, list_any}
 use Rattle.std.specs.Option.{option_eq}
 use Rattle.std.specs.Cmp.Lexicographic.{pointwise}
 use Rattle.std.specs.Str.{bytes_eq}
 use Rattle.dc_cell.specs.declared.rows.InputRow.{InputRow}
 use Rattle.dc_cell.specs.declared.rows.OutputRow.{OutputRow}
+use Rattle.dc_cell.specs.declared.rows.Task.{Task}
 use Rattle.dc_dict.specs.Rows.{row_of}
 use Rattle.dc_dict.specs.declared.parameter.Parameter.{Parameter as ParameterPart}
 use Rattle.dc_document.specs.Document.{Document}
 use Rattle.dc_document.specs.declared.parts.BusPart.{BusPart}
 use Rattle.dc_document.specs.declared.parts.StreamPart.{StreamPart}
 use Rattle.dc_document.specs.declared.parts.OutputPart.{OutputPart}
+use Rattle.dc_document.specs.declared.parts.RouterPart.{RouterPart}
 use Rattle.dc_document.specs.declared.parts.LabelPart.{LabelPart}
 use Rattle.dc_document.specs.declared.parts.Speed.{Speed}
 use Rattle.dc_document.specs.declared.parts.Speed.TheVariants.{High, Low}
@@ -47,6 +49,22 @@ is_format Bcd Disc = false
 is_format Disc Bnr = false
 is_format Disc Bcd = false
 
+-- ---- what a task surely does
+
+abbrev pub asks_no_more : (tick steps within : ℕ) → Task → Bool
+asks_no_more tick steps within task = nat_le steps task.steps && nat_le task.within_us (within * tick)
+
+-- a router visits a bus of this name
+abbrev pub visits : (bus : List ℕ) → RouterPart → Bool
+visits bus r = list_any (λ name. bytes_eq name bus) r.visits.items
+
+-- it does not visit the bus, or asks no more of its task
+abbrev pub router_asks_no_more : (tick : ℕ) (bus : List ℕ) → Task → RouterPart → Bool
+router_asks_no_more tick bus task r = not (visits bus r) || asks_no_more tick r.steps r.within task
+
+abbrev pub routers_ask_no_more : Document → (bus : List ℕ) → Task → Bool
+routers_ask_no_more d bus task = list_all (router_asks_no_more d.tick_us bus task) d.routers
+
 -- ---- a row of the inputs
 
 abbrev pub is_stream_of : InputRow → StreamPart → BusPart → Bool
@@ -62,6 +80,7 @@ lets_come row s p =
 abbrev pub keeps_input : Document → InputRow → StreamPart → Bool
 keeps_input d row s =
     some_passes (λ b. is_stream_of row s b && is_bus_of row b) (slice_get d.buses s.bus) && some_passes (lets_come row s) (row_of d.parameters s.label s.equipment)
+    && passes_if_some (routers_ask_no_more d row.bus) row.task
 
 abbrev pub has_stream : Document → InputRow → Bool
 has_stream d row = list_any (keeps_input d row) d.streams
@@ -71,6 +90,10 @@ has_stream d row = list_any (keeps_input d row) d.streams
 abbrev pub is_label_of : OutputRow → LabelPart → OutputPart → Bool
 is_label_of row x o =
     bytes_eq o.name row.output && same_speed o.speed row.speed && x.label == row.label && x.sdi == row.sdi && passes_if_some (bytes_eq x.name) row.name
+
+-- and its output asks no more of its task than the row says
+abbrev pub is_of_output : (tick : ℕ) → OutputRow → LabelPart → OutputPart → Bool
+is_of_output tick row x o = is_label_of row x o && passes_if_some (asks_no_more tick o.steps o.within) row.task
 
 abbrev pub sends_within : OutputRow → LabelPart → ParameterPart → Bool
 sends_within row x p = x.equipment == row.equipment && passes_if_some (is_format p.format) row.format && nat_le row.min_us p.min_us && nat_le p.max_us row.max_us
@@ -85,7 +108,7 @@ sends_data tick row x =
 
 abbrev pub keeps_output : Document → OutputRow → LabelPart → Bool
 keeps_output d row x =
-    some_passes (is_label_of row x) (slice_get d.outputs x.output) && some_passes (sends_within row x) (row_of d.parameters x.label x.equipment) && sends_data d.tick_us row x
+    some_passes (is_of_output d.tick_us row x) (slice_get d.outputs x.output) && some_passes (sends_within row x) (row_of d.parameters x.label x.equipment) && sends_data d.tick_us row x
 
 abbrev pub has_label : Document → OutputRow → Bool
 has_label d row = list_any (keeps_output d row) d.labels

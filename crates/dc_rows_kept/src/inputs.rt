@@ -1,15 +1,15 @@
 //! The rows of the inputs that have their streams.
-ghost use Rattle.std.specs.Prelude.{MatchOption, not, ◌≡◌, ◌&&◌, nat_le, slice_get};
+ghost use Rattle.std.specs.Prelude.{MatchOption, not, ◌≡◌, ◌&&◌, ◌||◌, nat_le, slice_get};
 ghost use Rattle.std.specs.Str.{bytes_eq};
 ghost use Rattle.dc_dict.specs.Rows.{row_of};
-ghost use Rattle.std.specs.List.{All, list_any, position_from};
+ghost use Rattle.std.specs.List.{All, list_all, list_any, position_from};
 ghost use Rattle.dc_rows_kept.specs.KeepsRows.{HasStream, IsFirstWithout};
-ghost use Rattle.dc_rows_kept.specs.Tests.{is_bus_of, is_stream_of, keeps_input, lets_come, passes_if_some, some_passes};
+ghost use Rattle.dc_rows_kept.specs.Tests.{is_bus_of, is_stream_of, keeps_input, lets_come, passes_if_some, router_asks_no_more, routers_ask_no_more, some_passes, visits};
 
-use crate::same::{is_at_most, is_called, parameter_of};
-use dc_cell::{InputRow, Inputs};
+use crate::same::{asks_no_more, is_at_most, is_called, parameter_of};
+use dc_cell::{InputRow, Inputs, Task};
 use dc_dict::Parameter;
-use dc_document::{BusPart, Parts, StreamPart};
+use dc_document::{BusPart, Name, Parts, RouterPart, StreamPart};
 
 /// Whether a stream is that of a row, on its bus.
 fn is_stream_of(row: &InputRow, stream: &StreamPart, bus: &BusPart) -> bool
@@ -59,11 +59,52 @@ fn is_let_come(parts: &Parts, row: &InputRow, stream: &StreamPart) -> bool
     }
 }
 
+/// Whether a router visits a bus of this name.
+fn visits(names: &[Name], bus: &Name) -> bool
+    ensures { result ≡ list_any (λ name. bytes_eq name bus.now) names.now }
+{
+    for name in names {
+        if name == bus {
+            return true;
+        }
+    }
+    false
+}
+
+/// Whether a router does not visit a bus of this name, or asks no more of its task than this.
+fn router_asks_no_more(tick_us: u32, bus: &Name, task: Task, router: &RouterPart) -> bool
+    ensures { result ≡ router_asks_no_more tick_us bus.now task router.now }
+{
+    !visits(&router.visits, bus) || asks_no_more(tick_us, router.steps, router.within, task)
+}
+
+/// Whether each of these routers that visits a bus of this name asks no more of its task than this.
+fn all_ask_no_more(tick_us: u32, bus: &Name, task: Task, routers: &[RouterPart]) -> bool
+    ensures { result ≡ list_all (router_asks_no_more tick_us bus.now task) routers.now }
+{
+    for router in routers {
+        if !router_asks_no_more(tick_us, bus, task, router) {
+            return false;
+        }
+    }
+    true
+}
+
+/// Whether the routers of a row's bus ask no more of their tasks than the row says.
+fn asks_of_routers(parts: &Parts, row: &InputRow) -> bool
+    ensures { result ≡ passes_if_some (routers_ask_no_more parts.now row.now.bus) row.now.task }
+{
+    match row.task {
+        Some(task) => all_ask_no_more(parts.tick_us(), &row.bus, task, parts.routers()),
+        None => true,
+    }
+}
+
 /// Whether a stream keeps a row.
 fn keeps_input(parts: &Parts, row: &InputRow, stream: &StreamPart) -> bool
     ensures { result ≡ keeps_input parts.now row.now stream.now }
 {
-    is_on_bus(parts, row, stream) && is_let_come(parts, row, stream)
+    is_on_bus(parts, row, stream) && is_let_come(parts, row, stream) && asks_of_routers(parts, row)
 }
 
 /// Whether a row has one of these as its stream.

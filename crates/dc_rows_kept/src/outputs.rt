@@ -3,10 +3,10 @@ ghost use Rattle.std.specs.Prelude.{MatchOption, not, ◌≡◌, ◌+◌, ◌*�
 ghost use Rattle.dc_dict.specs.Rows.{row_of};
 ghost use Rattle.std.specs.List.{All, list_any, position_from};
 ghost use Rattle.dc_rows_kept.specs.KeepsRows.{HasLabel, IsFirstWithout};
-ghost use Rattle.dc_rows_kept.specs.Tests.{is_format, is_label_of, keeps_output, passes_if_some, same_names, sends_data, sends_within, some_passes};
+ghost use Rattle.dc_rows_kept.specs.Tests.{asks_no_more, is_format, is_label_of, is_of_output, keeps_output, passes_if_some, same_names, sends_data, sends_within, some_passes};
 
-use crate::same::{is_called, parameter_of};
-use dc_cell::{OutputRow, Outputs};
+use crate::same::{asks_no_more, is_called, parameter_of};
+use dc_cell::{OutputRow, Outputs, Task};
 use dc_dict::Parameter;
 use dc_document::{LabelPart, Name, OutputPart, Parts};
 use dc_word::Format;
@@ -20,6 +20,16 @@ fn is_label_of(row: &OutputRow, label: &LabelPart, output: &OutputPart) -> bool
         && label.label == row.label
         && label.sdi == row.sdi
         && is_called(&label.name, &row.name)
+}
+
+/// Whether an output asks no more of its task than this, where that is said.
+fn asks_of_output(tick_us: u32, output: &OutputPart, task: Option<Task>) -> bool
+    ensures { result ≡ passes_if_some (asks_no_more tick_us output.now.steps output.now.within) task }
+{
+    match task {
+        Some(task) => asks_no_more(tick_us, output.steps, output.within, task),
+        None => true,
+    }
 }
 
 /// Whether this is the format that is wanted, where one is.
@@ -69,12 +79,14 @@ fn sends_data(tick_us: u32, row: &OutputRow, label: &LabelPart) -> bool
         && take_at_most(u64::from(label.stale), tick_us, row.timeout_us)
 }
 
-/// Whether the output of a label is that of a row, and the label the row's of it.
+/// Whether the output of a label is that of a row, with the label as the row's, and asks no more of its task than the row says.
 fn is_of_output(parts: &Parts, row: &OutputRow, label: &LabelPart) -> bool
-    ensures { result ≡ some_passes (is_label_of row.now label.now) (slice_get parts.now.outputs label.now.output) }
+    ensures { result ≡ some_passes (is_of_output parts.now.tick_us row.now label.now) (slice_get parts.now.outputs label.now.output) }
 {
     match parts.outputs().get(label.output) {
-        Some(output) => is_label_of(row, label, output),
+        Some(output) => {
+            is_label_of(row, label, output) && asks_of_output(parts.tick_us(), output, row.task)
+        }
         None => false,
     }
 }

@@ -1,9 +1,10 @@
 //! What rows of sheets and parts of a document are compared by.
-ghost use Rattle.std.specs.Prelude.{◌≡◌, nat_le, option_copied};
+ghost use Rattle.std.specs.Prelude.{◌≡◌, ◌*◌, nat_le, option_copied};
 ghost use Rattle.std.specs.Str.{bytes_eq};
 ghost use Rattle.dc_dict.specs.Rows.{is_row_of, row_of};
-ghost use Rattle.dc_rows_kept.specs.Tests.{passes_if_some};
+ghost use Rattle.dc_rows_kept.specs.Tests.{asks_no_more, passes_if_some};
 
+use dc_cell::Task;
 use dc_dict::{Equipment, Parameter};
 use dc_document::{Name, Parts};
 use dc_word::Label;
@@ -26,6 +27,13 @@ pub(crate) fn is_at_most(number: u32, most: Option<u32>) -> bool
         Some(most) => number <= most,
         None => true,
     }
+}
+
+/// Whether who does so much as a task makes so many steps in so many ticks.
+pub(crate) fn asks_no_more(tick_us: u32, steps: u32, within: u32, task: Task) -> bool
+    ensures { result ≡ asks_no_more tick_us steps within task }
+{
+    steps <= task.steps && u64::from(task.within_us) <= u64::from(within) * u64::from(tick_us)
 }
 
 /// Whether a parameter is that of a label and an equipment code.

@@ -52,6 +52,8 @@ pub record AreInputPlaces (header : List (List ℕ)) (p : InputPlaces) : Type 0 
   pub police : IsPlace col.Police header p.police
   pub queue : IsPlace col.Queue header p.queue
   pub router : IsPlace col.Router header p.router
+  pub steps : IsPlace col.Steps header p.steps
+  pub within : IsTimePlace col.Within header p.within
   pub name : IsPlace col.Name header p.name
 
 -- where the columns of the outputs stand, but those of the sources, of which there may be several
@@ -67,3 +69,5 @@ pub record AreOutputPlaces (header : List (List ℕ)) (p : OutputPlaces) : Type 
   pub name : IsPlace col.Name header p.name
   pub max_age : IsTimePlace col.MaxAge header p.max_age
   pub timeout : IsTimePlace col.Timeout header p.timeout
+  pub steps : IsPlace col.Steps header p.steps
+  pub within : IsTimePlace col.Within header p.within

@@ -1,14 +1,16 @@
 -- The rows of the two sheets.
 use Rattle.std.specs.Bool.{MatchBool}
 use Rattle.std.specs.List.{list_all}
-use Rattle.std.specs.Prelude.{◌≡◌, ℕ, ◌+◌, ◌==◌, ◌&&◌, ◌||◌, ◌≤◌, ◌<◌, Bool, true, false, suc, zero, if◌then◌else◌, List, [], ◌∷◌, ◌++◌, length, drop, slice_index, get_or, Option, Some, None, option_and_then, unwrap_or, Result, Ok, Err}
+use Rattle.std.specs.Prelude.{◌≡◌, ℕ, ◌+◌, ◌==◌, ◌||◌, ◌≤◌, ◌<◌, Bool, true, false, suc, zero, if◌then◌else◌, List, [], ◌∷◌, ◌++◌, length, drop, slice_index, get_or, Option, Some, None, option_and_then, Result, Ok, Err}
 use Rattle.dc_cell.specs.Words.{speed_of, format_of, police_of, input_sdi_of, output_sdi_of}
-use Rattle.dc_cell.specs.Digits.{label_of, equipment_of, queue_of}
+use Rattle.dc_cell.specs.Digits.{label_of, equipment_of, queue_of, steps_of}
 use Rattle.dc_cell.specs.Times.{time_of}
 use Rattle.dc_cell.specs.Names.{name_cell_of, name_if_any_of, names_behind}
 use Rattle.dc_cell.specs.declared.fault.CellFault.{CellFault}
+use Rattle.dc_cell.specs.declared.fault.CellFault.TheVariants.{NoWithin}
 use Rattle.dc_cell.specs.declared.rows.InputRow.{InputRow}
 use Rattle.dc_cell.specs.declared.rows.OutputRow.{OutputRow}
+use Rattle.dc_cell.specs.declared.rows.Task.{Task}
 use Rattle.dc_cell.specs.declared.titles.Column.TheVariants as col
 use Rattle.dc_word.specs.declared.format.Format.{Format}
 use Rattle.dc_sheet.specs.Texts.{IsSheetText, separator_of}
@@ -42,6 +44,24 @@ queue_if_any text = if length text == 0 then Ok None else some_of (queue_of text
 abbrev pub format_if_any : List ℕ → Result (Option Format) CellFault
 format_if_any text = if length text == 0 then Ok None else some_of (format_of text)
 
+-- ---- what a task surely does
+
+-- one step where the cell is empty
+abbrev pub steps_or_one : List ℕ → Result ℕ CellFault
+steps_or_one text = if length text == 0 then Ok 1 else steps_of text
+
+-- so many steps in any so many microseconds
+abbrev pub task_of : (within steps : Result ℕ CellFault) → Result (Option Task) CellFault
+task_of (Err fault) steps = Err fault
+task_of (Ok us) (Err fault) = Err fault
+task_of (Ok us) (Ok n) = Ok (Some (record { steps = n; within_us = us }))
+
+-- nothing where both cells are empty; steps alone, without the time in which they are made, are a fault
+abbrev pub task_at : (commas : Bool) → (cells : List (List ℕ)) → (steps : Option ℕ) → (within : TimePlace) → Result (Option Task) CellFault
+task_at commas cells steps within =
+    if length (cell_at cells within.place) == 0 then (if length (cell_at cells steps) == 0 then Ok None else Err NoWithin)
+    else task_of (time_at commas 1 cells within) (steps_or_one (cell_at cells steps))
+
 -- ---- one row
 
 -- the row of the inputs with this number that these cells say
@@ -60,6 +80,7 @@ pub record IsInputRow (commas : Bool) (number : ℕ) (p : InputPlaces) (cells : 
   pub police : police_of (cell_at cells p.police) ≡ Ok row.police
   pub queue : queue_if_any (cell_at cells p.queue) ≡ Ok row.queue
   pub router : name_if_any_of (cell_at cells p.router) ≡ Ok row.router
+  pub task : task_at commas cells p.steps p.within ≡ Ok row.task
   pub name : name_if_any_of (cell_at cells p.name) ≡ Ok row.name
 
 -- which titles are of sources
@@ -95,6 +116,7 @@ pub record IsOutputRow (commas : Bool) (number : ℕ) (flags : List Bool) (p : O
   pub sources : sources_before flags cells (length cells) ≡ Some row.sources.items
   pub max_age : time_if_any_at commas cells p.max_age ≡ Ok row.max_age_us
   pub timeout : time_if_any_at commas cells p.timeout ≡ Ok row.timeout_us
+  pub task : task_at commas cells p.steps p.within ≡ Ok row.task
 
 -- ---- all rows
 

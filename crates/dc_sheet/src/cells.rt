@@ -7,13 +7,13 @@ ghost use Rattle.dc_cell.specs.Words.{speed_of, format_of, police_of, input_sdi_
 ghost use Rattle.dc_cell.specs.Digits.{label_of, equipment_of};
 ghost use Rattle.dc_cell.specs.Names.{name_cell_of, name_if_any_of};
 ghost use Rattle.dc_sheet.specs.Places.{cell_at};
-ghost use Rattle.dc_sheet.specs.Sheets.{time_at as time_at_of, jitter_at as jitter_at_of, time_if_any_at as time_if_any_at_of, queue_if_any, format_if_any};
+ghost use Rattle.dc_sheet.specs.Sheets.{time_at as time_at_of, jitter_at as jitter_at_of, time_if_any_at as time_if_any_at_of, queue_if_any, format_if_any, steps_or_one, task_at as task_at_of};
 
 use crate::places::{TimePlace, cell};
 use csv::ByteRecord;
 use dc_cell::{
-    CellFault, equipment_cell, format_cell, input_sdi_cell, label_cell, name_cell,
-    name_if_any_cell, output_sdi_cell, police_cell, queue_cell, speed_cell, time_cell,
+    CellFault, Task, equipment_cell, format_cell, input_sdi_cell, label_cell, name_cell,
+    name_if_any_cell, output_sdi_cell, police_cell, queue_cell, speed_cell, steps_cell, time_cell,
 };
 use dc_dict::Equipment;
 use dc_document::{Name, Speed};
@@ -159,6 +159,41 @@ pub(crate) fn time_if_any_at(
     }
     match time_cell(text, time.unit, commas, 1) {
         Ok(us) => Ok(Some(us)),
+        Err(fault) => Err(fault),
+    }
+}
+
+/// The number of steps at a place, 1 where the cell is empty.
+fn steps_or_one_at(line: &ByteRecord, place: Option<usize>) -> Result<u32, CellFault>
+    ensures { result ≡ steps_or_one (cell_at (fields_of line.now) place) }
+{
+    let text = cell(line, place);
+    if text.is_empty() {
+        return Ok(1);
+    }
+    steps_cell(text)
+}
+
+/// What a task surely does, where the cells at these places say it; `None` where both are empty.
+pub(crate) fn task_at(
+    line: &ByteRecord,
+    steps: Option<usize>,
+    within: TimePlace,
+    commas: bool,
+) -> Result<Option<Task>, CellFault>
+    ensures { result ≡ task_at_of commas (fields_of line.now) steps within }
+{
+    if cell(line, within.place).is_empty() {
+        if cell(line, steps).is_empty() {
+            return Ok(None);
+        }
+        return Err(CellFault::NoWithin);
+    }
+    match time_at(line, within, commas, 1) {
+        Ok(within_us) => match steps_or_one_at(line, steps) {
+            Ok(steps) => Ok(Some(Task { steps, within_us })),
+            Err(fault) => Err(fault),
+        },
         Err(fault) => Err(fault),
     }
 }

@@ -13,7 +13,7 @@ use dc_cell::{
     equipment_cell, format_cell, input_sdi_cell, is_clear_input, is_clear_output, is_input_title,
     is_input_unitless, is_meant, is_output_title, is_output_unitless, is_title, key_of, label_cell,
     name_cell, name_if_any_cell, output_sdi_cell, police_cell, push_names, queue_cell, speed_cell,
-    time_cell, unit_of,
+    steps_cell, time_cell, unit_of,
 };
 use dc_document::Name;
 use std::alloc::{AllocError, Global};
@@ -280,7 +280,12 @@ pub(crate) fn titles_of(
 /// Whether an empty cell of a column says that nothing is asked there.
 fn may_be_empty(column: Column, sheet: Sheet) -> bool {
     match column {
-        Column::Jitter | Column::MaxAge | Column::Timeout | Column::Queue => true,
+        Column::Jitter
+        | Column::MaxAge
+        | Column::Timeout
+        | Column::Queue
+        | Column::Steps
+        | Column::Within => true,
         Column::Format => matches!(sheet, Sheet::Outputs),
         _ => false,
     }
@@ -316,13 +321,14 @@ fn value_fault(text: &[u8], title: &ReadTitle, sheet: Sheet, commas: bool) -> Op
         Column::Label => label_cell(text).err(),
         Column::Equipment => equipment_cell(text).err(),
         Column::Format => format_cell(text).err(),
-        Column::Min | Column::Max | Column::MaxAge | Column::Timeout => {
+        Column::Min | Column::Max | Column::MaxAge | Column::Timeout | Column::Within => {
             time_cell(text, title.unit, commas, 1).err()
         }
         Column::Jitter => time_cell(text, title.unit, commas, 0).err(),
         Column::Sdi => sdi_fault(text, sheet),
         Column::Police => police_cell(text).err(),
         Column::Queue => queue_cell(text).err(),
+        Column::Steps => steps_cell(text).err(),
         Column::Sources => None,
     }
 }
@@ -365,6 +371,35 @@ fn tell_reversed(
     };
     if min_us > max_us {
         let kind = FaultKind::Reversed { min_us, max_us };
+        let sheet = asked.sheet;
+        return faults.push(Fault { sheet, row, kind });
+    }
+    Ok(())
+}
+
+/// Whether the cell of a column is empty, or there is none.
+fn is_empty_at(line: &ByteRecord, asked: Asked<'_>, column: Column) -> bool {
+    for title in asked.read {
+        if title.column == column {
+            return cell(line, Some(title.place)).is_empty();
+        }
+    }
+    true
+}
+
+/// Adds that steps are said and the time in which they are made is not, where that is so.
+fn tell_untimed(
+    faults: &mut Faults,
+    line: &ByteRecord,
+    row: u32,
+    asked: Asked<'_>,
+) -> Result<(), AllocError> {
+    if is_empty_at(line, asked, Column::Within) && !is_empty_at(line, asked, Column::Steps) {
+        let kind = FaultKind::Cell {
+            column: Column::Within,
+            shown: Shown::new(b""),
+            fault: CellFault::NoWithin,
+        };
         let sheet = asked.sheet;
         return faults.push(Fault { sheet, row, kind });
     }
@@ -419,6 +454,7 @@ fn tell_record(
     }
     if !tell_cells(alloc, faults, line, row, asked)? {
         tell_reversed(faults, line, row, asked)?;
+        tell_untimed(faults, line, row, asked)?;
     }
     Ok(())
 }

@@ -6,7 +6,7 @@ ghost use Rattle.dc_sheet.specs.Sheets.{AddsInput, AreInputs, InputsBefore, IsIn
 
 use crate::cells::{
     equipment_at, format_at, input_sdi_at, jitter_at, label_at, name_at, name_if_any_at, police_at,
-    queue_if_any_at, speed_at, time_at,
+    queue_if_any_at, speed_at, task_at, time_at,
 };
 use crate::collect::{Heading, header_fault, row_faults, titles_of};
 use crate::fault::{Sheet, SheetError};
@@ -14,7 +14,7 @@ use crate::places::{InputPlaces, input_places};
 use crate::sheet::{are_empty_from, is_passed, sheet_records};
 use crate::text::separator;
 use csv::ByteRecord;
-use dc_cell::{CellFault, InputRow, Inputs};
+use dc_cell::{CellFault, InputRow, Inputs, Task};
 use std::alloc::{AllocError, Global};
 
 /// The row that a record says, or why the first of its cells that is not read is not.
@@ -38,6 +38,7 @@ fn input_row(
     let police = police_at(line, places.police)?;
     let queue = queue_if_any_at(line, places.queue)?;
     let router = name_if_any_at(line, places.router)?;
+    let task = task_at(line, places.steps, places.within, commas)?;
     let name = name_if_any_at(line, places.name)?;
     if min_us > max_us {
         return Err(CellFault::OutOfRange);
@@ -56,6 +57,7 @@ fn input_row(
         police,
         queue,
         router,
+        task,
         name,
     })
 }
@@ -80,7 +82,8 @@ fn add_input(
     match input_row(number, line, places, commas) {
         Ok(row) => {
             let queue: Option<u32> = row.queue;
-            rows.push(InputRow { queue, ..row })?;
+            let task: Option<Task> = row.task;
+            rows.push(InputRow { queue, task, ..row })?;
             Ok(true)
         }
         Err(_) => Ok(false),

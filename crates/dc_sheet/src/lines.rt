@@ -22,6 +22,8 @@ fn cell_words(sheet: Sheet, column: Column, fault: CellFault) -> &'static str {
             Sheet::Outputs => "an SDI is 0 to 3, or 00 to 11 for bits 10 and 9",
         },
         CellFault::NotQueue => "a whole number from 1 to 4096 is wanted",
+        CellFault::NotSteps => "a whole number from 1 to 1000 is wanted",
+        CellFault::NoWithin => "in which time the steps are made is wanted",
         CellFault::NotNumber => "a number is wanted, without unit or spaces",
         CellFault::MayBeThousands => {
             "this may be thousands or a fraction: write it without the mark, or with four decimals"

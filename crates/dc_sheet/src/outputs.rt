@@ -6,7 +6,7 @@ ghost use Rattle.dc_sheet.specs.Sheets.{AddsOutput, AddsSources, AreOutputs, Are
 
 use crate::cells::{
     equipment_at, format_if_any_at, label_at, name_at, name_if_any_at, output_sdi_at, speed_at,
-    time_at, time_if_any_at,
+    task_at, time_at, time_if_any_at,
 };
 use crate::collect::{Heading, header_fault, row_faults, titles_of};
 use crate::fault::{Sheet, SheetError};
@@ -100,6 +100,7 @@ fn output_row(
     let name = name_if_any_at(line, places.name)?;
     let max_age_us = time_if_any_at(line, places.max_age, commas)?;
     let timeout_us = time_if_any_at(line, places.timeout, commas)?;
+    let task = task_at(line, places.steps, places.within, commas)?;
     if min_us > max_us {
         return Err(CellFault::OutOfRange);
     }
@@ -117,6 +118,7 @@ fn output_row(
         sources,
         max_age_us,
         timeout_us,
+        task,
     })
 }
 

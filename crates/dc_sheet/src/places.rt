@@ -33,6 +33,8 @@ pub(crate) struct InputPlaces {
     pub(crate) police: Option<usize>,
     pub(crate) queue: Option<usize>,
     pub(crate) router: Option<usize>,
+    pub(crate) steps: Option<usize>,
+    pub(crate) within: TimePlace,
     pub(crate) name: Option<usize>,
 }
 
@@ -50,6 +52,8 @@ pub(crate) struct OutputPlaces {
     pub(crate) name: Option<usize>,
     pub(crate) max_age: TimePlace,
     pub(crate) timeout: TimePlace,
+    pub(crate) steps: Option<usize>,
+    pub(crate) within: TimePlace,
 }
 
 /// The cell at a place, empty where there is none.
@@ -123,6 +127,8 @@ pub(crate) fn input_places(alloc: Global, header: &ByteRecord) -> Result<InputPl
     let police = place_of(alloc, header, Column::Police)?;
     let queue = place_of(alloc, header, Column::Queue)?;
     let router = place_of(alloc, header, Column::Router)?;
+    let steps = place_of(alloc, header, Column::Steps)?;
+    let within = time_place(alloc, header, Column::Within)?;
     let name = place_of(alloc, header, Column::Name)?;
     Ok(InputPlaces {
         bus,
@@ -137,6 +143,8 @@ pub(crate) fn input_places(alloc: Global, header: &ByteRecord) -> Result<InputPl
         police,
         queue,
         router,
+        steps,
+        within,
         name,
     })
 }
@@ -156,6 +164,8 @@ pub(crate) fn output_places(alloc: Global, header: &ByteRecord) -> Result<Output
     let name = place_of(alloc, header, Column::Name)?;
     let max_age = time_place(alloc, header, Column::MaxAge)?;
     let timeout = time_place(alloc, header, Column::Timeout)?;
+    let steps = place_of(alloc, header, Column::Steps)?;
+    let within = time_place(alloc, header, Column::Within)?;
     Ok(OutputPlaces {
         output,
         speed,
@@ -168,5 +178,7 @@ pub(crate) fn output_places(alloc: Global, header: &ByteRecord) -> Result<Output
         name,
         max_age,
         timeout,
+        steps,
+        within,
     })
 }

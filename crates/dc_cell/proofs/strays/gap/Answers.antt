@@ -1,5 +1,4 @@
-use Rattle.std.proofs.Common.{◌≡◌, ◌<◌, ◌-◌, ◌==◌, length, true, false, slice_index, sym, refl, ap, ◌∙◌, arith, rules}
-use Rattle.dc_cell.specs.Strays.{gap_before}
+use Rattle.std.proofs.Common.{◌≡◌, ◌<◌, ◌-◌, ◌==◌, length, true, false, slice_index, sym, refl, ◌∙◌, arith, rules}
 use Rattle.dc_cell.proofs.OneOff.{gap-here, gap-past, gap-none}
 use Rattle.dc_cell.proofs.strays.gap.Goals as goal
 

@@ -1,5 +1,4 @@
-use Rattle.std.proofs.Common.{◌≡◌, ◌<◌, ◌≤◌, ◌==◌, ◌+◌, ◌-◌, true, false, length, drop, slice_index, sym, refl, ap, ◌∙◌, arith, rules, add-one, length-drop, take_all}
-use Rattle.dc_cell.specs.Strays.{is_one_off}
+use Rattle.std.proofs.Common.{◌≡◌, ◌<◌, ◌==◌, ◌-◌, true, false, length, drop, slice_index, sym, ap, ◌∙◌, arith, rules, add-one, length-drop, take_all}
 use Rattle.dc_cell.proofs.OneOff.{one_off-more, one_off-here, one_off-short, one_off-end}
 use Rattle.dc_cell.proofs.strays.is_one_off.Goals as goal
 

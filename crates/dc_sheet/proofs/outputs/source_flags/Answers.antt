@@ -1,4 +1,3 @@
-use Rattle.std.proofs.Common.{◌≡◌}
 use Rattle.csv.specs.Records.{fields_of}
 use Rattle.dc_cell.specs.declared.titles.Column.TheVariants as col
 use Rattle.dc_sheet.specs.Places.{is_titled}
