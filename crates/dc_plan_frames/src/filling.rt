@@ -50,43 +50,63 @@ impl Trial {
     }
 }
 
-/// The free place for the next entry of a label that is nearest to an even rhythm.
-fn nearest(board: &Board, need: &Need, first: u64, last: u64, number: u64) -> Option<u64> {
-    let frame = board.frame();
-    let left = need.entries.saturating_sub(number);
-    let round = first.saturating_add(frame);
-    let low = last.saturating_add(need.window.low).max(round.saturating_sub(left.saturating_mul(
-        need.window.high,
-    )));
-    let high = last
-        .saturating_add(need.window.high)
-        .min(round.saturating_sub(left.saturating_mul(need.window.low)));
-    let even = first.saturating_add(part(number.saturating_mul(frame), need.entries));
-    let wanted = even.max(low).min(high);
-    let reach = wanted.saturating_sub(low).max(high.saturating_sub(wanted));
-    for away in 0..reach.saturating_add(1) {
-        let later = wanted.saturating_add(away);
-        if later <= high && board.is_free(later) {
-            return Some(later);
-        }
-        let earlier = wanted.saturating_sub(away);
-        if earlier >= low && away <= wanted && board.is_free(earlier) {
-            return Some(earlier);
-        }
+/// Where the next entry of a label is wanted.
+#[derive(Clone, Copy)]
+struct Wanted {
+    /// One frame behind the first entry.
+    round: u64,
+    /// Where the last one stands.
+    last: u64,
+    /// Where it stands in an even rhythm.
+    even: u64,
+    /// So many are left with it.
+    left: u64,
+}
+
+/// The free place for the next entry of a label that is nearest to an even rhythm; of two the later one.
+fn nearest(board: &Board, window: &Window, next: &Wanted) -> Option<u64> {
+    let least = next.left.saturating_mul(window.low);
+    let most = next.left.saturating_mul(window.high);
+    let low = next.last.saturating_add(window.low).max(next.round.saturating_sub(most));
+    let high = next.last.saturating_add(window.high).min(next.round.saturating_sub(least));
+    let wanted = next.even.max(low).min(high);
+    let Some(later) = board.free_from(wanted, high) else {
+        return board.free_up_to(wanted, low);
+    };
+    let nearer = wanted
+        .saturating_sub(later.saturating_sub(wanted))
+        .saturating_add(1);
+    match board.free_up_to(wanted, low.max(nearer)) {
+        Some(earlier) => Some(earlier),
+        None => Some(later),
     }
-    None
 }
 
 /// Adds the places of a label whose first entry stands here; whether all its entries found one.
 fn walk(board: &Board, need: &Need, first: u64, spots: &mut Vec<u64>) -> Result<bool, AllocError> {
-    let mut last = first;
+    let frame = board.frame();
+    let gap = part(frame, need.entries);
+    let rest = frame.saturating_sub(gap.saturating_mul(need.entries));
+    let (mut last, mut even, mut over) = (first, first, 0u64);
     spots.push(first)?;
     for number in 1..need.entries {
-        let Some(next) = nearest(board, need, first, last, number) else {
+        even = even.saturating_add(gap);
+        over = over.saturating_add(rest);
+        if over >= need.entries {
+            over = over.saturating_sub(need.entries);
+            even = even.saturating_add(1);
+        }
+        let next = Wanted {
+            round: first.saturating_add(frame),
+            last,
+            even,
+            left: need.entries.saturating_sub(number),
+        };
+        let Some(place) = nearest(board, &need.window, &next) else {
             return Ok(false);
         };
-        spots.push(next)?;
-        last = next;
+        spots.push(place)?;
+        last = place;
     }
     Ok(true)
 }
@@ -121,13 +141,17 @@ fn settle(
     spots: &mut Vec<u64>,
 ) -> Result<Option<u64>, AllocError> {
     let count = spots.len();
-    for first in start..need.window.high.min(board.frame()) {
-        if board.is_free(first) {
-            if walk(board, need, first, spots)? {
-                return Ok(Some(first));
-            }
-            spots.truncate(count);
+    let end = need.window.high.min(board.frame());
+    let mut from = start;
+    for _ in start..end {
+        let Some(first) = board.free_from(from, end.saturating_sub(1)) else {
+            return Ok(None);
+        };
+        if walk(board, need, first, spots)? {
+            return Ok(Some(first));
         }
+        spots.truncate(count);
+        from = first.saturating_add(1);
     }
     Ok(None)
 }
