@@ -17,6 +17,8 @@ pub(crate) enum Hole {
     Only,
     /// The name of the stream of a number.
     Stream,
+    /// The name of the label of a number.
+    Label,
     /// The name of the queue.
     Name,
     /// The name of what serves it.
@@ -29,7 +31,7 @@ pub(crate) enum Hole {
 
 /// The holes by their first word, each with the words that it may want. Behind that word a hole has the place of its number,
 /// as `{ticks 0}`.
-static HOLES: [(&'static str, Hole, &'static str, &'static str); 17] = [
+static HOLES: [(&'static str, Hole, &'static str, &'static str); 18] = [
     ("number", Hole::Number, "", ""),
     ("range", Hole::Range, "", ""),
     ("words", Hole::Several, "word", "words"),
@@ -39,6 +41,7 @@ static HOLES: [(&'static str, Hole, &'static str, &'static str); 17] = [
     ("span", Hole::Span, "", ""),
     ("only", Hole::Only, "has", "have"),
     ("stream", Hole::Stream, "", ""),
+    ("label", Hole::Label, "", ""),
     ("name", Hole::Name, "", ""),
     ("server", Hole::Server, "", ""),
     ("other", Hole::Other, "", ""),

@@ -114,6 +114,7 @@ impl About<'_> {
                 Value::Several(number, one, many)
             }
             Hole::Stream => Value::Text(name_of(self.tables, Section::Stream, number as usize)),
+            Hole::Label => Value::Text(name_of(self.tables, Section::Label, number as usize)),
             Hole::Name => Value::Text(name_of(self.tables, queue, server.number)),
             Hole::Server => Value::Text(name_of(self.tables, by, server.by)),
             Hole::Other => Value::Text(name_of(self.tables, by, number as usize)),
