@@ -19,6 +19,16 @@ fn say_often(bus: &BusPlan, lines: &mut Lines) {
     }
 }
 
+/// Says what is asked of the receiver of a bus, where no row says what that holds.
+fn say_queue(bus: &Bus, plan: &BusPlan, lines: &mut Lines) {
+    if bus.queue.is_none() {
+        lines.say(
+            "\n# no row says its queue: the receiver must hold {}",
+            &[Fact::Number(plan.queue)],
+        );
+    }
+}
+
 /// Writes a bus without its streams.
 fn write_head(bus: &Bus, plan: &BusPlan, is_second: bool, lines: &mut Lines) {
     lines.say(
@@ -27,15 +37,16 @@ fn write_head(bus: &Bus, plan: &BusPlan, is_second: bool, lines: &mut Lines) {
     );
     say_often(plan, lines);
     lines.say(
-        ": at most {} wait, for at most {} {}\n[[bus]]\n",
+        ": at most {} wait, for at most {} {}",
         &[
             Fact::Number(plan.backlog),
             Fact::Number(plan.delay),
             ticks_word(plan.delay),
         ],
     );
+    say_queue(bus, plan, lines);
     lines.line(
-        "name = \"{}\"\nspeed = \"{}\"\nqueue = {}",
+        "\n[[bus]]\nname = \"{}\"\nspeed = \"{}\"\nqueue = {}",
         &[
             Fact::Name(bus.name),
             speed_word(bus.speed),

@@ -38,7 +38,10 @@ fn check_name(
     if let Some(row) = other {
         faults.begin("unreadable ");
         faults.say("{} row {} column name: {} stands ", place);
-        faults.line("in row {} already (T13)", &[Fact::Number(row)]);
+        faults.line(
+            "in row {} already (T13); another name for one of the two",
+            &[Fact::Number(row)],
+        );
     }
 }
 

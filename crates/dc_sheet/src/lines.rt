@@ -36,12 +36,16 @@ fn cell_words(sheet: Sheet, column: Column, fault: CellFault) -> &'static str {
     }
 }
 
-/// What is said besides of an empty cell, where merged cells may be the reason.
-fn fill_words(column: Column) -> &'static str {
+/// What is said besides of an empty cell: where merged cells may be the reason, and where a document may say nothing.
+fn fill_words(sheet: Sheet, column: Column) -> &'static str {
     match column {
         Column::Bus | Column::Output | Column::Speed => {
             "; merged cells export empty ones: fill them down"
         }
+        Column::Min => match sheet {
+            Sheet::Inputs => "; how near two of its words may come, as its sender states it",
+            Sheet::Outputs => "; where no receiver states one, 1 us asks nothing (0.0010 ms)",
+        },
         _ => "",
     }
 }
@@ -65,7 +69,7 @@ fn tell_cell(
     if shown.is_empty() {
         lines.add("empty: ");
         lines.add(words);
-        lines.add(fill_words(column));
+        lines.add(fill_words(sheet, column));
     } else {
         tell_shown(lines, shown);
         lines.add(words);
