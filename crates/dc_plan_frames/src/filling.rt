@@ -67,8 +67,14 @@ struct Wanted {
 fn nearest(board: &Board, window: &Window, next: &Wanted) -> Option<u64> {
     let least = next.left.saturating_mul(window.low);
     let most = next.left.saturating_mul(window.high);
-    let low = next.last.saturating_add(window.low).max(next.round.saturating_sub(most));
-    let high = next.last.saturating_add(window.high).min(next.round.saturating_sub(least));
+    let low = next
+        .last
+        .saturating_add(window.low)
+        .max(next.round.saturating_sub(most));
+    let high = next
+        .last
+        .saturating_add(window.high)
+        .min(next.round.saturating_sub(least));
     let wanted = next.even.max(low).min(high);
     let Some(later) = board.free_from(wanted, high) else {
         return board.free_up_to(wanted, low);
