@@ -1,7 +1,7 @@
 //! The places of a frame.
 use std::alloc::{AllocError, Global};
 
-/// How many places lie between a place and one that may be free on either side; nothing where it is free itself.
+/// How many places on, and how many back, the next one lies that may be free; 0 where the place is free itself.
 #[derive(Clone, Copy, PartialEq)]
 struct Place {
     later: u32,

@@ -9,7 +9,7 @@ use std::alloc::AllocError;
 pub(crate) const LONGEST: u64 = LONGEST_FRAME as u64;
 
 /// So many words, in billionths of one.
-const WORD: u64 = 1_000_000_000;
+pub(crate) const WORD: u64 = 1_000_000_000;
 
 /// What a frame is for labels with whole numbers of entries.
 #[derive(Clone, Copy)]

@@ -1,14 +1,11 @@
 //! Why an output has no frame.
 use crate::counts::{ENTRIES, LABEL_ENTRIES};
-use crate::frames::LONGEST;
+use crate::frames::{LONGEST, WORD};
 use crate::outputs::Lost;
 use crate::windows::{Scene, Window, Windows};
 use dc_design_rows::{Fact, Label};
 use dc_document::Speed;
 use dc_plan_ticks::{Obstacles, part, up};
-
-/// So many words, in billionths of one.
-const WORD: u64 = 1_000_000_000;
 
 /// The label of this number among those of an output.
 fn label_at(scene: &Scene<'_>, number: usize) -> Option<Label> {
