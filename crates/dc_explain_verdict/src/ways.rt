@@ -92,14 +92,15 @@ pub(crate) fn tell_claim(
     claimed <= most
 }
 
-/// Tells by how many steps a queue would have a delay of at most so many ticks; nothing where it would have to be none,
-/// since whatever waits does so for a tick.
+/// Tells by which `within`, or by how many steps, a queue would have a delay of at most so many ticks; nothing where it would
+/// have to be none, since whatever waits does so for a tick.
 pub(crate) fn tell_quicker(out: &mut Explanation, of: &About<'_>, server: &Server, most: u64) {
     if most != 0 {
         let wish = Wish {
             delay: most,
             ..ANY_WINDOW
         };
+        tell_within(out, of, server, &wish);
         tell_steps(out, of, server, &wish);
     }
 }
@@ -130,24 +131,34 @@ fn tell_pace(out: &mut Explanation, of: &About<'_>, server: &Server) {
     }
 }
 
-/// Tells which `within` would let a window close, and who else has a shorter one.
-fn tell_within(out: &mut Explanation, of: &About<'_>, server: &Server) {
-    let Some(less) = least(of.tables, server, Other::Less, &ANY_WINDOW) else {
-        return;
+/// Tells which `within` would be enough for what is wished. Whether one would.
+fn tell_within(out: &mut Explanation, of: &About<'_>, server: &Server, wish: &Wish) -> bool {
+    let (words, number) = wished(wish);
+    let Some(less) = least(of.tables, server, Other::Less, wish) else {
+        return false;
     };
     let longest = server.within.saturating_sub(less);
+    of.say(
+        out,
+        server,
+        "\nhelp: give {by} `{server}` a `within` of {range 0} in place of {number 2} ticks",
+        &[server.shortest as u64, longest as u64, server.within as u64],
+    );
+    of.say(out, server, words, &[number]);
+    true
+}
+
+/// Tells which `within` would let a window close, and who else has a shorter one.
+fn tell_closing(out: &mut Explanation, of: &About<'_>, server: &Server) {
+    if !tell_within(out, of, server, &ANY_WINDOW) {
+        return;
+    }
     let (number, within) = sibling_of(of.tables, server).unwrap_or((server.by, server.within));
     of.say_where(
         out,
         server,
-        "\nhelp: give {by} `{server}` a `within` of {range 0} in place of {number 2} ticks for a window to close: the shorter it is, the shorter is every delay, and the more of the other rules hold too\n{if 0}note: {by} `{other 3}` has a `within` of {number 4}",
-        &[
-            server.shortest as u64,
-            longest as u64,
-            server.within as u64,
-            number as u64,
-            within as u64,
-        ],
+        ": the shorter it is, the shorter is every delay, and the more of the other rules hold too\n{if 0}note: {by} `{other 1}` has a `within` of {number 2}",
+        &[0, number as u64, within as u64],
         &[number != server.by],
     );
 }
@@ -156,7 +167,7 @@ fn tell_within(out: &mut Explanation, of: &About<'_>, server: &Server) {
 /// streams only where it has some.
 pub(crate) fn tell_never_ways(out: &mut Explanation, of: &About<'_>, server: &Server) {
     tell_pace(out, of, server);
-    tell_within(out, of, server);
+    tell_closing(out, of, server);
     tell_steps(out, of, server, &ANY_WINDOW);
     let minimum = least(of.tables, server, Other::Minimum, &ANY_WINDOW).unwrap_or(0);
     let interval = (minimum as u64).saturating_mul(of.tables.tick_us() as u64);
