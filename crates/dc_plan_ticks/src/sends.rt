@@ -35,11 +35,25 @@ pub fn sends_of(output: &Output, knobs: &Knobs) -> Sends {
     }
 }
 
-/// What helps beside, where the task of an output is said.
-fn sooner(output: &Output) -> &'static str {
-    match output.task {
-        Some(_) => ", or a shorter within",
-        None => "",
+/// Tells how long a send may wait at most for a label to have a gap, from so many ticks to so many, where its output's task is
+/// said and its wire lets it be so quick.
+fn tell_sooner(
+    output: &Output,
+    gap: (u64, u64),
+    unit: TimeUnit,
+    knobs: &Knobs,
+    obstacles: &mut Obstacles,
+) {
+    let Some(task) = output.task else {
+        return;
+    };
+    let (low, high) = gap;
+    let most = part(high.saturating_sub(low).saturating_sub(1), 2);
+    if most >= gap_of(output, knobs).saturating_mul(task.steps).max(1) {
+        obstacles.lines.say(
+            ", or a within of at most {}",
+            &[Fact::Time(most.saturating_mul(knobs.tick), unit)],
+        );
     }
 }
 
@@ -76,18 +90,20 @@ fn tell_window(
             Fact::Number(tick),
         ],
     );
-    obstacles.lines.line(
-        "and a send that waits up to {} {} leaves gaps of {} to {} ticks: none (T12, C08, C09); a max of {}{}{}{}",
+    obstacles.lines.say(
+        "and a send that waits up to {} {} leaves gaps of {} to {} ticks: none (T12, C08, C09); a max of {}",
         &[
             Fact::Number(late),
             Fact::Word(if late == 1 { "tick" } else { "ticks" }),
             Fact::Number(low.saturating_add(late)),
             Fact::Less(high, late.saturating_add(1)),
             Fact::Time(wanted.saturating_mul(tick), unit),
-            Fact::Word(sooner(output)),
-            Fact::Word(faster(output)),
-            Fact::Word(knobs.shorter),
         ],
+    );
+    tell_sooner(output, (low, high), unit, knobs, obstacles);
+    obstacles.lines.line(
+        "{}{}",
+        &[Fact::Word(faster(output)), Fact::Word(knobs.shorter)],
     );
 }
 
