@@ -4,7 +4,7 @@ use crate::letters::Letters;
 use crate::lines::{Fact, Lines};
 use dc_document::NAME_LIMIT;
 
-/// The name of a row by its bus or output, its label and, where that is there twice, its SDI.
+/// The name of a row by its bus or output, its label and, where that is there with another SDI too, its SDI.
 fn name_by(group: &Letters, label: u64, is_twice: bool, sdi: Option<u64>) -> Letters {
     let mut name = *group;
     name.add(b"-");
@@ -45,36 +45,71 @@ fn check_name(
     }
 }
 
-/// Whether the label of a stream is on its bus more than once.
+/// Whether two SDIs are the same; `None` is any.
+fn is_same_sdi(one: Option<u64>, other: Option<u64>) -> bool {
+    let Some(one) = one else {
+        return other.is_none();
+    };
+    match other {
+        Some(other) => one == other,
+        None => false,
+    }
+}
+
+/// Whether a stream has the bus and the label of another.
+fn is_label_of(stream: &Stream, one: &Stream) -> bool {
+    stream.bus == one.bus && stream.label == one.label
+}
+
+/// Whether a label has the output and the label of another.
+fn is_label_like(label: &Label, one: &Label) -> bool {
+    label.output == one.output && label.label == one.label
+}
+
+/// Whether the label of a stream is on its bus with another SDI too.
 fn is_stream_twice(streams: &[Stream], one: &Stream) -> bool {
-    let mut count = 0usize;
     for stream in streams {
-        if stream.bus == one.bus && stream.label == one.label {
-            count = count.saturating_add(1);
+        if is_label_of(stream, one) && !is_same_sdi(stream.sdi, one.sdi) {
+            return true;
         }
     }
-    count > 1
+    false
 }
 
-/// Whether the label of a label is on its output more than once.
+/// Whether the label of a label is on its output with another SDI too.
 fn is_label_twice(labels: &[Label], one: &Label) -> bool {
-    let mut count = 0usize;
     for label in labels {
-        if label.output == one.output && label.label == one.label {
-            count = count.saturating_add(1);
+        if is_label_like(label, one) && label.sdi != one.sdi {
+            return true;
         }
     }
-    count > 1
+    false
 }
 
-/// The row of the first stream of this name among these places.
-fn stream_row(streams: &[Stream], places: &[usize], before: usize, name: &Letters) -> Option<u64> {
+/// Whether a stream that no row names is another one again, of which T15 is told: it has that one's name.
+fn is_stream_again(stream: &Stream, one: &Stream) -> bool {
+    one.name.is_empty() && is_label_of(stream, one) && is_same_sdi(stream.sdi, one.sdi)
+}
+
+/// Whether a label that no row names is another one again, of which T22 is told: it has that one's name.
+fn is_label_again(label: &Label, one: &Label) -> bool {
+    one.name.is_empty() && is_label_like(label, one) && label.sdi == one.sdi
+}
+
+/// The row of the first stream among these places that has the name of one that is none of them again.
+fn stream_row(
+    streams: &[Stream],
+    places: &[usize],
+    before: usize,
+    one: &Stream,
+    name: &Letters,
+) -> Option<u64> {
     for (count, place) in places.iter().enumerate() {
         if count >= before {
             return None;
         }
         if let Some(stream) = streams.get(*place) {
-            if stream.name == *name {
+            if stream.name == *name && !is_stream_again(stream, one) {
                 return Some(stream.row);
             }
         }
@@ -82,14 +117,20 @@ fn stream_row(streams: &[Stream], places: &[usize], before: usize, name: &Letter
     None
 }
 
-/// The row of the first label of this name among these places.
-fn label_row(labels: &[Label], places: &[usize], before: usize, name: &Letters) -> Option<u64> {
+/// The row of the first label among these places that has the name of one that is none of them again.
+fn label_row(
+    labels: &[Label],
+    places: &[usize],
+    before: usize,
+    one: &Label,
+    name: &Letters,
+) -> Option<u64> {
     for (count, place) in places.iter().enumerate() {
         if count >= before {
             return None;
         }
         if let Some(label) = labels.get(*place) {
-            if label.name == *name {
+            if label.name == *name && !is_label_again(label, one) {
                 return Some(label.row);
             }
         }
@@ -132,7 +173,7 @@ fn settled_stream(document: &Document, count: usize, place: usize, faults: &mut 
         Fact::Name(name),
     ];
     let group = [Fact::Word("bus"), Fact::Name(bus.name)];
-    let other = stream_row(&document.streams, &document.on_bus, count, &name);
+    let other = stream_row(&document.streams, &document.on_bus, count, stream, &name);
     check_name(faults, &at, &group, name.len(), other);
     name
 }
@@ -152,7 +193,7 @@ fn settled_label(document: &Document, count: usize, place: usize, faults: &mut L
         Fact::Name(name),
     ];
     let group = [Fact::Word("output"), Fact::Name(output.name)];
-    let other = label_row(&document.labels, &document.on_output, count, &name);
+    let other = label_row(&document.labels, &document.on_output, count, label, &name);
     check_name(faults, &at, &group, name.len(), other);
     name
 }
