@@ -1,14 +1,16 @@
 /* Laid before the C library by scripts/hostile and scripts/refused. By its environment it refuses one allocation (REFUSE), or
-   one of the first thread (REFUSE_FIRST) or of the others (REFUSE_BESIDE), fails one read (FAIL_READ), one write (FAIL_WRITE)
-   or the start of one thread (FAIL_START), each by its number from 1, and no other. Where READ_FROM is given, only reads of
-   that descriptor count. Where COUNT is given, the numbers of allocations, reads, writes, starts, allocations of the first
-   thread and of the others are written to the file of that name at the end, and then the numbers of those with which the
-   first thread started others: its last before each start, and each within it. */
+   one of the first thread (REFUSE_FIRST) or of the others (REFUSE_BESIDE), fails one opening of a file (FAIL_OPEN), one read
+   (FAIL_READ), one write (FAIL_WRITE) or the start of one thread (FAIL_START), each by its number from 1, and no other. Where
+   READ_FROM is given, only reads of that descriptor count. Where COUNT is given, the numbers of allocations, reads, writes,
+   starts, allocations of the first thread and of the others, and openings are written to the file of that name at the end,
+   and then the numbers of those allocations with which the first thread started others: its last before each start, and each
+   within it. */
 #define _GNU_SOURCE
 #include <dlfcn.h>
 #include <errno.h>
 #include <fcntl.h>
 #include <pthread.h>
+#include <stdarg.h>
 #include <stdio.h>
 #include <stdlib.h>
 #include <sys/syscall.h>
@@ -28,7 +30,7 @@ static int is_one(const char *name, long *wanted, long *asked) {
     return __atomic_add_fetch(asked, 1, __ATOMIC_SEQ_CST) == *wanted;
 }
 
-static long refused, allocations, refused_first, first, refused_beside, beside, unread, reads, unwritten, writes, unstarted, starts;
+static long refused, allocations, refused_first, first, refused_beside, beside, unread, reads, unwritten, writes, unstarted, starts, unopened, opens;
 
 /* Whether the first thread calls. */
 static int is_first(void) { return syscall(SYS_gettid) == getpid(); }
@@ -72,6 +74,27 @@ int pthread_create(pthread_t *thread, const pthread_attr_t *attributes, void *(*
         of_starts[of_starts_count++] = number;
     return fault;
 }
+
+/* Whether an opening fails. */
+static int open_fails(void) {
+    if (!is_one("FAIL_OPEN", &unopened, &opens))
+        return 0;
+    errno = EIO;
+    return 1;
+}
+
+/* The opening of a file by a call of this name. */
+#define OPENS(name)                                                                                                    \
+    int name(const char *path, int flags, ...) {                                                                       \
+        int (*next)(const char *, int, ...) = (int (*)(const char *, int, ...))dlsym(RTLD_NEXT, #name);                \
+        va_list rest;                                                                                                  \
+        va_start(rest, flags);                                                                                         \
+        mode_t mode = flags & O_CREAT ? va_arg(rest, mode_t) : 0;                                                      \
+        va_end(rest);                                                                                                  \
+        return open_fails() ? -1 : next(path, flags, mode);                                                            \
+    }
+OPENS(open)
+OPENS(open64)
 
 /* Whether a read of this descriptor fails. */
 static int read_fails(int descriptor) {
@@ -119,11 +142,11 @@ __attribute__((destructor)) static void count(void) {
     if (!path)
         return;
     static char line[16384];
-    int length = snprintf(line, sizeof line, "%ld %ld %ld %ld %ld %ld", allocations, reads, writes, starts, first, beside);
+    int length = snprintf(line, sizeof line, "%ld %ld %ld %ld %ld %ld %ld", allocations, reads, writes, starts, first, beside, opens);
     for (int at = 0; at < of_starts_count; at++)
         length += snprintf(line + length, sizeof line - length, " %ld", of_starts[at]);
     length += snprintf(line + length, sizeof line - length, "\n");
-    int file = open(path, O_WRONLY | O_CREAT | O_TRUNC, 0600);
+    int file = syscall(SYS_open, path, O_WRONLY | O_CREAT | O_TRUNC, 0600);
     ssize_t (*next)(int, const void *, size_t) = (ssize_t (*)(int, const void *, size_t))dlsym(RTLD_NEXT, "write");
     if (file >= 0 && next(file, line, length) == length)
         close(file);
