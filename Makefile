@@ -62,10 +62,11 @@ test:
 	@$(RT) ci
 
 # The built program on the rows of rows/, on texts and captures by chance and of the largest sizes, joint runs of networks by chance,
-# on the commands of docs/recordings.md, of docs/networks.md and of the tutorial, at its edges, under refused memory and failing devices; the library for C
-# beside it; what is installed and packed, in a folder of its own; the instructions of the benchmark's workloads: some minutes, no proof
-# where the library is built. With EMBED=where-changed, as in .ci/run, the library is not tried where its sources are as they were tried last.
-trials: $(addprefix try-,rows explained chance timed networks recordings recorded designs crowds largest audits edges hostile pages printed refused embed tutorial installed pace)
+# on the commands of docs/recordings.md, of docs/networks.md and of the tutorial, on the template as it may be filled in, at its edges,
+# under refused memory and failing devices; the library for C beside it; what is installed and packed, in a folder of its own; the
+# instructions of the benchmark's workloads: some minutes, no proof where the library is built. With EMBED=where-changed, as in .ci/run,
+# the library is not tried where its sources are as they were tried last.
+trials: $(addprefix try-,rows explained chance timed networks recordings recorded designs crowds largest audits edges hostile pages printed refused embed tutorial template installed pace)
 
 try-%:
 	@scripts/$*
