@@ -48,6 +48,17 @@ def is_program(crate):
     return (ROOT / "crates" / crate / "src/main.rt").is_file()
 
 
+def is_kept(crate):
+    """Whether this checkout keeps a crate as its sources are, and those of all below it: what was kept last is younger than they."""
+
+    def last_changed(it):
+        parts = [ROOT / "crates" / it / part for part in ("src", "specs", "proofs")]
+        return max(file.stat().st_mtime for part in parts if part.is_dir() for file in [part, *part.rglob("*")])
+
+    stamp = ROOT / "crates" / crate / "out/rlib/stamp"
+    return stamp.is_file() and max(map(last_changed, below(crate) | {crate})) < stamp.stat().st_mtime
+
+
 def linked(file, to):
     """Gives a file another name, or copies it where that lies on another disk."""
     try:
@@ -122,10 +133,10 @@ class Commands:
 
 class Queue:
     """Crates, each to be handed out once all that it stands on are well: of those that can be begun the one with most to prove in it and
-    in the longest chain above it."""
+    in the longest chain above it. Those of `well` are so from the beginning."""
 
-    def __init__(self, crates):
-        self.left, self.running, self.well, self.changed = set(crates), set(), set(), threading.Condition()
+    def __init__(self, crates, well):
+        self.left, self.running, self.well, self.changed = set(crates) - set(well), set(), set(well), threading.Condition()
         self.ahead = {}
         for crate in reversed(in_order(crates)):
             above = [self.ahead[it] for it in self.ahead if crate in libraries()[it]]
@@ -158,11 +169,11 @@ class Queue:
             self.changed.notify_all()
 
 
-def side_by_side(crates, jobs, commands, one, tops=(), last=len):
+def side_by_side(crates, jobs, commands, one, tops=(), last=len, well=()):
     """Calls `one` with the top of a workspace and a crate for each crate once all below it are well, in so many workspaces at once, and
-    answers what `last` says to those for which it said yes. The first workspaces are those that are given, the others copies of the
-    sources, which are taken away behind `last`."""
-    queue = Queue(crates)
+    answers what `last` says to those for which it said yes, or that were well from the beginning. The first workspaces are those that
+    are given, the others copies of the sources, which are taken away behind `last`."""
+    queue = Queue(crates, well)
     signal.signal(signal.SIGTERM, lambda *_: sys.exit(143))
     with tempfile.TemporaryDirectory(prefix="dc429-lanes-") as room:
         tops = [*tops, *(Path(room) / str(it) for it in range(len(tops), jobs))]
