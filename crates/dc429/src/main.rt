@@ -1,6 +1,9 @@
 //! `dc429`: an ARINC 429 concentrator that is certified before it flies.
 #![tactic(auto)]
 
+mod again;
+
+use crate::again::Readers;
 use dc_answer::Exit;
 use dc_command::Order;
 use dc_device::{ReadSource, WriteSink};
@@ -78,7 +81,7 @@ fn end_unasked<R: Print + Eprint>(rt: &R, error: clap::Error) -> Result<Exit, Fa
 
 /// Explains on standard error how a run ended, where there is something to say and memory and the device allow it.
 fn explain<R: AllocGlobal + Eprint>(rt: &R, order: Order<'_>, exit: Exit, notes: &Notes) {
-    if let Ok(Some(text)) = explain_end(rt.alloc(), order, exit, notes) {
+    if let Ok(Some(text)) = explain_end(rt.alloc(), &Readers, order, exit, notes) {
         let _ = eprint!(rt; "{text}");
     }
 }

@@ -1,4 +1,5 @@
 //! Lines that can't be read, and events that were refused.
+use crate::again::Again;
 use crate::audits::tell_failing;
 use crate::capture::tell_captured;
 use crate::judged::tell_by_tables;
@@ -65,7 +66,7 @@ fn refused_line<'a>(ran: &Ran<'a>, kind: Kind) -> Option<Line<'a>> {
 }
 
 /// Tells what is wrong at a line, by what its code is a code of.
-pub(crate) fn tell_line(out: &mut Explanation, ran: &Ran<'_>, kind: Kind) {
+pub(crate) fn tell_line<A: Again>(out: &mut Explanation, again: &A, ran: &Ran<'_>, kind: Kind) {
     let code = code_of(ran.line, kind);
     let Some(line) = refused_line(ran, kind) else {
         tell_plainly(out, kind, code);
@@ -74,7 +75,7 @@ pub(crate) fn tell_line(out: &mut Explanation, ran: &Ran<'_>, kind: Kind) {
     if kind == Kind::Decoded || kind == Kind::Capture {
         return tell_word(out, code, &line, kind);
     }
-    if !tell_by_tables(out, ran, kind, &line) {
+    if !tell_by_tables(out, again, ran, kind, &line) {
         tell_plainly(out, kind, code);
     }
 }

@@ -3,6 +3,7 @@
 //! and is safe.
 #![tactic(auto)]
 
+mod again;
 mod audits;
 mod capture;
 mod designed;
@@ -28,4 +29,5 @@ mod task;
 mod trace;
 mod words;
 
+pub use again::Again;
 pub use ran::explain_end;

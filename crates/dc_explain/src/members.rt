@@ -1,10 +1,11 @@
 //! Concentrators of a network that are not accepted, or whose files are not to be had.
+use crate::again::Again;
 use crate::devices::tell_failure;
 use crate::judged::tell_files;
 use crate::output::{behind_two, word};
 use crate::ran::Ran;
 use crate::task::{JUDGED, Task, told};
-use dc_system_text::{ConcentratorText, read_system};
+use dc_system_text::ConcentratorText;
 use dc_tell::Explanation;
 use dc_tell::Value::Text;
 use std::alloc::{AllocError, Global};
@@ -27,7 +28,13 @@ fn path_of(alloc: Global, system: &str, name: &str) -> Result<String, AllocError
 
 /// Tells the line of a concentrator, whose files have these names: one that `check` prints of two files, or what kept it from
 /// reading them. Whether there was something to tell.
-fn tell_check(out: &mut Explanation, ran: &Ran<'_>, tables: &str, certificate: &str) -> bool {
+fn tell_check<A: Again>(
+    out: &mut Explanation,
+    again: &A,
+    ran: &Ran<'_>,
+    tables: &str,
+    certificate: &str,
+) -> bool {
     let line = behind_two(ran.line);
     let checked = Ran {
         names: (tables, certificate),
@@ -43,26 +50,28 @@ fn tell_check(out: &mut Explanation, ran: &Ran<'_>, tables: &str, certificate: &
     if word(line, 0) == "failed" {
         return tell_failure(out, &checked, word(line, 1));
     }
-    tell_files(out, &checked)
+    tell_files(out, again, &checked)
 }
 
 /// Tells the line of a concentrator of a system, whose tables have this name.
-fn tell_one(
+fn tell_one<A: Again>(
     out: &mut Explanation,
+    again: &A,
     ran: &Ran<'_>,
     system: &str,
     tables: &str,
     certificate: &str,
 ) -> bool {
     match path_of(ran.alloc, system, certificate) {
-        Ok(certificate) => tell_check(out, ran, tables, certificate.as_str()),
+        Ok(certificate) => tell_check(out, again, ran, tables, certificate.as_str()),
         Err(_) => false,
     }
 }
 
 /// Tells the line of the concentrator of this name, of those of a system.
-fn tell_among(
+fn tell_among<A: Again>(
     out: &mut Explanation,
+    again: &A,
     ran: &Ran<'_>,
     system: &str,
     name: &str,
@@ -74,6 +83,7 @@ fn tell_among(
             return match path_of(ran.alloc, system, concentrator.tables()) {
                 Ok(tables) => tell_one(
                     out,
+                    again,
                     ran,
                     system,
                     tables.as_str(),
@@ -87,19 +97,25 @@ fn tell_among(
 }
 
 /// Tells the line of the concentrator of this name. The one function that holds the system.
-fn tell_named(out: &mut Explanation, ran: &Ran<'_>, system: &str, name: &str) -> bool {
-    match read_system(ran.alloc, ran.first.text.as_slice()) {
-        Ok(read) => tell_among(out, ran, system, name, read.concentrators()),
-        Err(_) => false,
+fn tell_named<A: Again>(
+    out: &mut Explanation,
+    again: &A,
+    ran: &Ran<'_>,
+    system: &str,
+    name: &str,
+) -> bool {
+    match again.system(ran.alloc, ran.first.text.as_slice()) {
+        Some(read) => tell_among(out, again, ran, system, name, read.concentrators()),
+        None => false,
     }
 }
 
 /// Tells the line of a concentrator of a network: what stands behind its name is a line of `check`. And of which
 /// concentrator of which system that is, and from where a file is taken that is not to be had.
-pub(crate) fn tell_member(out: &mut Explanation, ran: &Ran<'_>) {
+pub(crate) fn tell_member<A: Again>(out: &mut Explanation, again: &A, ran: &Ran<'_>) {
     let system = ran.task.system.unwrap_or("");
     let name = word(ran.line, 1);
-    if !tell_named(out, ran, system, name) {
+    if !tell_named(out, again, ran, system, name) {
         return;
     }
     out.note(

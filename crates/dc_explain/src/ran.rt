@@ -1,4 +1,5 @@
 //! A run that has ended, and what there is to say of its end.
+use crate::again::Again;
 use crate::audits::tell_empty;
 use crate::capture::tell_surveyed;
 use crate::designed::repeat_lines;
@@ -83,30 +84,30 @@ fn said_in(output: &Kept) -> Option<&str> {
 }
 
 /// Tells what kept a run from its work.
-fn tell_failed(out: &mut Explanation, ran: &Ran<'_>) {
+fn tell_failed<A: Again>(out: &mut Explanation, again: &A, ran: &Ran<'_>) {
     let (verb, cause) = (word(ran.line, 0), word(ran.line, 1));
     if verb == "at" && word(ran.line, 2) == "failed" {
-        return tell_member(out, ran);
+        return tell_member(out, again, ran);
     }
     let failed = if verb == "failed" { cause } else { "device" };
     tell_failure(out, ran, failed);
 }
 
 /// Tells of a text that can't be read.
-fn tell_text(out: &mut Explanation, ran: &Ran<'_>) {
+fn tell_text<A: Again>(out: &mut Explanation, again: &A, ran: &Ran<'_>) {
     if word(ran.line, 1).as_bytes().starts_with(b"E") {
-        return tell_line(out, ran, ran.task.lines);
+        return tell_line(out, again, ran, ran.task.lines);
     }
-    tell_files(out, ran);
+    tell_files(out, again, ran);
 }
 
 /// Tells of what was judged and refused.
-fn tell_judged(out: &mut Explanation, ran: &Ran<'_>) {
+fn tell_judged<A: Again>(out: &mut Explanation, again: &A, ran: &Ran<'_>) {
     if ran.task.is_survey {
         return tell_surveyed(out, ran);
     }
     match word(ran.line, 1) {
-        "spent" | "early" | "owed" => tell_line(out, ran, Kind::Step),
+        "spent" | "early" | "owed" => tell_line(out, again, ran, Kind::Step),
         "ticks" => {
             tell_plainly(out, Kind::Step, "ticks");
         }
@@ -114,29 +115,30 @@ fn tell_judged(out: &mut Explanation, ran: &Ran<'_>) {
             tell_plainly(out, Kind::Bench, "hub");
         }
         _ => match word(ran.line, 0) {
-            "budgets" | "sources" | "claim" => tell_line(out, ran, Kind::Audit),
+            "budgets" | "sources" | "claim" => tell_line(out, again, ran, Kind::Audit),
             _ => {
-                tell_files(out, ran);
+                tell_files(out, again, ran);
             }
         },
     }
 }
 
 /// Tells what there is to say of the end of a run: nothing where all is well.
-fn tell_end(out: &mut Explanation, ran: &Ran<'_>, exit: Exit) {
+fn tell_end<A: Again>(out: &mut Explanation, again: &A, ran: &Ran<'_>, exit: Exit) {
     match exit {
         Exit::Done => tell_empty(out, ran),
-        Exit::Failed => tell_failed(out, ran),
+        Exit::Failed => tell_failed(out, again, ran),
         _ if ran.task.is_design => repeat_lines(out, ran),
-        _ if ran.task.system.is_some() => tell_network(out, ran),
-        Exit::Unreadable => tell_text(out, ran),
-        Exit::Refused => tell_judged(out, ran),
+        _ if ran.task.system.is_some() => tell_network(out, again, ran),
+        Exit::Unreadable => tell_text(out, again, ran),
+        Exit::Refused => tell_judged(out, again, ran),
     }
 }
 
 /// What there is to say of the end of a run of which its files were kept, and those that a text named.
-fn explain_behind(
+fn explain_behind<A: Again>(
     alloc: Global,
+    again: &A,
     order: Order<'_>,
     exit: Exit,
     files: (&Kept, &Kept, &Kept),
@@ -168,14 +170,15 @@ fn explain_behind(
     };
     let mut out = Explanation::new(alloc);
     if lines.is_some() {
-        tell_end(&mut out, &ran, exit);
+        tell_end(&mut out, again, &ran, exit);
     }
     Ok(out.finish())
 }
 
 /// What there is to say of the end of a run of which the files of the command line were kept.
-fn explain_with(
+fn explain_with<A: Again>(
     alloc: Global,
+    again: &A,
     order: Order<'_>,
     exit: Exit,
     files: (&Kept, &Kept, &Kept),
@@ -185,6 +188,7 @@ fn explain_with(
     let named_second = notes.named_second.end(alloc)?;
     explain_behind(
         alloc,
+        again,
         order,
         exit,
         files,
@@ -193,12 +197,13 @@ fn explain_with(
     )
 }
 
-/// What there is to say of the end of a run, by the notes that were kept of it.
+/// What there is to say of the end of a run, by the notes that were kept of it, where what it judged can be read again.
 ///
 /// # Errors
 /// Where memory is refused.
-pub fn explain_end(
+pub fn explain_end<A: Again>(
     alloc: Global,
+    again: &A,
     order: Order<'_>,
     exit: Exit,
     notes: &Notes,
@@ -206,5 +211,5 @@ pub fn explain_end(
     let first = notes.first.end(alloc)?;
     let second = notes.second.end(alloc)?;
     let third = notes.third.end(alloc)?;
-    explain_with(alloc, order, exit, (&first, &second, &third), notes)
+    explain_with(alloc, again, order, exit, (&first, &second, &third), notes)
 }
