@@ -13,6 +13,8 @@ from pathlib import Path
 from program import ROOT
 
 RT = os.environ.get("RT", "rt")
+# The line behind what `rt` said of a crate, once a lane has proved it.
+PROVED = "lanes: proved\n"
 
 
 @lru_cache(None)
@@ -48,15 +50,17 @@ def is_program(crate):
     return (ROOT / "crates" / crate / "src/main.rt").is_file()
 
 
-def is_kept(crate):
-    """Whether this checkout keeps a crate as its sources are, and those of all below it: what was kept last is younger than they."""
+def is_kept(crate, said):
+    """Whether this checkout keeps a crate as its sources are, and those of all below it: the file with what was said of it ends in that it
+    was proved, and is younger than they."""
 
     def last_changed(it):
         parts = [ROOT / "crates" / it / part for part in ("src", "specs", "proofs")]
         return max(file.stat().st_mtime for part in parts if part.is_dir() for file in [part, *part.rglob("*")])
 
-    stamp = ROOT / "crates" / crate / "out/rlib/stamp"
-    return stamp.is_file() and max(map(last_changed, below(crate) | {crate})) < stamp.stat().st_mtime
+    if not (ROOT / "crates" / crate / "out").is_dir() or not said.is_file() or not said.read_text(errors="replace").endswith(PROVED):
+        return False
+    return max(map(last_changed, below(crate) | {crate})) < said.stat().st_mtime
 
 
 def linked(file, to):
