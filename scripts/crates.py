@@ -1,4 +1,5 @@
 """The crates of crates.txt, and how those that do not stand on one another are proved side by side."""
+import hashlib
 import os
 import shutil
 import signal
@@ -13,8 +14,6 @@ from pathlib import Path
 from program import ROOT
 
 RT = os.environ.get("RT", "rt")
-# The line behind what `rt` said of a crate, once a lane has proved it.
-PROVED = "lanes: proved\n"
 
 
 @lru_cache(None)
@@ -50,17 +49,33 @@ def is_program(crate):
     return (ROOT / "crates" / crate / "src/main.rt").is_file()
 
 
+@lru_cache(None)
+def toolchain():
+    """The toolchain, as it names itself."""
+    return subprocess.run([RT, "version"], check=True, capture_output=True, text=True).stdout.strip()
+
+
+@lru_cache(None)
+def own_sum(crate):
+    """One digest of a crate's line and sources, as they were when this was asked first."""
+    said = hashlib.sha256(f"{lines()[crate]}\n".encode())
+    for path in sorted(it for part in ("src", "specs", "proofs") for it in (ROOT / "crates" / crate / part).rglob("*") if it.is_file()):
+        data = path.read_bytes()
+        said.update(f"{path.relative_to(ROOT)} {len(data)}\n".encode() + data)
+    return said.hexdigest()
+
+
+def proved_line(crate):
+    """What stands behind all that `rt` said of a crate, once a lane has proved it: with what toolchain, and of which sources, all below."""
+    told = "".join(f"{own_sum(it)}\n" for it in in_order(below(crate) | {crate}))
+    return f"lanes: proved {hashlib.sha256(f'{toolchain()}{told}'.encode()).hexdigest()}\n"
+
+
 def is_kept(crate, said):
-    """Whether this checkout keeps a crate as its sources are, and those of all below it: the file with what was said of it ends in that it
-    was proved, and is younger than they."""
-
-    def last_changed(it):
-        parts = [ROOT / "crates" / it / part for part in ("src", "specs", "proofs")]
-        return max(file.stat().st_mtime for part in parts if part.is_dir() for file in [part, *part.rglob("*")])
-
-    if not (ROOT / "crates" / crate / "out").is_dir() or not said.is_file() or not said.read_text(errors="replace").endswith(PROVED):
-        return False
-    return max(map(last_changed, below(crate) | {crate})) < said.stat().st_mtime
+    """Whether this checkout keeps a crate as its sources are, and those of all below it, by this toolchain: the file with what was said of
+    it ends in that."""
+    is_there = (ROOT / "crates" / crate / "out").is_dir() and said.is_file()
+    return is_there and said.read_text(errors="replace").endswith(proved_line(crate))
 
 
 def linked(file, to):
