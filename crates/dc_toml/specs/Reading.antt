@@ -7,6 +7,8 @@ use Rattle.dc_document.specs.declared.fault.TableRule.TheVariants.{NotToml, Vers
 use Rattle.dc_document.specs.declared.parts.Version.{Version}
 use Rattle.dc_document.specs.declared.parts.Version.TheVariants.{One, Two}
 use Rattle.dc_document.specs.declared.fault.Section.TheVariants.{Top, Parameter, Bus, Stream, Router, Output, Label}
+use Rattle.dc_toml.specs.declared.layout.Layout.{Layout}
+use Rattle.dc_toml.specs.declared.layout.Layout.TheVariants.{Wanted, Open}
 use Rattle.dc_toml.specs.declared.place.TablePlace.{TablePlace}
 use Rattle.dc_toml.specs.Faults.{Reading, place, refused, ◌>>=◌, wanted, found}
 use Rattle.dc_toml.specs.Written.{Written, nothing_written, and_parameter, and_bus, and_stream, and_router, and_output, and_label}
@@ -127,43 +129,68 @@ read_router d v = do
   visits ← names_at (next_router d) (codes "visits") 1 MOST_VISITS ms
   Ok (and_router d (record { name = name; steps = steps; within = within; most = most; visits = visits }))
 
+-- ---- layouts: the frame of an output, the stale times and the offsets of its labels
+
+-- the keys of a table, all of them where the layout is wanted; else those of the layout may be absent
+abbrev pub keyed_by : Layout → TablePlace → (all besides : List (List ℕ)) → Members → Reading (Unit {0})
+keyed_by Wanted p all besides ms = keyed p all ms
+keyed_by Open p all besides ms = known p all ms >>= (λ k. present p besides ms)
+
+-- the number at a key of the layout; where that is open nothing there is looked at, and the least stands for it
+abbrev pub laid_number : Layout → TablePlace → List ℕ → (low high : ℕ) → Members → Reading ℕ
+laid_number Wanted p key low high ms = number_at p key low high ms
+laid_number Open p key low high ms = Ok low
+
+-- the offsets of a label; where the layout is open there are none
+abbrev pub laid_offsets : Layout → TablePlace → Members → Reading (List ℕ)
+laid_offsets Wanted p ms = offsets_at p (codes "offsets") 1 MOST_OFFSETS ms
+laid_offsets Open p ms = Ok []
+
 -- ---- outputs, each followed by its labels
+
+-- the keys of a label besides its layout
+abbrev pub label_keys_besides : List (List ℕ)
+label_keys_besides = codes "name" ∷ codes "label" ∷ codes "equipment" ∷ codes "sdi" ∷ codes "sources" ∷ codes "age" ∷ []
 
 -- the keys of a label
 abbrev pub label_keys : List (List ℕ)
 label_keys = codes "name" ∷ codes "label" ∷ codes "equipment" ∷ codes "sdi" ∷ codes "sources" ∷ codes "stale" ∷ codes "age" ∷ codes "offsets" ∷ []
 
 -- a label of the last output
-unfoldable pub read_label : Written → Data → Reading Written
-read_label d v = do
+unfoldable pub read_label : Layout → Written → Data → Reading Written
+read_label y d v = do
   ms ← table_of (next_label d) v
-  k ← keyed (next_label d) label_keys ms
+  k ← keyed_by y (next_label d) label_keys label_keys_besides ms
   name ← name_at (next_label d) (codes "name") ms
   label ← label_at (next_label d) (codes "label") ms
   equipment ← equipment_at (next_label d) (codes "equipment") ms
   sdi ← sdi_at (next_label d) (codes "sdi") ms
   sources ← names_at (next_label d) (codes "sources") 1 MOST_SOURCES ms
-  stale ← number_at (next_label d) (codes "stale") 1 LONGEST_STALE ms
+  stale ← laid_number y (next_label d) (codes "stale") 1 LONGEST_STALE ms
   age ← number_at (next_label d) (codes "age") 1 GREATEST_AGE ms
-  offsets ← offsets_at (next_label d) (codes "offsets") 1 MOST_OFFSETS ms
+  offsets ← laid_offsets y (next_label d) ms
   Ok (and_label d (record { output = length d.outputs - 1; name = name; label = label; equipment = equipment; sdi = sdi; sources = sources; stale = stale; age = age; offsets = offsets }))
+
+-- the keys of an output besides its layout
+abbrev pub output_keys_besides : List (List ℕ)
+output_keys_besides = codes "name" ∷ codes "speed" ∷ codes "steps" ∷ codes "within" ∷ codes "label" ∷ []
 
 -- the keys of an output
 abbrev pub output_keys : List (List ℕ)
 output_keys = codes "name" ∷ codes "speed" ∷ codes "steps" ∷ codes "within" ∷ codes "frame" ∷ codes "label" ∷ []
 
 -- an output and its labels
-unfoldable pub read_output : Written → Data → Reading Written
-read_output d v = do
+unfoldable pub read_output : Layout → Written → Data → Reading Written
+read_output y d v = do
   ms ← table_of (next_output d) v
-  k ← keyed (next_output d) output_keys ms
+  k ← keyed_by y (next_output d) output_keys output_keys_besides ms
   name ← name_at (next_output d) (codes "name") ms
   speed ← speed_at (next_output d) (codes "speed") ms
   steps ← number_at (next_output d) (codes "steps") 1 MOST_STEPS ms
   within ← number_at (next_output d) (codes "within") 1 LONGEST_WITHIN ms
-  frame ← number_at (next_output d) (codes "frame") 1 LONGEST_FRAME ms
+  frame ← laid_number y (next_output d) (codes "frame") 1 LONGEST_FRAME ms
   labels ← tables_at (next_output d) (codes "label") 1 MOST_MEMBERS ms
-  each_table read_label (and_output d (record { name = name; speed = speed; steps = steps; within = within; frame = frame })) labels
+  each_table (read_label y) (and_output d (record { name = name; speed = speed; steps = steps; within = within; frame = frame })) labels
 
 -- ---- the whole text
 
@@ -213,20 +240,20 @@ lists_of t ms = do
   Ok (record { parameters = parameters; buses = buses; routers = routers; outputs = outputs })
 
 -- and then all of them
-unfoldable pub members_of : Written → TopItems → Reading Written
-members_of d lists = do
+unfoldable pub members_of : Layout → Written → TopItems → Reading Written
+members_of y d lists = do
   a ← each_table read_parameter d lists.parameters
   b ← each_table read_bus a lists.buses
   c ← each_table read_router b lists.routers
-  each_table read_output c lists.outputs
+  each_table (read_output y) c lists.outputs
 
 -- the tables that a document says
-unfoldable pub tables_in : Members → Reading Written
-tables_in ms = do
+unfoldable pub tables_in : Layout → Members → Reading Written
+tables_in y ms = do
   version ← version_of top ms
   tick_us ← tick_of top ms
   lists ← lists_of top ms
-  members_of (nothing_written version tick_us) lists
+  members_of y (nothing_written version tick_us) lists
 
 -- the TOML document that a text is: within its limit, in UTF-8, by the reading of `toml`, else T01
 unfoldable pub document_of : List ℕ → Reading Members
@@ -234,4 +261,8 @@ document_of text = if nat_le (length text) TEXT_LIMIT && is_utf8 text then found
 
 -- the tables of a text
 abbrev pub tables_of : List ℕ → Reading Written
-tables_of text = document_of text >>= tables_in
+tables_of text = document_of text >>= tables_in Wanted
+
+-- the tables of a text in which no layout need stand, and none is looked at
+abbrev pub unlaid_tables_of : List ℕ → Reading Written
+unlaid_tables_of text = document_of text >>= tables_in Open

@@ -5,8 +5,9 @@ ghost use Rattle.toml.specs.Data.{get_member, same_key, as_str, as_integer, as_b
 ghost use Rattle.toml.specs.View.{view, table_view};
 ghost use Rattle.dc_toml.specs.Faults.{seen};
 ghost use Rattle.dc_toml.specs.Keys.{only_keys, all_keys, table_of, known as known_keys, present as present_keys, keyed as keyed_by, bool_at, number_in, number_at, text_at, name_at, speed_at, format_at, label_at, equipment_at, sdi_at, stream_sdi_at};
-ghost use Rattle.dc_toml.specs.Reading.{version_of, bus_keys, stream_keys, police_at, jitter_at};
+ghost use Rattle.dc_toml.specs.Reading.{version_of, bus_keys, stream_keys, police_at, jitter_at, keyed_by as keyed_by_layout, label_keys, label_keys_besides, laid_number as number_laid, output_keys, output_keys_besides};
 
+use crate::layout::Layout;
 use crate::place::TablePlace;
 use crate::spellings::{self, is_same};
 use dc_dict::Equipment;
@@ -127,6 +128,56 @@ pub fn stream_keyed(table: &Table, version: Version, place: TablePlace) -> Resul
     }
 }
 
+/// Refuses keys that are none of these, and then that one is absent: one of all, or where the layout is open one of those besides it.
+fn keyed_by(
+    table: &Table,
+    layout: Layout,
+    all: &[&str],
+    besides: &[&str],
+    place: TablePlace,
+) -> Result<(), TableFault>
+    ensures { result ≡ keyed_by_layout layout place (map (λ k. k.now) all.now) (map (λ k. k.now) besides.now) (table_view table.now) }
+{
+    match layout {
+        Layout::Wanted => keyed(table, all, place),
+        Layout::Open => {
+            known(table, all, place)?;
+            present(table, besides, place)
+        }
+    }
+}
+
+/// Refuses keys that are not those of an output.
+pub fn output_keyed(table: &Table, layout: Layout, place: TablePlace) -> Result<(), TableFault>
+    ensures { result ≡ keyed_by_layout layout place output_keys output_keys_besides (table_view table.now) }
+{
+    keyed_by(
+        table,
+        layout,
+        &["name", "speed", "steps", "within", "frame", "label"],
+        &["name", "speed", "steps", "within", "label"],
+        place,
+    )
+}
+
+/// Refuses keys that are not those of a label.
+pub fn label_keyed(table: &Table, layout: Layout, place: TablePlace) -> Result<(), TableFault>
+    ensures { result ≡ keyed_by_layout layout place label_keys label_keys_besides (table_view table.now) }
+{
+    let all = &[
+        "name",
+        "label",
+        "equipment",
+        "sdi",
+        "sources",
+        "stale",
+        "age",
+        "offsets",
+    ];
+    let besides = &["name", "label", "equipment", "sdi", "sources", "age"];
+    keyed_by(table, layout, all, besides, place)
+}
+
 /// The whole number at a key.
 fn integer(table: &Table, key: &str) -> Option<i64>
     ensures { result ≡ option_and_then as_integer (get_member key.now (table_view table.now)) }
@@ -211,6 +262,23 @@ pub fn number(
     ensures { result ≡ number_at place key.now low high (table_view table.now) }
 {
     number_between(integer(table, key), low, high, place)
+}
+
+/// The number at a key of the layout, within its range; the least where the layout is open.
+pub fn laid_number(
+    table: &Table,
+    layout: Layout,
+    key: &str,
+    low: u32,
+    high: u32,
+    place: TablePlace,
+) -> Result<u32, TableFault>
+    ensures { result ≡ number_laid layout place key.now low high (table_view table.now) }
+{
+    match layout {
+        Layout::Wanted => number(table, key, low, high, place),
+        Layout::Open => Ok(low),
+    }
 }
 
 /// The text at a key, if it is one.

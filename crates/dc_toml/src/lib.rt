@@ -5,10 +5,12 @@
 #![tactic(auto)]
 
 pub mod keys;
+mod layout;
 pub mod lists;
 pub mod place;
 mod read;
 mod sections;
 mod spellings;
 
-pub use read::{document, read_parts};
+pub use layout::Layout;
+pub use read::{document, read_parts, read_unlaid};

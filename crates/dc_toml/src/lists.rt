@@ -6,10 +6,12 @@ ghost use Rattle.dc_document.specs.declared.fault.TableRule.TheVariants.{WrongKi
 ghost use Rattle.dc_toml.specs.Faults.{seen, Gives, wanted};
 ghost use Rattle.dc_toml.specs.Keys.{array_at, all_items, is_text, is_number, each_item, name_item as name_in_item, number_item, counted, items_len, names_at, offsets_at, tables_at, optional_at};
 ghost use Rattle.dc_document.specs.declared.limits.TheConstants.{LAST_OFFSET};
+ghost use Rattle.dc_toml.specs.Reading.{laid_offsets as offsets_laid};
 
 use crate::keys::{find, number_between};
+use crate::layout::Layout;
 use crate::place::TablePlace;
-use dc_document::{BuildError, LAST_OFFSET, Name, TableFault, TableRule};
+use dc_document::{BuildError, LAST_OFFSET, MOST_OFFSETS, Name, TableFault, TableRule};
 use std::alloc::{AllocError, Global};
 use toml::{Table, Value};
 
@@ -173,6 +175,21 @@ pub fn offsets(
     let offsets = each_offset(alloc, values, place)?;
     check_count(values, low, high, place)?;
     Ok(offsets)
+}
+
+/// The offsets of a label; none where the layout is open.
+pub fn laid_offsets(
+    alloc: Global,
+    table: &Table,
+    layout: Layout,
+    place: TablePlace,
+) -> Result<Vec<u32>, BuildError>
+    ensures { Gives (λ v. v.items) result (offsets_laid layout place (table_view table.now)) }
+{
+    match layout {
+        Layout::Wanted => offsets(alloc, table, "offsets", 1, MOST_OFFSETS, place),
+        Layout::Open => Ok(Vec::new(alloc)),
+    }
 }
 
 /// The list of tables at a key, before any of them is looked at.

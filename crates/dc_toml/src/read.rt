@@ -3,17 +3,18 @@ ghost use Rattle.std.specs.Prelude.{◌≡◌};
 ghost use Rattle.toml.specs.View.{table_view, items_view};
 ghost use Rattle.dc_toml.specs.Faults.{seen, Gives, Leaves};
 ghost use Rattle.dc_toml.specs.Written.{written};
-ghost use Rattle.dc_toml.specs.Reading.{document_of, tick_of, lists_of, members_of, tables_in, tables_of};
+ghost use Rattle.dc_toml.specs.Reading.{document_of, tick_of, lists_of, members_of, tables_in, tables_of, unlaid_tables_of};
 
 use crate::keys::{known, number, present, version};
+use crate::layout::Layout;
 use crate::lists::optional_tables;
 use crate::place::TablePlace;
-use crate::sections::read_tables_of;
+use crate::sections::{read_outputs, read_tables_of};
 use dc_bound::LONGEST_TICK;
 use dc_dict::Parameter;
 use dc_document::{
-    BuildError, BusPart, MOST_BUSES, MOST_OUTPUTS, MOST_PARAMETERS, MOST_ROUTERS, OutputPart,
-    Parts, RouterPart, SHORTEST_TICK, Section, TEXT_LIMIT, TableFault, TableRule,
+    BuildError, BusPart, MOST_BUSES, MOST_OUTPUTS, MOST_PARAMETERS, MOST_ROUTERS, Parts,
+    RouterPart, SHORTEST_TICK, Section, TEXT_LIMIT, TableFault, TableRule,
 };
 use std::alloc::{AllocError, Global};
 use toml::{Table, Value};
@@ -67,25 +68,26 @@ fn lists<'a>(document: &'a Table, top: TablePlace) -> Result<TopLists<'a>, Table
 #[tactic(auto, unfolding(crate::specs::Reading::members_of))]
 fn members(
     alloc: Global,
+    layout: Layout,
     parts: &mut Parts,
     parameters: &[Value],
     buses: &[Value],
     routers: &[Value],
     outputs: &[Value],
 ) -> Result<(), BuildError>
-    ensures { Leaves (written parts.new) result (members_of (written parts.old)
+    ensures { Leaves (written parts.new) result (members_of layout (written parts.old)
         (record { parameters = items_view parameters.now; buses = items_view buses.now; routers = items_view routers.now; outputs = items_view outputs.now })) }
 {
     read_tables_of::<Parameter>(alloc, parts, parameters)?;
     read_tables_of::<BusPart>(alloc, parts, buses)?;
     read_tables_of::<RouterPart>(alloc, parts, routers)?;
-    read_tables_of::<OutputPart>(alloc, parts, outputs)
+    read_outputs(alloc, layout, parts, outputs)
 }
 
 /// The parts that a document says.
 #[tactic(auto, unfolding(crate::specs::Reading::tables_in))]
-fn parts(alloc: Global, document: &Table) -> Result<Parts, BuildError>
-    ensures { Gives written result (tables_in (table_view document.now)) }
+fn parts(alloc: Global, layout: Layout, document: &Table) -> Result<Parts, BuildError>
+    ensures { Gives written result (tables_in layout (table_view document.now)) }
 {
     let top = TablePlace::new(Section::Top, 0);
     let version = version(document, top)?;
@@ -94,6 +96,7 @@ fn parts(alloc: Global, document: &Table) -> Result<Parts, BuildError>
     let mut parts = Parts::new(alloc, version, tick_us);
     members(
         alloc,
+        layout,
         &mut parts,
         lists.parameters,
         lists.buses,
@@ -133,5 +136,19 @@ pub fn read_parts(alloc: Global, text: &[u8]) -> Result<Parts, BuildError>
     ensures { Gives written result (tables_of text.now) }
 {
     let table = document(alloc, text)?;
-    parts(alloc, &table)
+    parts(alloc, Layout::Wanted, &table)
+}
+
+/// The parts that a text says in which no layout need stand: what there is of `frame`, `stale` and `offsets` is not looked at, each frame
+/// and each stale time is 1, and no label has an offset.
+///
+/// # Errors
+///
+/// `Refused` with the first fault of the text (T01 to T08), by the definition that the contract names; `Memory` where
+/// an allocation failed.
+pub fn read_unlaid(alloc: Global, text: &[u8]) -> Result<Parts, BuildError>
+    ensures { Gives written result (unlaid_tables_of text.now) }
+{
+    let table = document(alloc, text)?;
+    parts(alloc, Layout::Open, &table)
 }

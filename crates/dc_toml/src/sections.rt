@@ -5,20 +5,21 @@ ghost use Rattle.toml.specs.View.{view, items_view};
 ghost use Rattle.dc_document.specs.declared.fault.TableFault.{TableFault as SpecFault};
 ghost use Rattle.dc_toml.specs.Faults.{Leaves};
 ghost use Rattle.dc_toml.specs.Written.{Written, written, router_text, label_text, and_bus, and_router, and_label, and_output};
-ghost use Rattle.dc_toml.specs.Reading.{next_router, next_label, each_table, read_parameter, read_bus, read_stream as stream_reading, read_router, read_output, read_label as label_reading};
+ghost use Rattle.dc_toml.specs.Reading.{next_router, next_label, each_table, read_parameter, read_bus, read_stream as stream_reading, read_router, read_output as output_reading, read_label as label_reading};
 
 use crate::keys::{
-    bus_keyed, equipment, format, jitter, keyed, label, name, number, police, sdi, speed,
-    stream_keyed, stream_sdi, table,
+    bus_keyed, equipment, format, jitter, keyed, label, label_keyed, laid_number, name, number,
+    output_keyed, police, sdi, speed, stream_keyed, stream_sdi, table,
 };
-use crate::lists::{names, offsets, tables};
+use crate::layout::Layout;
+use crate::lists::{laid_offsets, names, tables};
 use crate::place::TablePlace;
 use dc_bound::{GREATEST_QUEUE, LONGEST_FRAME};
 use dc_dict::Parameter;
 use dc_document::{
     BuildError, BusPart, GREATEST_AGE, LONGEST_INTERVAL_US, LONGEST_STALE, LONGEST_WITHIN,
-    LabelPart, MOST_MEMBERS, MOST_OFFSETS, MOST_SOURCES, MOST_STEPS, MOST_VISITS, OutputPart,
-    Parts, RouterPart, Section, StreamPart,
+    LabelPart, MOST_MEMBERS, MOST_SOURCES, MOST_STEPS, MOST_VISITS, OutputPart, Parts, RouterPart,
+    Section, StreamPart,
 };
 use std::alloc::{AllocError, Global};
 use toml::Value;
@@ -200,33 +201,28 @@ impl TopTable for RouterPart {
 
 /// The label of the output with this index that a value is.
 #[tactic(auto, unfolding(crate::specs::Reading::read_label))]
-fn read_label(alloc: Global, parts: &mut Parts, value: &Value) -> Result<(), BuildError>
+fn read_label(
+    alloc: Global,
+    layout: Layout,
+    parts: &mut Parts,
+    value: &Value,
+) -> Result<(), BuildError>
     requires { 1 ≤ length parts.old.outputs }
-    ensures reading { Leaves (written parts.new) result (label_reading (written parts.old) (view value.now)) }
+    ensures reading { Leaves (written parts.new) result (label_reading layout (written parts.old) (view value.now)) }
     ensures outputs { OnOk result (parts.new.outputs ≡ parts.old.outputs) }
 {
     let place = label_place(parts);
     let output = parts.output_count() - 1;
     let table = table(value, place)?;
-    let keys = &[
-        "name",
-        "label",
-        "equipment",
-        "sdi",
-        "sources",
-        "stale",
-        "age",
-        "offsets",
-    ];
-    keyed(table, keys, place)?;
+    label_keyed(table, layout, place)?;
     let name = name(table, "name", place)?;
     let label = label(table, "label", place)?;
     let equipment = equipment(table, "equipment", place)?;
     let sdi = sdi(table, "sdi", place)?;
     let sources = names(alloc, table, "sources", 1, MOST_SOURCES, place)?;
-    let stale = number(table, "stale", 1, LONGEST_STALE, place)?;
+    let stale = laid_number(table, layout, "stale", 1, LONGEST_STALE, place)?;
     let age = number(table, "age", 1, GREATEST_AGE, place)?;
-    let offsets = offsets(alloc, table, "offsets", 1, MOST_OFFSETS, place)?;
+    let offsets = laid_offsets(alloc, table, layout, place)?;
     add_label(
         parts,
         LabelPart {
@@ -245,12 +241,17 @@ fn read_label(alloc: Global, parts: &mut Parts, value: &Value) -> Result<(), Bui
 }
 
 /// The labels of the last output, in order.
-fn read_labels(alloc: Global, parts: &mut Parts, values: &[Value]) -> Result<(), BuildError>
+fn read_labels(
+    alloc: Global,
+    layout: Layout,
+    parts: &mut Parts,
+    values: &[Value],
+) -> Result<(), BuildError>
     requires { 1 ≤ length parts.old.outputs }
-    ensures { Leaves (written parts.new) result (each_table label_reading (written parts.old) (items_view values.now)) }
+    ensures { Leaves (written parts.new) result (each_table (label_reading layout) (written parts.old) (items_view values.now)) }
 {
     for value in values {
-        match read_label(alloc, parts, value) {
+        match read_label(alloc, layout, parts, value) {
             Ok(()) => {}
             Err(error) => return Err(error),
         }
@@ -258,28 +259,49 @@ fn read_labels(alloc: Global, parts: &mut Parts, values: &[Value]) -> Result<(),
     Ok(())
 }
 
-impl TopTable for OutputPart {
-    ghost reading = { read_output };
+/// The output that a value is, and its labels.
+#[tactic(auto, unfolding(crate::specs::Reading::read_output))]
+fn read_output(
+    alloc: Global,
+    layout: Layout,
+    parts: &mut Parts,
+    value: &Value,
+) -> Result<(), BuildError>
+    ensures { Leaves (written parts.new) result (output_reading layout (written parts.old) (view value.now)) }
+{
+    let place = TablePlace::new(Section::Output, parts.output_count());
+    let table = table(value, place)?;
+    output_keyed(table, layout, place)?;
+    let name = name(table, "name", place)?;
+    let speed = speed(table, "speed", place)?;
+    let steps = number(table, "steps", 1, MOST_STEPS, place)?;
+    let within = number(table, "within", 1, LONGEST_WITHIN, place)?;
+    let frame = laid_number(table, layout, "frame", 1, LONGEST_FRAME, place)?;
+    let labels = tables(table, "label", 1, MOST_MEMBERS, place)?;
+    parts.push_output(OutputPart {
+        name,
+        speed,
+        steps,
+        within,
+        frame,
+    })?;
+    read_labels(alloc, layout, parts, labels)
+}
 
-    #[tactic(auto, unfolding(crate::specs::Reading::read_output))]
-    fn read(alloc: Global, parts: &mut Parts, value: &Value) -> Result<(), BuildError> {
-        let place = TablePlace::new(Section::Output, parts.output_count());
-        let table = table(value, place)?;
-        let keys = &["name", "speed", "steps", "within", "frame", "label"];
-        keyed(table, keys, place)?;
-        let name = name(table, "name", place)?;
-        let speed = speed(table, "speed", place)?;
-        let steps = number(table, "steps", 1, MOST_STEPS, place)?;
-        let within = number(table, "within", 1, LONGEST_WITHIN, place)?;
-        let frame = number(table, "frame", 1, LONGEST_FRAME, place)?;
-        let labels = tables(table, "label", 1, MOST_MEMBERS, place)?;
-        parts.push_output(OutputPart {
-            name,
-            speed,
-            steps,
-            within,
-            frame,
-        })?;
-        read_labels(alloc, parts, labels)
+/// The outputs in order, each followed by its labels.
+pub fn read_outputs(
+    alloc: Global,
+    layout: Layout,
+    parts: &mut Parts,
+    values: &[Value],
+) -> Result<(), BuildError>
+    ensures { Leaves (written parts.new) result (each_table (output_reading layout) (written parts.old) (items_view values.now)) }
+{
+    for value in values {
+        match read_output(alloc, layout, parts, value) {
+            Ok(()) => {}
+            Err(error) => return Err(error),
+        }
     }
+    Ok(())
 }

@@ -1,0 +1,2 @@
+-- Lists that are paired.
+pub mod Pairs
