@@ -59,7 +59,7 @@ pub fn ticks_of(wish: &Wish) -> &[u32] {
 }
 
 /// That a text is too long to be read.
-fn too_long(alloc: Global, tick: u64, length: usize) -> Untabled {
+pub(crate) fn too_long(alloc: Global, tick: u64, length: usize) -> Untabled {
     let mut obstacles = Obstacles::new(alloc, tick);
     obstacles.stage = 4;
     obstacles.lines.begin("");

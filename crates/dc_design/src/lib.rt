@@ -4,10 +4,13 @@
 mod bus_lines;
 mod drafts;
 mod furthest;
+mod laid_lines;
+mod layouts;
 mod output_lines;
 mod tables;
 mod words;
 
-pub use dc_plan::Obstacles;
+pub use dc_plan::{Obstacles, Waiting};
 pub use drafts::{Unread, Untabled, Wish, draft, ticks_of};
 pub use furthest::Furthest;
+pub use layouts::{lay_out, set_apart};

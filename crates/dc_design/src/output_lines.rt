@@ -5,13 +5,13 @@ use dc_plan::{LabelPlan, OutputPlan, Plan, part, up};
 
 /// The least and the greatest gap between offsets.
 #[derive(Clone, Copy)]
-struct Gaps {
-    least: u64,
-    most: u64,
+pub(crate) struct Gaps {
+    pub(crate) least: u64,
+    pub(crate) most: u64,
 }
 
 /// The gaps between offsets round a frame.
-fn gaps_of(offsets: &[u64], span: Span, frame: u64) -> Gaps {
+pub(crate) fn gaps_of(offsets: &[u64], span: Span, frame: u64) -> Gaps {
     let mut gaps = Gaps {
         least: u64::MAX,
         most: 0,
@@ -111,7 +111,7 @@ fn say_sources(document: &Document, label: &Label, lines: &mut Lines) {
 }
 
 /// Says the offsets of a label.
-fn say_offsets(plan: &Plan, span: Span, lines: &mut Lines) {
+pub(crate) fn say_offsets(plan: &Plan, span: Span, lines: &mut Lines) {
     for place in span.first..span.end {
         let offset = plan.frames.offsets.get(place).copied().unwrap_or(0);
         let is_first = place == span.first;

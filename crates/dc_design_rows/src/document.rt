@@ -174,6 +174,8 @@ pub struct Document {
     pub parameters: Vec<Parameter>,
     /// In which units its times are told.
     pub units: Units,
+    /// Whether it is of tables, which say ticks and have names for all labels; else of sheets.
+    pub is_of_tables: bool,
 }
 
 /// Why rows are no document.
@@ -187,7 +189,7 @@ pub enum Undocumented {
 
 impl Document {
     /// A document of nothing.
-    fn empty(alloc: Global) -> Document {
+    pub(crate) fn empty(alloc: Global) -> Document {
         Document {
             buses: Vec::new(alloc),
             streams: Vec::new(alloc),
@@ -198,6 +200,7 @@ impl Document {
             sources: Vec::new(alloc),
             parameters: Vec::new(alloc),
             units: Units::microseconds(),
+            is_of_tables: false,
         }
     }
 
@@ -230,6 +233,19 @@ impl Document {
     pub fn told_in(mut self, units: Units) -> Document {
         self.units = units;
         self
+    }
+
+    /// Begins a line on a label: by its row and this column, or in tables by its name.
+    pub fn begin_label(&self, label: &Label, column: &'static str, lines: &mut Lines) {
+        lines.begin("");
+        if self.is_of_tables {
+            lines.say("label {}: ", &[Fact::Name(label.name)]);
+        } else {
+            lines.say(
+                "outputs row {} column {}: ",
+                &[Fact::Number(label.row), Fact::Word(column)],
+            );
+        }
     }
 
     /// The parameter of this number.
@@ -329,7 +345,7 @@ fn list_labels(labels: &[Label], output: usize, list: &mut Vec<usize>) -> Result
 }
 
 /// Lists the streams bus by bus.
-fn order_streams(document: &mut Document) -> Result<(), AllocError> {
+pub(crate) fn order_streams(document: &mut Document) -> Result<(), AllocError> {
     for number in 0..document.buses.len() {
         let first = document.on_bus.len();
         list_streams(&document.streams, number, &mut document.on_bus)?;
@@ -342,7 +358,7 @@ fn order_streams(document: &mut Document) -> Result<(), AllocError> {
 }
 
 /// Lists the labels output by output.
-fn order_labels(document: &mut Document) -> Result<(), AllocError> {
+pub(crate) fn order_labels(document: &mut Document) -> Result<(), AllocError> {
     for number in 0..document.outputs.len() {
         let first = document.on_output.len();
         list_labels(&document.labels, number, &mut document.on_output)?;

@@ -1,5 +1,5 @@
-//! The document of an interface, as the rows of its two sheets say it together: buses with their streams, outputs with
-//! their labels, and one interval for each label with equipment code. Or what contradicts what.
+//! The document of an interface, as the rows of its two sheets say it together, or as tables say it: buses with their
+//! streams, outputs with their labels, and one interval for each label with equipment code. Or what contradicts what.
 #![tactic(auto)]
 
 mod document;
@@ -10,6 +10,7 @@ mod names;
 mod outputs;
 mod parameters;
 mod sources;
+mod tabled;
 mod tasks;
 mod units;
 mod words;

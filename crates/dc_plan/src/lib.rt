@@ -3,10 +3,12 @@
 #![tactic(auto)]
 
 mod ages;
+mod laid;
 mod stages;
 
 pub use ages::LabelPlan;
 pub use dc_plan_frames::{Frames, OutputPlan};
 pub use dc_plan_ticks::{Knobs, Obstacles, Pace, part, up};
 pub use dc_plan_visits::{BusPlan, RouterPlan, Visits};
+pub use laid::{Waiting, plan_layout};
 pub use stages::{Plan, Unplanned, make_plan};

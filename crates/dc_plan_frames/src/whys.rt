@@ -22,14 +22,18 @@ fn begin(scene: &Scene<'_>, obstacles: &mut Obstacles) {
         .say("output {}: ", &[Fact::Name(scene.output.name)]);
 }
 
-/// Names a label by its octal number and its row.
+/// Names a label by its octal number and its row, or in tables by its name.
 fn say_label(scene: &Scene<'_>, number: usize, obstacles: &mut Obstacles) {
-    if let Some(label) = label_at(scene, number) {
-        obstacles.lines.say(
-            "label {} (outputs row {})",
-            &[Fact::Octal(label.label), Fact::Number(label.row)],
-        );
+    let Some(label) = label_at(scene, number) else {
+        return;
+    };
+    if scene.document.is_of_tables {
+        return obstacles.lines.say("label {}", &[Fact::Name(label.name)]);
     }
+    obstacles.lines.say(
+        "label {} (outputs row {})",
+        &[Fact::Octal(label.label), Fact::Number(label.row)],
+    );
 }
 
 /// Tells that the labels of an output want more of the wire than there is.

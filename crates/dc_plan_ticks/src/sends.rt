@@ -41,6 +41,7 @@ fn tell_sooner(
     output: &Output,
     gap: (u64, u64),
     unit: TimeUnit,
+    is_of_tables: bool,
     knobs: &Knobs,
     obstacles: &mut Obstacles,
 ) {
@@ -50,10 +51,14 @@ fn tell_sooner(
     let (low, high) = gap;
     let most = part(high.saturating_sub(low).saturating_sub(1), 2);
     if most >= gap_of(output, knobs).saturating_mul(task.steps).max(1) {
-        obstacles.lines.say(
-            ", or a within of at most {}",
-            &[Fact::Time(most.saturating_mul(knobs.tick), unit)],
-        );
+        let longest = if is_of_tables {
+            Fact::Number(most)
+        } else {
+            Fact::Time(most.saturating_mul(knobs.tick), unit)
+        };
+        obstacles
+            .lines
+            .say(", or a within of at most {}", &[longest]);
     }
 }
 
@@ -67,22 +72,25 @@ fn faster(output: &Output) -> &'static str {
 
 /// Tells a label whose gaps leave nothing beside the waiting of its sends.
 fn tell_window(
+    document: &Document,
     output: &Output,
     label: &Label,
     parameter: &Parameter,
-    unit: TimeUnit,
     knobs: &Knobs,
     obstacles: &mut Obstacles,
 ) {
-    let (tick, late) = (knobs.tick, sends_of(output, knobs).within);
+    let (tick, late, unit) = (
+        knobs.tick,
+        sends_of(output, knobs).within,
+        document.units.max,
+    );
     let low = up(parameter.min, tick).saturating_add(1);
     let high = part(parameter.max, tick);
     let wanted = low.saturating_add(late.saturating_mul(2)).saturating_add(1);
-    obstacles.lines.begin("");
+    document.begin_label(label, "max", &mut obstacles.lines);
     obstacles.lines.say(
-        "outputs row {} column max: {} to {} are {} to {} ticks of {} us, ",
+        "{} to {} are {} to {} ticks of {} us, ",
         &[
-            Fact::Number(label.row),
             Fact::Time(parameter.min, unit),
             Fact::Time(parameter.max, unit),
             Fact::Number(low),
@@ -100,7 +108,14 @@ fn tell_window(
             Fact::Time(wanted.saturating_mul(tick), unit),
         ],
     );
-    tell_sooner(output, (low, high), unit, knobs, obstacles);
+    tell_sooner(
+        output,
+        (low, high),
+        unit,
+        document.is_of_tables,
+        knobs,
+        obstacles,
+    );
     obstacles.lines.line(
         "{}{}",
         &[Fact::Word(faster(output)), Fact::Word(knobs.shorter)],
@@ -126,14 +141,7 @@ pub fn is_window_told(
         let low = up(parameter.min, knobs.tick).saturating_add(1);
         let wanted = low.saturating_add(late.saturating_mul(2)).saturating_add(1);
         if wanted > part(parameter.max, knobs.tick) {
-            tell_window(
-                output,
-                label,
-                &parameter,
-                document.units.max,
-                knobs,
-                obstacles,
-            );
+            tell_window(document, output, label, &parameter, knobs, obstacles);
             return true;
         }
     }
