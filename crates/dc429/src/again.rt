@@ -1,5 +1,6 @@
 //! The readers by which a run is explained.
 use dc_build::read_tables;
+use dc_design::set_apart;
 use dc_document::{BuildError, TableFault};
 use dc_explain::Again;
 use dc_explain_unreadable::{explain_no_certificate, explain_tables};
@@ -7,7 +8,8 @@ use dc_explain_verdict::{Files, explain_find, explain_text};
 use dc_system_text::{System, read_system};
 use dc_tables::Tables;
 use dc_tell::File;
-use std::alloc::Global;
+use dc_toml::read_unlaid;
+use std::alloc::{AllocError, Global};
 
 /// The readers of the commands.
 #[derive(Clone, Copy)]
@@ -16,6 +18,14 @@ pub(crate) struct Readers;
 impl Again for Readers {
     fn tables(&self, alloc: Global, text: &[u8]) -> Result<Tables, BuildError> {
         read_tables(alloc, text)
+    }
+
+    fn unlaid_tables(&self, alloc: Global, text: &[u8]) -> Result<Tables, BuildError> {
+        let parts = read_unlaid(alloc, text)?;
+        match set_apart(alloc, &parts) {
+            Ok(apart) => read_tables(alloc, apart.as_bytes()),
+            Err(_) => Err(BuildError::Memory(AllocError)),
+        }
     }
 
     fn system(&self, alloc: Global, text: &[u8]) -> Option<System> {

@@ -10,7 +10,7 @@ use Rattle.dc_word.specs.declared.format.Format.{Format}
 use Rattle.dc_word.specs.declared.format.Format.TheVariants.{Bnr, Bcd, Disc}
 use Rattle.dc_command.specs.Program.{program_app}
 use Rattle.dc_command.specs.declared.asked.Order.{Order}
-use Rattle.dc_command.specs.declared.asked.Order.TheVariants.{Decode, Check, Find, Report, ReportObserved, ReportNetwork, Margins, Survey, Trace, Replay, Audit, Observe, Bench, Network, Design, Explain}
+use Rattle.dc_command.specs.declared.asked.Order.TheVariants.{Decode, Check, Find, Layout, Report, ReportObserved, ReportNetwork, Margins, Survey, Trace, Replay, Audit, Observe, Bench, Network, Design, Explain}
 use Rattle.dc_command.specs.declared.explained.When.{When}
 use Rattle.dc_command.specs.declared.explained.When.TheVariants.{Always, Never, Auto}
 use Rattle.dc_command.specs.declared.limits.TheConstants.{LAST_BEGIN, LONGEST_TICK, MOST_DRIFT, MOST_HEADROOM, MOST_TICKS, MOST_WORKERS, SHORTEST_TICK, USUAL_TICKS}
@@ -117,6 +117,7 @@ AsksBy name rows (Check tables certificate workers digest) =
     (name ≡ codes "check") × (first_of (codes "TABLES") rows ≡ Some tables.now) × (first_of (codes "CERT") rows ≡ Some certificate.now)
     × AreGiven (first_of (codes "workers") rows) workers × IsSet (one_of (codes "digest") rows) digest
 AsksBy name rows (Find tables) = (name ≡ codes "find") × (first_of (codes "TABLES") rows ≡ Some tables.now)
+AsksBy name rows (Layout tables) = (name ≡ codes "layout") × (first_of (codes "TABLES") rows ≡ Some tables.now)
 AsksBy name rows (Report tables certificate drift) =
     (name ≡ codes "report") × (first_of (codes "TABLES") rows ≡ Some tables.now) × (option_map (λ s. s.now) certificate ≡ first_of (codes "CERT") rows)
     × DriftIs (first_of (codes "drift") rows) drift × (first_of (codes "observed") rows ≡ None)

@@ -190,9 +190,9 @@ bare_app = on_top (λ s. record s { has_version = true; subcommand_required = tr
 -- the program, whose formats are read by this parser
 abbrev pub program_app : ValueParser → App
 program_app formats =
-    with_subcommand (with_subcommand (with_subcommand (with_subcommand (with_subcommand (with_subcommand (with_subcommand (with_subcommand (with_subcommand (with_subcommand (with_subcommand (with_subcommand (with_subcommand (with_subcommand
+    with_subcommand (with_subcommand (with_subcommand (with_subcommand (with_subcommand (with_subcommand (with_subcommand (with_subcommand (with_subcommand (with_subcommand (with_subcommand (with_subcommand (with_subcommand (with_subcommand (with_subcommand
     bare_app (decode_app formats).top) check_app.top) (tables_app (codes "find")).top) (tables_app (codes "survey")).top) trace_app.top) replay_app.top) audit_app.top) (certificate_app (codes "observe")).top) bench_app.top)
-    network_app.top) report_app.top) margins_app.top) design_app.top) explain_app.top
+    network_app.top) report_app.top) margins_app.top) design_app.top) (tables_app (codes "layout")).top) explain_app.top
 
 -- clap reads this of an argument, which is not global
 abbrev pub IsReadOf : Rule → Arg → Type 0

@@ -28,7 +28,7 @@ pub(crate) const AFTER_FIND: &str = "Example: dc429 find tables.toml > certifica
 A file named - is standard input; one of that name is ./-
 
 The keys of tables, with their units and ranges, stand in docs/formats.md under
-\"Tables\"; examples/template.toml has each, to be copied and changed.
+\"Tables\"; examples/airdata.toml has each, to be copied and changed.
 
 Exit status:
   0  found
@@ -175,6 +175,24 @@ Exit status:
   0  designed: the tables are certified, and keep the rows of both sheets
   1  refused: what stands in the way, by rows and columns
   2  a cell or rows that can't be, or a wrong command line
+  3  a file, a device or memory was not to be had";
+
+/// Behind the options of `layout`.
+pub(crate) const AFTER_LAYOUT: &str = "Example: dc429 layout draft.toml > tables.toml
+
+What is read are tables in which frame of an output, stale and offsets of a
+label need not stand, and are not looked at where they do: these are laid out.
+All else stays as it is, tasks, visits, queues and ages too.
+
+A file named - is standard input; one of that name is ./-
+
+The keys of tables, with their units and ranges, stand in docs/formats.md under
+\"Tables\"; examples/template.toml is such a text, to be filled in.
+
+Exit status:
+  0  laid out: a certificate is accepted for the tables, which find writes
+  1  refused: what stands in the way
+  2  a text that can't be read, or a wrong command line
   3  a file, a device or memory was not to be had";
 
 /// Behind the options of `explain`.

@@ -39,6 +39,11 @@ pub enum Order<'a> {
         /// The path of the tables.
         tables: &'a str,
     },
+    /// Lay out the tables in a file.
+    Layout {
+        /// The path of the tables.
+        tables: &'a str,
+    },
     /// Report on the certificate in a file, or on the least one, for the tables in another.
     Report {
         /// The path of the tables.
@@ -347,6 +352,14 @@ fn find_in<'a>(matches: &ArgMatches<'a>) -> Option<Order<'a>>
     Some(Order::Find { tables })
 }
 
+/// What the matches of `layout` ask.
+fn layout_in<'a>(matches: &ArgMatches<'a>) -> Option<Order<'a>>
+    ensures { IfSome result (AsksBy (codes "layout") (rows_of (found_of matches.now))) }
+{
+    let tables = matches.get_str("TABLES")?;
+    Some(Order::Layout { tables })
+}
+
 /// What the matches of `report` ask of tables and of what a run was observed to do.
 fn observed_report_in<'a>(matches: &ArgMatches<'a>) -> Option<Order<'a>>
     ensures { IfSome result (AsksBy (codes "report") (rows_of (found_of matches.now))) }
@@ -553,6 +566,7 @@ fn order_by<'a>(name: &str, matches: &ArgMatches<'a>) -> Option<Order<'a>>
         "decode" => decode_in(matches),
         "check" => check_in(matches),
         "find" => find_in(matches),
+        "layout" => layout_in(matches),
         "report" => report_in(matches),
         "margins" => margins_in(matches),
         "survey" => survey_in(matches),

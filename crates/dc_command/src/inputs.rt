@@ -72,6 +72,7 @@ pub(crate) fn refuse_second_input(order: &Order<'_>) -> Result<(), &'static str>
     match *order {
         Order::Decode(_)
         | Order::Find { .. }
+        | Order::Layout { .. }
         | Order::Network { .. }
         | Order::ReportNetwork { .. }
         | Order::Explain { .. } => Ok(()),

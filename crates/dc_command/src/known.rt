@@ -5,8 +5,8 @@ ghost use Rattle.dc_command.specs.Program.{IsDecode, IsProgram, IsRead, IsReadOf
 
 use crate::after::{
     AFTER_AUDIT, AFTER_BENCH, AFTER_CHECK, AFTER_DECODE, AFTER_DESIGN, AFTER_EXPLAIN, AFTER_FIND,
-    AFTER_MARGINS, AFTER_NETWORK, AFTER_OBSERVE, AFTER_REPLAY, AFTER_REPORT, AFTER_SURVEY,
-    AFTER_TRACE,
+    AFTER_LAYOUT, AFTER_MARGINS, AFTER_NETWORK, AFTER_OBSERVE, AFTER_REPLAY, AFTER_REPORT,
+    AFTER_SURVEY, AFTER_TRACE,
 };
 use crate::identity::VERSION;
 use crate::limits::{
@@ -181,6 +181,18 @@ fn find<'a>(alloc: Global) -> Result<Command<'a>, Error>
         "find",
         "Finds the least certificate for tables, or what is in its way",
         AFTER_FIND,
+    )
+}
+
+/// The command `layout`.
+fn layout<'a>(alloc: Global) -> Result<Command<'a>, Error>
+    ensures { IfOk result (IsRead (tables_app (codes "layout"))) }
+{
+    on_tables(
+        alloc,
+        "layout",
+        "Lays tables out: frames, offsets and stale times, certified",
+        AFTER_LAYOUT,
     )
 }
 
@@ -539,5 +551,6 @@ pub fn program<'a>(alloc: Global) -> Result<Command<'a>, Error>
     let program = with_command(program, report(alloc));
     let program = with_command(program, margins(alloc));
     let program = with_command(program, design(alloc));
+    let program = with_command(program, layout(alloc));
     with_command(program, explain(alloc))
 }

@@ -14,6 +14,12 @@ pub trait Again {
     /// Its first fault, or where memory was refused.
     fn tables(&self, alloc: Global, text: &[u8]) -> Result<Tables, BuildError>;
 
+    /// The tables of a text whose layout is open, with one that breaks no rule.
+    ///
+    /// # Errors
+    /// Its first fault, or where memory was refused.
+    fn unlaid_tables(&self, alloc: Global, text: &[u8]) -> Result<Tables, BuildError>;
+
     /// The system of a text, where it is one.
     fn system(&self, alloc: Global, text: &[u8]) -> Option<System>;
 

@@ -31,6 +31,14 @@ fn tell_by<A: Again>(
     }
 }
 
+/// The tables of a run, read again as it read them.
+fn tables_of<A: Again>(again: &A, ran: &Ran<'_>, text: &[u8]) -> Result<Tables, BuildError> {
+    if ran.task.is_layout {
+        return again.unlaid_tables(ran.alloc, text);
+    }
+    again.tables(ran.alloc, text)
+}
+
 /// Reads the tables again, and tells what is of such a code: by them, or why they can't be read. The one function that
 /// holds them: what drops them is proved once.
 pub(crate) fn tell_by_tables<A: Again>(
@@ -41,7 +49,7 @@ pub(crate) fn tell_by_tables<A: Again>(
     line: &Line<'_>,
 ) -> bool {
     let (file, _) = ran.files();
-    match again.tables(ran.alloc, file.text) {
+    match tables_of(again, ran, file.text) {
         Ok(tables) => tell_by(out, again, ran, kind, line, &tables),
         Err(BuildError::Refused(fault)) => {
             repeat(out, again.unread_tables(ran.alloc, file, fault))

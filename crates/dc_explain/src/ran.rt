@@ -129,6 +129,7 @@ fn tell_end<A: Again>(out: &mut Explanation, again: &A, ran: &Ran<'_>, exit: Exi
         Exit::Done => tell_empty(out, ran),
         Exit::Failed => tell_failed(out, again, ran),
         _ if ran.task.is_design => repeat_lines(out, ran),
+        Exit::Refused if ran.task.is_layout => repeat_lines(out, ran),
         _ if ran.task.system.is_some() => tell_network(out, again, ran),
         Exit::Unreadable => tell_text(out, again, ran),
         Exit::Refused => tell_judged(out, again, ran),

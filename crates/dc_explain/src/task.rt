@@ -36,6 +36,8 @@ pub(crate) struct Task<'a> {
     pub(crate) is_audit: bool,
     /// Whether it was to design tables.
     pub(crate) is_design: bool,
+    /// Whether it was to lay tables out.
+    pub(crate) is_layout: bool,
     /// Whether it was to find a certificate.
     pub(crate) is_found: bool,
 }
@@ -51,6 +53,7 @@ fn usual<'a>() -> Task<'a> {
         is_survey: false,
         is_audit: false,
         is_design: false,
+        is_layout: false,
         is_found: false,
     }
 }
@@ -82,6 +85,7 @@ pub(crate) fn task_of(order: Order<'_>) -> Task<'_> {
             task.wanted = ("the sheet of inputs", "the sheet of outputs");
         }
         Order::Find { .. } => task.is_found = true,
+        Order::Layout { .. } => task.is_layout = true,
         Order::Report { certificate, .. } | Order::Margins { certificate, .. } => task.is_found =
             certificate.is_none(),
         _ => {}
@@ -105,6 +109,7 @@ fn first_of(order: Order<'_>) -> &str {
         Order::Network { system, .. } | Order::ReportNetwork { system } => system,
         Order::Design { inputs, .. } => inputs,
         Order::Find { tables, .. }
+        | Order::Layout { tables }
         | Order::Survey { tables }
         | Order::Trace { tables, .. }
         | Order::Replay { tables, .. }

@@ -139,16 +139,31 @@ fn may_lack(wanted: &Wanted, is_policed: bool) -> bool {
     }
 }
 
-/// The first key that the table with the fault lacks.
+/// Whether a key is one of the layout of tables, which `layout` writes.
+fn is_of_layout(wanted: &Wanted) -> bool {
+    match wanted.kind {
+        Kind::Output => wanted.name == "frame",
+        Kind::Label => wanted.name == "stale" || wanted.name == "offsets",
+        _ => false,
+    }
+}
+
+/// The first key that the table with the fault lacks, of its layout where it lacks no other.
 fn lacked(refused: &Refused<'_>) -> Option<Wanted> {
     let is_policed = refused.is_policed();
+    let mut unlaid = None;
     for wanted in keys_of(refused.kind(refused.row)) {
         let key = refused.layout.key(refused.row, wanted.name.as_bytes());
         if key.is_none() && !may_lack(wanted, is_policed) {
-            return Some(*wanted);
+            if !is_of_layout(wanted) {
+                return Some(*wanted);
+            }
+            if unlaid.is_none() {
+                unlaid = Some(*wanted);
+            }
         }
     }
-    None
+    unlaid
 }
 
 /// How many tables of the kind of that with the fault, but this one, have this at a key.
@@ -271,6 +286,12 @@ pub fn tell_absent(refused: &mut Refused<'_>) -> bool {
     }
     if matches!(wanted.kind, Kind::Top) {
         tell_misplaced(refused, wanted.name);
+    }
+    if is_of_layout(&wanted) {
+        refused.say(
+            "\nhelp: or let `dc429 layout` write it, with all that is absent of the layout",
+            &[],
+        );
     }
     true
 }

@@ -60,7 +60,7 @@ const NO_SYSTEM: &str =
 
 /// What is told of what the program printed, in the place of tables.
 const PRINTED: &str =
-    "this is what was printed where no tables were made, and not tables{}\nhelp: mend what its lines say, run `dc429 design INPUTS OUTPUTS > FILE` again, and see that it ends with status 0";
+    "this is what was printed where no tables were made, and not tables{}\nhelp: mend what its lines say, run `dc429 design INPUTS OUTPUTS > FILE` or `dc429 layout TABLES > FILE` again, and see that it ends with status 0";
 
 /// Whether a text begins as what the program prints where it refuses.
 fn is_printed(text: &str) -> bool {

@@ -24,7 +24,7 @@ use Rattle.dc_digest.specs.lemmas.Behind.{behind_outcome, read_behind}
 use Rattle.dc_tables.specs.TableRows.{TableRows}
 use Rattle.dc_toml.specs.Reading.{tables_of}
 use Rattle.dc_command.specs.declared.asked.Order.{Order}
-use Rattle.dc_command.specs.declared.asked.Order.TheVariants.{Decode, Check, Find, Report, ReportObserved, Margins, Survey, Trace, Replay, Audit, Observe, Bench, Design, Explain, Network, ReportNetwork}
+use Rattle.dc_command.specs.declared.asked.Order.TheVariants.{Decode, Check, Find, Layout, Report, ReportObserved, Margins, Survey, Trace, Replay, Audit, Observe, Bench, Design, Explain, Network, ReportNetwork}
 use Rattle.dc_program.specs.Carries.{Carries}
 use Rattle.dc_program.specs.Headline.{Decides, DecidesFiles}
 use Rattle.dc_program.specs.World.{WorldState}
@@ -135,6 +135,7 @@ carried_decides (Check tables certificate workers digest) w w' input input' sink
 carried_decides (Check tables certificate workers digest) w w' input input' sink sink' exit (inr (inr makes)) = absurd makes
 carried_decides (Decode format) w w' input input' sink sink' exit h = tt
 carried_decides (Find tables) w w' input input' sink sink' exit h = tt
+carried_decides (Layout tables) w w' input input' sink sink' exit h = tt
 carried_decides (Report tables certificate drift) w w' input input' sink sink' exit h = tt
 carried_decides (ReportObserved tables certificate observed drift) w w' input input' sink sink' exit h = tt
 carried_decides (Margins tables certificate microseconds drift json) w w' input input' sink sink' exit h = tt

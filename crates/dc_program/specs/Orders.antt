@@ -7,7 +7,7 @@ use Rattle.dc_answer.specs.declared.exit.Exit.{Exit}
 use Rattle.dc_answer.specs.declared.exit.Exit.TheVariants.{Failed}
 use Rattle.dc_command.specs.declared.asked.Order.{Order}
 use Rattle.dc_capture.specs.declared.capture_lines.TheConstants.{CAPTURE_LIMIT}
-use Rattle.dc_command.specs.declared.asked.Order.TheVariants.{Decode, Check, Find, Report, ReportObserved, Margins, Survey, Trace, Replay, Audit, Observe, Bench, Design, Explain, Network, ReportNetwork}
+use Rattle.dc_command.specs.declared.asked.Order.TheVariants.{Decode, Check, Find, Layout, Report, ReportObserved, Margins, Survey, Trace, Replay, Audit, Observe, Bench, Design, Explain, Network, ReportNetwork}
 use Rattle.dc_device.specs.States.{AsksUpTo, SinkState, SourceState}
 use Rattle.dc_program.specs.declared.world.Crew.{Crew}
 use Rattle.dc_program.specs.declared.world.Crew.TheVariants.{Workers, Actors}
@@ -18,6 +18,7 @@ use Rattle.dc_run.specs.Find.{ReportsFind}
 use Rattle.dc_run.specs.Limits.{trace_limit}
 use Rattle.dc_run.specs.Replay.{ReportsReplay}
 use Rattle.dc_run_bench.specs.Bench.{ReportsBench}
+use Rattle.dc_run_design.specs.Layout.{ReportsLayout}
 use Rattle.dc_digest.specs.Digests.{ReportsDigests}
 use Rattle.dc_run_explain.specs.Explain.{ReportsExplain}
 use Rattle.dc_run_observe.specs.Answer.{ReportsObserve}
@@ -34,6 +35,7 @@ abbrev pub files_of : Order → List (List ℕ)
 files_of (Decode format) = []
 files_of (Check tables certificate workers digest) = tables.now ∷ certificate.now ∷ []
 files_of (Find tables) = tables.now ∷ []
+files_of (Layout tables) = tables.now ∷ []
 files_of (Report tables None drift) = tables.now ∷ []
 files_of (Report tables (Some certificate) drift) = tables.now ∷ certificate.now ∷ []
 files_of (ReportObserved tables certificate observed drift) = tables.now ∷ certificate.now ∷ observed.now ∷ []
@@ -110,6 +112,8 @@ ReportsOrder (Check tables certificate (Some count) true) holds failed input inp
     ⊎ ReportsThreads sink.contents sink'.contents 0 failed sink.failed sink'.failed exit
 ReportsOrder (Find tables) holds failed input input' sink sink' exit =
     (rows : List ℕ) → holds tables.now ≡ Some rows → ReportsFind rows sink.contents sink'.contents 0 failed sink.failed sink'.failed exit
+ReportsOrder (Layout tables) holds failed input input' sink sink' exit =
+    (rows : List ℕ) → holds tables.now ≡ Some rows → ReportsLayout rows sink.contents sink'.contents 0 failed sink.failed sink'.failed exit
 ReportsOrder (Report tables None drift) holds failed input input' sink sink' exit =
     (rows : List ℕ) → holds tables.now ≡ Some rows → ReportsPageLeast rows sink.contents sink'.contents 0 failed sink.failed sink'.failed exit
 ReportsOrder (Report tables (Some certificate) drift) holds failed input input' sink sink' exit =

@@ -9,7 +9,7 @@ ghost use Rattle.dc_program.specs.Orders.{AsksInput};
 ghost use Rattle.dc_program.specs.World.{IsNew};
 
 use crate::crews::ByThreads;
-use crate::designs::design;
+use crate::designs::{design, layout};
 use crate::digests::{check_digest, check_digest_by};
 use crate::engines::{
     audit, bench, check, check_by, decode, explain, find, network, network_by, network_page,
@@ -71,6 +71,7 @@ fn obey<'a, W: World<'a>, S: Source, K: Sink, H: ByThreads>(
         } => check_digest_by(threads, world, sink, tables, certificate, workers),
         Order::Explain { code } => explain(alloc, world, sink, code),
         Order::Find { tables } => find(alloc, world, sink, tables),
+        Order::Layout { tables } => layout(alloc, world, sink, tables),
         Order::Report {
             tables,
             certificate,

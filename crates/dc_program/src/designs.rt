@@ -1,16 +1,16 @@
-//! `design`: both sheets are opened, and the certificate of what was designed is made a file.
+//! `design`: both sheets are opened, and the certificate of what was designed is made a file; and `layout`, whose tables are opened.
 ghost use Rattle.std.specs.Prelude.{◌≡◌, ◌⊎◌, None, option_map};
 ghost use Rattle.dc_answer.specs.Judging.{Leaves};
 ghost use Rattle.dc_device.specs.States.{CanFail, SourceState};
-ghost use Rattle.dc_command.specs.declared.asked.Order.TheVariants.{Design};
+ghost use Rattle.dc_command.specs.declared.asked.Order.TheVariants.{Design, Layout};
 ghost use Rattle.dc_program.specs.Carries.{Carries, Saves};
 ghost use Rattle.dc_program.specs.World.{IsNew, WorldState};
 
-use crate::opening::{end_unopened, open_both};
+use crate::opening::{end_unopened, open_both, open_one};
 use crate::world::World;
 use dc_answer::Exit;
 use dc_device::Sink;
-use dc_run_design::{Plan, run_design};
+use dc_run_design::{Plan, run_design, run_layout};
 use std::alloc::Global;
 
 /// Makes the file of a certificate, where one is named and its tables were written whole.
@@ -65,6 +65,25 @@ pub fn design<'a, W: World<'a>, K: Sink>(
             let ended = run_design(alloc, plan, &mut inputs, &mut outputs, sink, &mut text);
             save(world, sink, ended, certificate, text)
         }
+        Err(why) => end_unopened(why, sink),
+    }
+}
+
+/// Lays tables out.
+pub fn layout<'a, W: World<'a>, K: Sink>(
+    alloc: Global,
+    world: &mut W,
+    sink: &mut K,
+    tables: &'a str,
+) -> Exit
+    requires new { IsNew (W.state world.old) }
+    requires sink { CanFail (K.state sink.old) }
+    ensures carries { (input : SourceState) → Carries (Layout tables.entry) (W.state world.old) (W.state world.new) input input (K.state sink.old)
+        (K.state sink.new) result }
+    ensures left { Leaves (K.state sink.old) (K.state sink.new) }
+{
+    match open_one(world, tables) {
+        Ok(mut tables) => run_layout(alloc, &mut tables, sink),
         Err(why) => end_unopened(why, sink),
     }
 }

@@ -1,2 +1,3 @@
 -- Lemmas of the proofs.
 mod Designing
+mod Laying

@@ -1,2 +1,3 @@
--- What `design` answers.
+-- What `design` and `layout` answer.
 pub mod Design
+pub mod Layout

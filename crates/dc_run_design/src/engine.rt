@@ -69,7 +69,7 @@ fn say_page<K: Sink>(
 }
 
 /// Writes what was judged, and ends.
-fn finish<K: Sink>(judged: Result<Outcome, Failure>, page: &Page, sink: &mut K) -> Exit
+pub(crate) fn finish<K: Sink>(judged: Result<Outcome, Failure>, page: &Page, sink: &mut K) -> Exit
     requires countable { CanFail (K.state sink.old) }
     requires sink { IfErr judged (λ e. e ≢ Failure.Sink) }
     ensures finishes { Finishes judged page.now (K.state sink.old) (K.state sink.new) result }

@@ -139,7 +139,7 @@ fn unkept_of(wanted: &Wanted<'_>, unkept: Unkept) -> Said {
 }
 
 /// The tables that a text says, beside their document.
-fn read_back(alloc: Global, text: &[u8]) -> Result<WrittenTables, Unfit>
+pub(crate) fn read_back(alloc: Global, text: &[u8]) -> Result<WrittenTables, Unfit>
     ensures { IfOk result (λ w. AreWrittenBy (tables_of text.now) w) }
 {
     match read_written(alloc, text) {
@@ -150,7 +150,7 @@ fn read_back(alloc: Global, text: &[u8]) -> Result<WrittenTables, Unfit>
 }
 
 /// The least certificate for tables.
-fn certify_tables(alloc: Global, tables: &Tables) -> Result<Certificate, Unfit>
+pub(crate) fn certify_tables(alloc: Global, tables: &Tables) -> Result<Certificate, Unfit>
     ensures least { IfOk result (λ c. IsLeastAccepted tables.now (named_rows c)) }
     ensures claimed { IfOk result (λ c. KeepsItsClaims tables.now (named_rows c)) }
 {

@@ -82,6 +82,19 @@ fn keep_certificate(
     certificate.extend_from_slice(text.as_bytes())
 }
 
+/// Keeps the text of tables without its last line feed, where there is one.
+pub(crate) fn keep_line(text: &[u8], page: &mut Page) -> Result<(), Unfit>
+    ensures { IfOk result (λ _. page.new ++ 10 ∷ [] ≡ text.now) }
+{
+    let Some(line) = line_of(text) else {
+        return Err(Unfit::Told(Said::new("", Fact::Word(""), Fact::Word(""))));
+    };
+    if page.keep(line).is_err() {
+        return Err(Unfit::NoMemory);
+    }
+    Ok(())
+}
+
 /// Keeps the text of tables without its last line feed, where there is one, and that of their certificate.
 fn keep_both(
     alloc: Global,
@@ -93,11 +106,9 @@ fn keep_both(
     ensures line { IfOk result (λ _. page.new ++ 10 ∷ [] ≡ text.now) }
     ensures certificate { IfOk result (λ _. certificate.new.items ≡ claims_text (named_rows claims.now)) }
 {
-    let Some(line) = line_of(text) else {
-        return Err(Unfit::Told(Said::new("", Fact::Word(""), Fact::Word(""))));
-    };
-    if page.keep(line).is_err() {
-        return Err(Unfit::NoMemory);
+    match keep_line(text, page) {
+        Ok(()) => {}
+        Err(unfit) => return Err(unfit),
     }
     match keep_certificate(alloc, claims, certificate) {
         Ok(()) => Ok(()),
@@ -125,7 +136,7 @@ fn try_text(
 }
 
 /// What a judge says of a text with ticks of this length, as one more obstacle; nothing where memory was refused.
-fn obstacles_of(alloc: Global, tick_us: u32, unfit: &Unfit) -> Option<Obstacles> {
+pub(crate) fn obstacles_of(alloc: Global, tick_us: u32, unfit: &Unfit) -> Option<Obstacles> {
     match unfit {
         Unfit::Unread(fault) => {
             let mut line = Text::new();

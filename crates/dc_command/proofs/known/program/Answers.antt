@@ -18,4 +18,5 @@ returns c =
     let p11 = c.with_command-program-11.ensures _ _ p10 c.report.ensures in
     let p12 = c.with_command-program-12.ensures _ _ p11 c.margins.ensures in
     let p13 = c.with_command-program-13.ensures _ _ p12 c.design.ensures in
-    IfOk-weaker _ _ IsProgram (λ _ is. (decode.0, is)) (c.with_command.ensures _ _ p13 c.explain.ensures)
+    let p14 = c.with_command-program-14.ensures _ _ p13 c.layout.ensures in
+    IfOk-weaker _ _ IsProgram (λ _ is. (decode.0, is)) (c.with_command.ensures _ _ p14 c.explain.ensures)
