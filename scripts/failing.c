@@ -1,10 +1,10 @@
 /* Laid before the C library by scripts/hostile and scripts/refused. By its environment it refuses one allocation (REFUSE), or
    one of the first thread (REFUSE_FIRST) or of the others (REFUSE_BESIDE), fails one opening of a file (FAIL_OPEN), one read
-   (FAIL_READ), one write (FAIL_WRITE) or the start of one thread (FAIL_START), each by its number from 1, and no other. Where
-   READ_FROM is given, only reads of that descriptor count. Where COUNT is given, the numbers of allocations, reads, writes,
-   starts, allocations of the first thread and of the others, and openings are written to the file of that name at the end,
-   and then the numbers of those allocations with which the first thread started others: its last before each start, and each
-   within it. */
+   (FAIL_READ), one write (FAIL_WRITE) or the start of one thread (FAIL_START), each by its number from 1, and no other. An
+   opening fails by the error whose number is FAIL_ERROR, or by EIO where none is given. Where READ_FROM is given, only reads
+   of that descriptor count. Where COUNT is given, the numbers of allocations, reads, writes, starts, allocations of the first
+   thread and of the others, and openings are written to the file of that name at the end, and then the numbers of those
+   allocations with which the first thread started others: its last before each start, and each within it. */
 #define _GNU_SOURCE
 #include <dlfcn.h>
 #include <errno.h>
@@ -79,7 +79,8 @@ int pthread_create(pthread_t *thread, const pthread_attr_t *attributes, void *(*
 static int open_fails(void) {
     if (!is_one("FAIL_OPEN", &unopened, &opens))
         return 0;
-    errno = EIO;
+    long error = number_of("FAIL_ERROR");
+    errno = error > 0 ? (int)error : EIO;
     return 1;
 }
 
