@@ -9,8 +9,6 @@ mod decodes;
 #[cfg(test)]
 mod lookups;
 #[cfg(test)]
-mod replays;
-#[cfg(test)]
 mod traces;
 #[cfg(test)]
 mod verdicts;
