@@ -59,7 +59,7 @@ pub fn ticks_of(wish: &Wish) -> &[u32] {
 }
 
 /// That a text is too long to be read.
-pub(crate) fn too_long(alloc: Global, tick: u64, length: usize) -> Untabled {
+fn too_long(alloc: Global, tick: u64, length: usize) -> Untabled {
     let mut obstacles = Obstacles::new(alloc, tick);
     obstacles.stage = 4;
     obstacles.lines.begin("");
@@ -68,6 +68,15 @@ pub(crate) fn too_long(alloc: Global, tick: u64, length: usize) -> Untabled {
         &[Fact::Number(length as u64), Fact::Number(TEXT_LIMIT as u64)],
     );
     Untabled::Obstacles(obstacles)
+}
+
+/// The text of these lines, with ticks of this length; or that it is too long.
+pub(crate) fn text_in(alloc: Global, tick: u64, lines: Lines) -> Result<String, Untabled> {
+    match lines.finish() {
+        Some(text) if text.len() > TEXT_LIMIT => Err(too_long(alloc, tick, text.len())),
+        Some(text) => Ok(text),
+        None => Err(Untabled::NoMemory),
+    }
 }
 
 /// What is asked of a plan with ticks of this length.
@@ -92,13 +101,9 @@ fn text_of(
     unread: &Unread<'_>,
 ) -> Result<String, Untabled> {
     let mut lines = Lines::new(alloc);
-    if write_tables(alloc, document, plan, unread, &mut lines).is_err() {
-        return Err(Untabled::NoMemory);
-    }
-    match lines.finish() {
-        Some(text) if text.len() > TEXT_LIMIT => Err(too_long(alloc, plan.tick, text.len())),
-        Some(text) => Ok(text),
-        None => Err(Untabled::NoMemory),
+    match write_tables(alloc, document, plan, unread, &mut lines) {
+        Ok(()) => text_in(alloc, plan.tick, lines),
+        Err(_) => Err(Untabled::NoMemory),
     }
 }
 

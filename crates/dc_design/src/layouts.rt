@@ -1,8 +1,8 @@
 //! Layouts of tables.
-use crate::drafts::{Untabled, too_long};
+use crate::drafts::{Untabled, text_in};
 use crate::laid_lines::{Layout, write_laid};
 use dc_design_rows::{Document, Lines};
-use dc_document::{Parts, TEXT_LIMIT};
+use dc_document::Parts;
 use dc_plan::{Knobs, Unplanned, Waiting, plan_layout};
 use std::alloc::Global;
 
@@ -10,13 +10,7 @@ use std::alloc::Global;
 fn text_of(alloc: Global, parts: &Parts, layout: &Layout<'_>) -> Result<String, Untabled> {
     let mut lines = Lines::new(alloc);
     write_laid(parts, layout, &mut lines);
-    match lines.finish() {
-        Some(text) if text.len() > TEXT_LIMIT => {
-            Err(too_long(alloc, u64::from(parts.tick_us()), text.len()))
-        }
-        Some(text) => Ok(text),
-        None => Err(Untabled::NoMemory),
-    }
+    text_in(alloc, u64::from(parts.tick_us()), lines)
 }
 
 /// The text of tables that are as these but for their layout, which breaks no rule: what their readers refuse is wrong with all else.

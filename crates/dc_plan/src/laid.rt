@@ -2,7 +2,7 @@
 use crate::ages::{LabelPlan, age_all};
 use crate::stages::{Plan, Unplanned};
 use dc_design_rows::{Bus, Document, Fact, Label, Letters};
-use dc_plan_frames::{Frames, plan_output};
+use dc_plan_frames::plan_output;
 use dc_plan_ticks::{Knobs, Obstacles, Pace, pace_all};
 use dc_plan_visits::{BusPlan, Visits};
 use std::alloc::{AllocError, Global};
@@ -209,20 +209,7 @@ pub fn plan_layout(
     knobs: &Knobs,
 ) -> Result<Plan, Unplanned> {
     let mut obstacles = Obstacles::new(alloc, knobs.tick);
-    let mut plan = Plan {
-        tick: knobs.tick,
-        paces: Vec::new(alloc),
-        visits: Visits::new(alloc),
-        labels: Vec::new(alloc),
-        frames: Frames::new(alloc),
-    };
-    let went = go_through(alloc, document, waiting, knobs, &mut plan, &mut obstacles).is_ok();
-    if went && !obstacles.is_any() {
-        return Ok(plan);
-    }
-    if went {
-        Err(Unplanned::Obstacles(obstacles))
-    } else {
-        Err(Unplanned::NoMemory)
-    }
+    let mut plan = Plan::new(alloc, knobs.tick);
+    let is_whole = go_through(alloc, document, waiting, knobs, &mut plan, &mut obstacles).is_ok();
+    plan.unless(is_whole, obstacles)
 }

@@ -30,6 +30,30 @@ pub enum Unplanned {
     NoMemory,
 }
 
+impl Plan {
+    /// A plan with ticks of this length in which nothing stands so far.
+    pub(crate) fn new(alloc: Global, tick: u64) -> Plan {
+        Plan {
+            tick,
+            paces: Vec::new(alloc),
+            visits: Visits::new(alloc),
+            labels: Vec::new(alloc),
+            frames: Frames::new(alloc),
+        }
+    }
+
+    /// The plan, where its stages had memory and nothing stands in the way.
+    pub(crate) fn unless(self, is_whole: bool, obstacles: Obstacles) -> Result<Plan, Unplanned> {
+        if !is_whole {
+            return Err(Unplanned::NoMemory);
+        }
+        if obstacles.is_any() {
+            return Err(Unplanned::Obstacles(obstacles));
+        }
+        Ok(self)
+    }
+}
+
 /// The outputs with their labels; no frames where a timeout is not kept.
 fn plan_outputs(
     alloc: Global,
@@ -112,20 +136,7 @@ fn go_through(
 /// The lines of the first stage that has any, or want of memory.
 pub fn make_plan(alloc: Global, document: &Document, knobs: &Knobs) -> Result<Plan, Unplanned> {
     let mut obstacles = Obstacles::new(alloc, knobs.tick);
-    let mut plan = Plan {
-        tick: knobs.tick,
-        paces: Vec::new(alloc),
-        visits: Visits::new(alloc),
-        labels: Vec::new(alloc),
-        frames: Frames::new(alloc),
-    };
+    let mut plan = Plan::new(alloc, knobs.tick);
     let is_whole = go_through(alloc, document, knobs, &mut plan, &mut obstacles).is_ok();
-    if is_whole && !obstacles.is_any() {
-        return Ok(plan);
-    }
-    if is_whole {
-        Err(Unplanned::Obstacles(obstacles))
-    } else {
-        Err(Unplanned::NoMemory)
-    }
+    plan.unless(is_whole, obstacles)
 }
