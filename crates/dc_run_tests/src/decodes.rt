@@ -1,6 +1,6 @@
 //! Words decoded onto a sink whose flush fails: no command has one.
 
-use dc_device::{MemSink, MemSource, Source};
+use dc_device::{MemSink, MemSource, Sink, Source};
 use dc_run::run_decode;
 use dc_word::Format;
 use std::rt::HostRuntime;
