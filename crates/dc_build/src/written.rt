@@ -12,10 +12,19 @@ use std::marker::Model;
 /// Valid tables beside the parts of their document, which hold the keys that no row does: speeds, equipment codes,
 /// jitters and parameters in microseconds, and the offsets of each label. The parts break no rule, and the rows of the
 /// tables are theirs.
-#[derive(Drop)]
 pub struct WrittenTables {
     parts: Parts,
     tables: Tables,
+}
+
+// Dropped by one call, which is proved here and not in each crate that owns one.
+impl Drop for WrittenTables {
+    fn drop(self) {
+        let WrittenTables {
+            parts: _,
+            tables: _,
+        } = self;
+    }
 }
 
 impl Model for WrittenTables {
@@ -71,6 +80,7 @@ impl WrittenTables {
     pub fn into_tables(self) -> Tables
         ensures { result ≡ self.tables }
     {
-        self.tables
+        let WrittenTables { parts: _, tables } = self;
+        tables
     }
 }

@@ -94,7 +94,7 @@ pub struct UnreadTitle {
 }
 
 /// The sheet of the inputs.
-#[derive(Debug, Drop)]
+#[derive(Debug)]
 pub struct Inputs {
     /// Its rows from the top.
     pub rows: Vec<InputRow>,
@@ -104,8 +104,19 @@ pub struct Inputs {
     pub min_unit: TimeUnit,
 }
 
+// Dropped by one call, which is proved here and not in each crate that owns one.
+impl Drop for Inputs {
+    fn drop(self) {
+        let Inputs {
+            rows: _,
+            unread: _,
+            min_unit: _,
+        } = self;
+    }
+}
+
 /// The sheet of the outputs.
-#[derive(Debug, Drop)]
+#[derive(Debug)]
 pub struct Outputs {
     /// Its rows from the top.
     pub rows: Vec<OutputRow>,
@@ -117,4 +128,17 @@ pub struct Outputs {
     pub max_age_unit: TimeUnit,
     /// The unit of its title of timeouts, microseconds where it has none.
     pub timeout_unit: TimeUnit,
+}
+
+// Dropped by one call, which is proved here and not in each crate that owns one.
+impl Drop for Outputs {
+    fn drop(self) {
+        let Outputs {
+            rows: _,
+            unread: _,
+            max_unit: _,
+            max_age_unit: _,
+            timeout_unit: _,
+        } = self;
+    }
 }

@@ -154,7 +154,6 @@ pub struct Parameter {
 
 /// What the rows say together. Streams, labels and parameters stand in the order of the rows, buses and outputs in the
 /// order in which they first come.
-#[derive(Drop)]
 pub struct Document {
     /// The buses.
     pub buses: Vec<Bus>,
@@ -176,6 +175,24 @@ pub struct Document {
     pub units: Units,
     /// Whether it is of tables, which say ticks and have names for all labels; else of sheets.
     pub is_of_tables: bool,
+}
+
+// Dropped by one call, which is proved here and not in each crate that owns one.
+impl Drop for Document {
+    fn drop(self) {
+        let Document {
+            buses: _,
+            streams: _,
+            on_bus: _,
+            outputs: _,
+            labels: _,
+            on_output: _,
+            sources: _,
+            parameters: _,
+            units: _,
+            is_of_tables: _,
+        } = self;
+    }
 }
 
 /// Why rows are no document.

@@ -155,7 +155,7 @@ impl Named for LabelPart {
 
 /// Tables as they are written, before any rule is tested: each list in the order of the text. The streams follow one
 /// another bus by bus, and the labels output by output.
-#[derive(Debug, Drop)]
+#[derive(Debug)]
 pub struct Parts {
     version: Version,
     tick_us: u32,
@@ -165,6 +165,22 @@ pub struct Parts {
     routers: Vec<RouterPart>,
     outputs: Vec<OutputPart>,
     labels: Vec<LabelPart>,
+}
+
+// Dropped by one call, which is proved here and not in each crate that owns one.
+impl Drop for Parts {
+    fn drop(self) {
+        let Parts {
+            version: _,
+            tick_us: _,
+            parameters: _,
+            buses: _,
+            streams: _,
+            routers: _,
+            outputs: _,
+            labels: _,
+        } = self;
+    }
 }
 
 impl Model for Parts {

@@ -3,7 +3,7 @@ use crate::ages::{LabelPlan, age_all};
 use crate::stages::{Plan, Unplanned};
 use dc_design_rows::{Bus, Document, Fact, Label, Letters};
 use dc_plan_frames::plan_output;
-use dc_plan_ticks::{Knobs, Obstacles, Pace, pace_all};
+use dc_plan_ticks::{Knobs, Obstacles, Pace, pace_all, part, up};
 use dc_plan_visits::{BusPlan, Visits};
 use std::alloc::{AllocError, Global};
 
@@ -36,12 +36,24 @@ fn begin_bus(bus: &Bus, obstacles: &mut Obstacles) {
     obstacles.lines.say("bus {}: ", &[Fact::Name(bus.name)]);
 }
 
-/// Tells that no window of a bus closes.
-fn tell_endless(bus: &Bus, obstacles: &mut Obstacles) {
+/// So many words may come on a bus in 1000 ticks by the intervals of its streams, rounded up; its wire may let fewer come.
+fn words_of(document: &Document, paces: &[Pace], bus: &Bus) -> u64 {
+    let mut billionths = 0u64;
+    for place in bus.streams.first..bus.streams.end {
+        let number = document.on_bus.get(place).copied().unwrap_or(0);
+        if let Some(pace) = paces.get(number) {
+            billionths = billionths.saturating_add(part(1_000_000_000, pace.least));
+        }
+    }
+    up(billionths, 1_000_000)
+}
+
+/// Tells that no window of a bus closes on which so many words may come in 1000 ticks by the intervals of its streams.
+fn tell_endless(bus: &Bus, words: u64, obstacles: &mut Obstacles) {
     begin_bus(bus, obstacles);
     obstacles.lines.line(
-        "more words may come than its visits surely take (F1); more steps of its router, a shorter within, or more of its visits",
-        &[],
+        "{} words may come in 1000 ticks by its streams' intervals, and its visits do not surely take more (F1); more steps of its router, a shorter within, or more of its visits",
+        &[Fact::Number(words)],
     );
 }
 
@@ -62,12 +74,13 @@ fn tell_full(bus: &Bus, queue: u64, backlog: u64, obstacles: &mut Obstacles) {
 fn wait_all(
     document: &Document,
     waiting: &[Option<Waiting>],
+    paces: &[Pace],
     visits: &mut Visits,
     obstacles: &mut Obstacles,
 ) -> Result<(), AllocError> {
     for (number, bus) in document.buses.iter().enumerate() {
         let Some(own) = waiting.get(number).copied().unwrap_or(None) else {
-            tell_endless(bus, obstacles);
+            tell_endless(bus, words_of(document, paces, bus), obstacles);
             continue;
         };
         let queue = bus.queue.unwrap_or(own.backlog);
@@ -173,7 +186,7 @@ fn go_through(
 ) -> Result<(), AllocError> {
     obstacles.stage = 3;
     pace_all(document, knobs, &mut plan.paces, obstacles)?;
-    wait_all(document, waiting, &mut plan.visits, obstacles)?;
+    wait_all(document, waiting, &plan.paces, &mut plan.visits, obstacles)?;
     if obstacles.is_any() {
         return Ok(());
     }

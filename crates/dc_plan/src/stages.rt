@@ -7,7 +7,6 @@ use dc_plan_visits::{Visits, plan_buses, plan_routers};
 use std::alloc::{AllocError, Global};
 
 /// The numbers of tables.
-#[derive(Drop)]
 pub struct Plan {
     /// The length of a tick, in microseconds.
     pub tick: u64,
@@ -19,6 +18,19 @@ pub struct Plan {
     pub labels: Vec<LabelPlan>,
     /// The frames of the outputs.
     pub frames: Frames,
+}
+
+// Dropped by one call, which is proved here and not in each crate that owns one.
+impl Drop for Plan {
+    fn drop(self) {
+        let Plan {
+            tick: _,
+            paces: _,
+            visits: _,
+            labels: _,
+            frames: _,
+        } = self;
+    }
 }
 
 /// Why there is no plan.

@@ -45,7 +45,6 @@ impl NameIndex {
 }
 
 /// The names of all tables, each kind to be looked up.
-#[derive(Drop)]
 pub struct Names {
     /// Those of the buses.
     pub buses: NameIndex,
@@ -57,4 +56,17 @@ pub struct Names {
     pub outputs: NameIndex,
     /// Those of the labels of all outputs.
     pub labels: NameIndex,
+}
+
+// Dropped by one call, which is proved here and not in each crate that owns one.
+impl Drop for Names {
+    fn drop(self) {
+        let Names {
+            buses: _,
+            streams: _,
+            routers: _,
+            outputs: _,
+            labels: _,
+        } = self;
+    }
 }

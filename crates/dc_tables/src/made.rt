@@ -11,7 +11,6 @@ use crate::rows::{Bus, Output, OutputLabel, Router, Stream};
 use std::alloc::{AllocError, Global};
 
 /// The rows of tables, those of each kind in their order.
-#[derive(Drop)]
 pub struct Rows {
     /// Those of the buses.
     pub buses: Vec<Bus>,
@@ -23,6 +22,19 @@ pub struct Rows {
     pub outputs: Vec<Output>,
     /// Those of the labels of all outputs.
     pub labels: Vec<OutputLabel>,
+}
+
+// Dropped by one call, which is proved here and not in each crate that owns one.
+impl Drop for Rows {
+    fn drop(self) {
+        let Rows {
+            buses: _,
+            streams: _,
+            routers: _,
+            outputs: _,
+            labels: _,
+        } = self;
+    }
 }
 
 /// What tables keep beside their rows.

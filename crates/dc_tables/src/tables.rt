@@ -18,13 +18,25 @@ use std::alloc::{AllocError, Global};
 use std::marker::Model;
 
 /// Valid tables. A clause sees them as their rows, which are valid.
-#[derive(Drop)]
 pub struct Tables {
     tick_us: u32,
     rows: Rows,
     names: Names,
     kept: Vec<BusKept>,
     offsets: Vec<FrameOffsets>,
+}
+
+// Dropped by one call, which is proved here and not in each crate that owns one.
+impl Drop for Tables {
+    fn drop(self) {
+        let Tables {
+            tick_us: _,
+            rows: _,
+            names: _,
+            kept: _,
+            offsets: _,
+        } = self;
+    }
 }
 
 impl Model for Tables {

@@ -12,10 +12,19 @@ use dc_tables::Tables;
 use std::marker::Model;
 
 /// A concentrator of a network: tables beside their document, and a certificate that is accepted for them.
-#[derive(Drop)]
 pub struct Member {
     written: WrittenTables,
     certificate: Certificate,
+}
+
+// Dropped by one call, which is proved here and not in each crate that owns one.
+impl Drop for Member {
+    fn drop(self) {
+        let Member {
+            written: _,
+            certificate: _,
+        } = self;
+    }
 }
 
 /// Tables whose certificate is refused, with its first fault.

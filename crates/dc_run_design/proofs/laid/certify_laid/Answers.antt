@@ -12,7 +12,7 @@ returns-in-Ok-certify_tables c =
       written = c.in-Ok-read_back.tables;
       claims = claims;
       read = c.in-Ok-read_back.ensures;
-      least = subst (λ t. IsLeastAccepted t claims) c.tables-in-Ok-read_back.ensures of.least;
-      claimed = subst (λ t. KeepsItsClaims t claims) c.tables-in-Ok-read_back.ensures of.claimed;
+      least = subst (λ t. IsLeastAccepted t claims) c.tables.ensures of.least;
+      claimed = subst (λ t. KeepsItsClaims t claims) c.tables.ensures of.claimed;
       same = c.in-Ok.ensures;
     }
