@@ -1,4 +1,5 @@
 //! The lines of buses and routers.
+use crate::output_lines::{CHOSEN, has_tasks};
 use crate::words::{speed_word, ticks_word, truth_word};
 use dc_design_rows::{Bus, Document, Fact, Lines, Stream};
 use dc_plan::{BusPlan, Pace, Plan, RouterPlan};
@@ -103,8 +104,21 @@ pub(crate) fn write_buses(document: &Document, plan: &Plan, is_second: bool, lin
     }
 }
 
+/// Whether no row says what the task of a router does, where rows say what others do.
+fn is_chosen(document: &Document, plan: &Plan, router: &RouterPlan) -> bool {
+    let first = plan.visits.turns.get(router.turns.first).copied();
+    match document.buses.get(first.unwrap_or(0)) {
+        Some(bus) => bus.task.is_none() && has_tasks(document),
+        None => false,
+    }
+}
+
 /// Writes a router.
 fn write_router(document: &Document, plan: &Plan, router: &RouterPlan, lines: &mut Lines) {
+    if is_chosen(document, plan, router) {
+        lines.say("\n", &[]);
+        lines.say(CHOSEN, &[]);
+    }
     lines.say(
         "\n[[router]]\nname = \"{}\"\nsteps = {}\nwithin = {}\nmost = {}\nvisits = [",
         &[

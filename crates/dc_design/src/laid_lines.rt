@@ -1,5 +1,5 @@
 //! The text of tables with a layout: all of them as they are but for the frames of outputs and the stale times and offsets of labels.
-use crate::output_lines::{gaps_of, say_offsets};
+use crate::output_lines::{gaps_of, say_load, say_offsets, say_others};
 use crate::words::{format_word, speed_word, ticks_word, truth_word};
 use dc_design_rows::{Document, Fact, Letters, Lines, Span};
 use dc_dict::Parameter;
@@ -32,8 +32,19 @@ fn say_names(names: &[Name], lines: &mut Lines) {
     }
 }
 
-/// Writes a parameter.
-fn write_parameter(row: &Parameter, lines: &mut Lines) {
+/// Whether a stream or a label has this parameter.
+fn is_asked(parts: &Parts, row: &Parameter) -> bool {
+    let (label, equipment) = (row.label, row.equipment);
+    let (mut streams, mut labels) = (parts.streams().iter(), parts.labels().iter());
+    streams.any(|s| s.label == label && s.equipment == equipment)
+        || labels.any(|l| l.label == label && l.equipment == equipment)
+}
+
+/// Writes a parameter, and that nothing has it, where nothing does.
+fn write_parameter(parts: &Parts, row: &Parameter, lines: &mut Lines) {
+    if !is_asked(parts, row) {
+        lines.say("\n# no stream and no label has it", &[]);
+    }
     lines.line(
         "\n[[parameter]]\nlabel = \"{}\"\nequipment = \"{}\"\nformat = \"{}\"\nmin_us = {}\nmax_us = {}",
         &[
@@ -103,19 +114,6 @@ fn write_router(router: &RouterPart, lines: &mut Lines) {
     lines.line("]", &[]);
 }
 
-/// Says how an output was laid out.
-fn say_load(plan: &OutputPlan, lines: &mut Lines) {
-    lines.line(
-        "\n# {} % of the wire, {} entries; an entry leaves within {} {} of its offset",
-        &[
-            Fact::Number(plan.load),
-            Fact::Number(plan.entries),
-            Fact::Number(plan.within),
-            ticks_word(plan.within),
-        ],
-    );
-}
-
 /// Writes an output without its labels.
 fn write_output(output: &OutputPart, frame: u64, lines: &mut Lines) {
     lines.line(
@@ -182,6 +180,7 @@ fn say_gaps(
             ticks_word(oldest),
         ],
     );
+    say_others(document, label, lines);
 }
 
 /// Writes a label of this number as it was planned.
@@ -256,7 +255,7 @@ pub(crate) fn write_laid(parts: &Parts, layout: &Layout<'_>, lines: &mut Lines) 
         ],
     );
     for row in parts.parameters() {
-        write_parameter(row, lines);
+        write_parameter(parts, row, lines);
     }
     for (number, bus) in parts.buses().iter().enumerate() {
         write_bus(parts, number, bus, lines);

@@ -31,19 +31,41 @@ pub(crate) fn gaps_of(offsets: &[u64], span: Span, frame: u64) -> Gaps {
     gaps
 }
 
-/// Writes an output without its labels.
-fn write_head(output: &Output, plan: &OutputPlan, lines: &mut Lines) {
-    lines.say(
-        "\n# {} % of the wire, {} entries; an entry leaves within {} {} of its offset\n[[output]]\n",
+/// Says how an output was laid out.
+pub(crate) fn say_load(plan: &OutputPlan, lines: &mut Lines) {
+    lines.line(
+        "\n# {} % of the wire, {} {}; an entry leaves within {} {} of its offset",
         &[
             Fact::Number(plan.load),
             Fact::Number(plan.entries),
+            Fact::Word(if plan.entries == 1 {
+                "entry"
+            } else {
+                "entries"
+            }),
             Fact::Number(plan.within),
             ticks_word(plan.within),
         ],
     );
+}
+
+/// Whether a row says what some task does.
+pub(crate) fn has_tasks(document: &Document) -> bool {
+    document.buses.iter().any(|b| b.task.is_some())
+        || document.outputs.iter().any(|o| o.task.is_some())
+}
+
+/// That a task was chosen, where rows say what others do.
+pub(crate) const CHOSEN: &str = "# no row says what its task does: steps and within are chosen";
+
+/// Writes an output without its labels.
+fn write_head(document: &Document, output: &Output, plan: &OutputPlan, lines: &mut Lines) {
+    say_load(plan, lines);
+    if output.task.is_none() && has_tasks(document) {
+        lines.line(CHOSEN, &[]);
+    }
     lines.line(
-        "name = \"{}\"\nspeed = \"{}\"\nsteps = {}\nwithin = {}\nframe = {}",
+        "[[output]]\nname = \"{}\"\nspeed = \"{}\"\nsteps = {}\nwithin = {}\nframe = {}",
         &[
             Fact::Name(output.name),
             speed_word(output.speed),
@@ -94,6 +116,23 @@ fn say_gaps(
             ticks_word(least_age),
         ],
     );
+    say_others(document, label, lines);
+}
+
+/// Says which sources of a label have another label.
+pub(crate) fn say_others(document: &Document, label: &Label, lines: &mut Lines) {
+    for place in label.sources.first..label.sources.end {
+        let number = document.sources.get(place).copied().unwrap_or(0);
+        let Some(stream) = document.streams.get(number) else {
+            continue;
+        };
+        if stream.label != label.label {
+            lines.line(
+                "# its source {} has label {}",
+                &[Fact::Name(stream.name), Fact::Octal(stream.label)],
+            );
+        }
+    }
 }
 
 /// Says the sources of a label.
@@ -185,7 +224,7 @@ fn write_labels(
 pub(crate) fn write_outputs(document: &Document, plan: &Plan, lines: &mut Lines) {
     for (number, output) in document.outputs.iter().enumerate() {
         if let Some(own) = plan.frames.outputs.get(number) {
-            write_head(output, own, lines);
+            write_head(document, output, own, lines);
             write_labels(document, plan, output, own, lines);
         }
     }

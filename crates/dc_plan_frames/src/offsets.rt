@@ -6,7 +6,7 @@ use crate::planned::{Frames, OutputPlan};
 use crate::whys::{tell_no_frame, tell_no_place};
 use crate::windows::{Scene, Spacing, Windows};
 use dc_design_rows::{Document, Output, Span};
-use dc_plan_ticks::{Knobs, Obstacles, gap_of, is_window_told, part, sends_of};
+use dc_plan_ticks::{Knobs, Obstacles, are_windows_told, gap_of, part, sends_of};
 use std::alloc::{AllocError, Global};
 
 /// Adds the offsets of a label in ascending order.
@@ -65,7 +65,7 @@ fn has_frame(
     room: &mut Room,
     obstacles: &mut Obstacles,
 ) -> Result<bool, AllocError> {
-    if is_window_told(scene.document, scene.output, scene.knobs, obstacles) {
+    if are_windows_told(scene.document, scene.output, scene.knobs, obstacles) {
         return Ok(false);
     }
     let spacing = Spacing {

@@ -14,4 +14,4 @@ pub use knobs::Knobs;
 pub use numbers::{part, share_of, up, whole_of};
 pub use obstacles::Obstacles;
 pub use paces::{Pace, pace_all};
-pub use sends::{Sends, gap_of, is_window_told, sends_of};
+pub use sends::{Sends, are_windows_told, gap_of, sends_of};
