@@ -54,7 +54,7 @@ pub struct Wanted {
 }
 
 /// The keys, those of a kind one behind the other.
-static KEYS: [Wanted; 63] = [
+static KEYS: [Wanted; 65] = [
     Wanted {
         kind: Kind::Top,
         name: "version",
@@ -290,6 +290,15 @@ static KEYS: [Wanted; 63] = [
         meaning: "the buses in the order in which its steps visit them, over and over",
     },
     Wanted {
+        kind: Kind::Router,
+        name: "looks",
+        sort: Sort::Number,
+        least: 1,
+        most: 256,
+        what: "steps in a row",
+        meaning: "how many steps in a row visit each bus of `visits`",
+    },
+    Wanted {
         kind: Kind::Output,
         name: "name",
         sort: Sort::Name,
@@ -405,6 +414,15 @@ static KEYS: [Wanted; 63] = [
         most: 2_000_000,
         what: "ticks",
         meaning: "how many ticks ago a word that is sent came in at most, as is promised",
+    },
+    Wanted {
+        kind: Kind::Label,
+        name: "max_age_us",
+        sort: Sort::Number,
+        least: 200,
+        most: 60_000_000,
+        what: "microseconds",
+        meaning: "the time within which a word that is sent came in, in place of `age`",
     },
     Wanted {
         kind: Kind::Label,
@@ -642,16 +660,38 @@ pub fn keys_of(kind: Kind) -> &'static [Wanted] {
     all.get(first..behind).unwrap_or(&[])
 }
 
-/// Whether tables of version 1 lack the key of this name.
-pub(crate) fn is_late(name: &str) -> bool {
-    name == "police" || name == "jitter_us"
+/// Which keys there are besides those of all tables.
+#[derive(Clone, Copy)]
+pub(crate) struct Extent {
+    /// Those of version 2.
+    pub(crate) is_policed: bool,
+    /// Those of tables to lay out.
+    pub(crate) is_unlaid: bool,
 }
 
-/// What is wanted at a key of tables of a kind; nothing where they have no such key. Some tables of version 1 lack the keys
-/// of version 2.
-pub(crate) fn key_of(kind: Kind, name: &[u8], is_policed: bool) -> Option<Wanted> {
+/// All keys.
+pub(crate) const ALL: Extent = Extent {
+    is_policed: true,
+    is_unlaid: true,
+};
+
+/// Whether tables to lay out alone have the key of this name.
+pub(crate) fn is_of_unlaid(name: &[u8]) -> bool {
+    name == b"looks".as_slice() || name == b"max_age_us".as_slice()
+}
+
+/// Whether the key of this name is one of those that there are.
+pub(crate) fn is_there(name: &str, extent: Extent) -> bool {
+    if name == "police" || name == "jitter_us" {
+        return extent.is_policed;
+    }
+    extent.is_unlaid || !is_of_unlaid(name.as_bytes())
+}
+
+/// What is wanted at a key of tables of a kind, where there is such a key.
+pub(crate) fn key_of(kind: Kind, name: &[u8], extent: Extent) -> Option<Wanted> {
     for row in keys_of(kind) {
-        if row.name.as_bytes() == name && (is_policed || !is_late(row.name)) {
+        if row.name.as_bytes() == name && is_there(row.name, extent) {
             return Some(*row);
         }
     }

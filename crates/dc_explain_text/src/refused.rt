@@ -1,6 +1,6 @@
 //! A text that was refused, and what is told of it.
 use crate::holes::{Hole, hole_of, place_in};
-use crate::keys::{is_late, keys_of};
+use crate::keys::{Extent, is_there, keys_of};
 use crate::values::number;
 use dc_tell::{
     Explanation, File, Form, Kind, Layout, Names, Span, Value, called, naming, place_at,
@@ -158,12 +158,31 @@ impl<'a> Refused<'a> {
         names
     }
 
+    /// Whether no table has a key of a layout, as in tables to lay out.
+    pub(crate) fn is_unlaid(&self) -> bool {
+        for key in self.layout.keys.as_slice() {
+            let name = self.layout.bare(key.name);
+            if name == b"frame".as_slice() || name == b"stale".as_slice() {
+                return false;
+            }
+        }
+        true
+    }
+
+    /// Which keys there are.
+    pub(crate) fn extent(&self) -> Extent {
+        Extent {
+            is_policed: self.is_policed(),
+            is_unlaid: self.is_unlaid(),
+        }
+    }
+
     /// The names of the keys of the table with the fault, in their order.
     pub(crate) fn keys(&mut self) -> Names<'static> {
-        let is_policed = self.is_policed();
+        let extent = self.extent();
         let mut names = Names::new(self.alloc);
         for wanted in keys_of(self.kind(self.row)) {
-            if is_policed || !is_late(wanted.name) {
+            if is_there(wanted.name, extent) {
                 names.add(wanted.name);
             }
         }

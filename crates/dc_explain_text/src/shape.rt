@@ -1,22 +1,38 @@
 //! Keys that are unknown or absent, and what stands in the place of a table.
-use crate::keys::{Sort, Wanted, is_late, key_of, keys_of, other_with};
+use crate::keys::{ALL, Extent, Sort, Wanted, is_of_unlaid, is_there, key_of, keys_of, other_with};
 use crate::refused::{Fact, Refused};
 use crate::wanted::tell_wanted;
 use dc_tell::{Form, Key, Kind, Span, Value, called, top_of, unquoted};
 
-/// The first key of the table with the fault that is unknown.
+/// The first key of the table with the fault that is unknown; where there is none, the last one of tables to lay out.
 fn unknown_key(refused: &Refused<'_>) -> Option<Key> {
     let kind = refused.kind(refused.row);
-    let is_policed = refused.is_policed();
+    let extent = refused.extent();
+    let mut unlaid = None;
     for key in refused.layout.keys.as_slice() {
         if key.row != Some(refused.row) {
             continue;
         }
-        if key_of(kind, refused.layout.bare(key.name), is_policed).is_none() {
+        let name = refused.layout.bare(key.name);
+        if key_of(kind, name, extent).is_none() {
             return Some(*key);
         }
+        if is_of_unlaid(name) {
+            unlaid = Some(*key);
+        }
     }
-    None
+    unlaid
+}
+
+/// What to do with a key that other tables of its kind have: those of version 2, or those to lay out.
+fn in_others(name: &[u8]) -> &'static str {
+    if name == b"looks".as_slice() {
+        return "\nhelp: tables to lay out have this key: let `dc429 layout` write whole tables of them, or name each bus in `visits` as often";
+    }
+    if name == b"max_age_us".as_slice() {
+        return "\nhelp: in tables to lay out it stands in the place of `age`: take one of the two out, or let `dc429 layout` write whole tables";
+    }
+    "\nhelp: tables of version 2 have this key: write `version = 2` at the top, or take the key out"
 }
 
 /// What to do with a key of lists, or with one that has a value, that stands in a table of another kind.
@@ -82,7 +98,7 @@ fn tell_known(refused: &mut Refused<'_>, key: Key) {
     let is_system = matches!(refused.kind(refused.row), Kind::System);
     refused.say(
         "\n{}help: this is a key of tables: name the text of a system, which names the tables of each concentrator\nhelp: ",
-        &[Fact::If(is_system && key_of(Kind::Top, bare, true).is_some())],
+        &[Fact::If(is_system && key_of(Kind::Top, bare, ALL).is_some())],
     );
     if let Some((like, other)) = refused.out.nearest(name, names.as_slice()) {
         let sentence = if other.is_empty() {
@@ -103,9 +119,9 @@ pub fn tell_unknown(refused: &mut Refused<'_>) -> bool {
     };
     let kind = refused.kind(refused.row);
     let bare = refused.layout.bare(key.name);
-    let is_late = key_of(kind, bare, true).is_some();
+    let is_elsewhere = key_of(kind, bare, ALL).is_some();
     let other = other_with(kind, bare, !matches!(key.form, Form::Value));
-    let is_known = is_late || !matches!(other, Kind::None);
+    let is_known = is_elsewhere || !matches!(other, Kind::None);
     let what = match top_of(kind) {
         _ if is_known => "does not belong there",
         Kind::Certificate => "certificates do not know",
@@ -114,35 +130,44 @@ pub fn tell_unknown(refused: &mut Refused<'_>) -> bool {
     };
     let name = unquoted(key.name, refused.layout.text);
     refused.say(
-        "{} has a key `{}` that {}{}\n{}help: tables of version 2 have this key: write `version = 2` at the top, or take the key out",
+        "{} has a key `{}` that {}{}",
         &[
             Fact::Row(refused.row),
             Fact::Piece(name),
             Fact::Word(what),
             Fact::Here(key.name),
-            Fact::If(is_late),
         ],
     );
-    if !is_known {
-        tell_known(refused, key);
-    } else if !is_late {
+    if is_elsewhere {
+        refused.say(in_others(bare), &[]);
+    } else if is_known {
         tell_elsewhere(refused, key, other);
+    } else {
+        tell_known(refused, key);
     }
     true
 }
 
-/// Whether a table may lack a key: tables each list of their top, a system its links.
-fn may_lack(wanted: &Wanted, is_policed: bool) -> bool {
+/// Whether a table may lack a key: tables each list of their top, a system its links, a label one of two for its age.
+fn may_lack(refused: &Refused<'_>, wanted: &Wanted) -> bool {
+    if wanted.name == "age" {
+        return refused.layout.key(refused.row, b"max_age_us").is_some();
+    }
+    let extent = Extent {
+        is_policed: refused.is_policed(),
+        is_unlaid: false,
+    };
     match wanted.sort {
         Sort::Tables => matches!(wanted.kind, Kind::Top) || wanted.name == "link",
-        _ => !is_policed && is_late(wanted.name),
+        _ => !is_there(wanted.name, extent),
     }
 }
 
-/// Whether a key is one of the layout of tables, which `layout` writes.
+/// Whether a key is one that `layout` writes.
 fn is_of_layout(wanted: &Wanted) -> bool {
     match wanted.kind {
         Kind::Output => wanted.name == "frame",
+        Kind::Router => wanted.name == "most",
         Kind::Label => wanted.name == "stale" || wanted.name == "offsets",
         _ => false,
     }
@@ -150,11 +175,10 @@ fn is_of_layout(wanted: &Wanted) -> bool {
 
 /// The first key that the table with the fault lacks, of its layout where it lacks no other.
 fn lacked(refused: &Refused<'_>) -> Option<Wanted> {
-    let is_policed = refused.is_policed();
     let mut unlaid = None;
     for wanted in keys_of(refused.kind(refused.row)) {
         let key = refused.layout.key(refused.row, wanted.name.as_bytes());
-        if key.is_none() && !may_lack(wanted, is_policed) {
+        if key.is_none() && !may_lack(refused, wanted) {
             if !is_of_layout(wanted) {
                 return Some(*wanted);
             }
@@ -287,12 +311,14 @@ pub fn tell_absent(refused: &mut Refused<'_>) -> bool {
     if matches!(wanted.kind, Kind::Top) {
         tell_misplaced(refused, wanted.name);
     }
-    if is_of_layout(&wanted) {
-        refused.say(
-            "\nhelp: or let `dc429 layout` write it, with all that is absent of the layout",
-            &[],
-        );
-    }
+    let is_age = wanted.name == "age" && refused.is_unlaid();
+    refused.say(
+        "\n{}help: or let `dc429 layout` write it, with all that is absent of the layout\n{}help: or, in tables to lay out, add `max_age_us`, the same in microseconds: data are younger than it says",
+        &[
+            Fact::If(is_of_layout(&wanted)),
+            Fact::If(is_age && matches!(wanted.kind, Kind::Label)),
+        ],
+    );
     true
 }
 

@@ -1,5 +1,5 @@
 //! Values that are not what is wanted at their key.
-use crate::keys::{Sort, Wanted, is_late, keys_of};
+use crate::keys::{Sort, Wanted, is_there, keys_of};
 use crate::refused::{Fact, Refused};
 use crate::shape::tell_usual;
 use crate::values::{Misfit, keeps, member_of, wrong_at};
@@ -218,18 +218,31 @@ fn misfit_at(
 /// does, with the sort of which that is to be.
 type Found = (Key, Wanted, Span, Sort);
 
+/// What is wanted at a key by the ticks of the text: an age in microseconds is two of them or more.
+fn by_ticks(refused: &Refused<'_>, wanted: &Wanted) -> Wanted {
+    let ticks = refused.count(0, "tick_us").saturating_mul(2);
+    if wanted.name == "max_age_us" {
+        return Wanted {
+            least: ticks,
+            ..*wanted
+        };
+    }
+    *wanted
+}
+
 /// The first value of the table with the fault that breaks a rule.
 fn first_misfit(refused: &Refused<'_>, rule: Misfit) -> Option<Found> {
-    let is_policed = refused.is_policed();
-    for wanted in keys_of(refused.kind(refused.row)) {
-        if !is_policed && is_late(wanted.name) {
+    let extent = refused.extent();
+    for row in keys_of(refused.kind(refused.row)) {
+        if !is_there(row.name, extent) {
             continue;
         }
-        let Some(key) = refused.layout.key(refused.row, wanted.name.as_bytes()) else {
+        let Some(key) = refused.layout.key(refused.row, row.name.as_bytes()) else {
             continue;
         };
-        if let Some((value, sort)) = misfit_at(refused, rule, key, wanted) {
-            return Some((key, *wanted, value, sort));
+        let wanted = by_ticks(refused, row);
+        if let Some((value, sort)) = misfit_at(refused, rule, key, &wanted) {
+            return Some((key, wanted, value, sort));
         }
     }
     None

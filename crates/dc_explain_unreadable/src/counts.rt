@@ -16,13 +16,15 @@ fn tables_in(refused: &Refused<'_>, kind: Kind) -> u64 {
     count
 }
 
-/// How many members the list at a key has; the fewest that it may have where it is no list.
+/// How many members the list at a key has, visits as often as they are repeated; the fewest that it may have where it is no
+/// list.
 fn members_at(refused: &Refused<'_>, wanted: &Wanted) -> u64 {
+    let members = refused.layout.members(refused.row, wanted.name).len() as u64;
     match wanted.sort {
-        Sort::Names | Sort::Offsets => refused
-            .layout
-            .members(refused.row, wanted.name)
-            .len() as u64,
+        Sort::Names if wanted.name == "visits" => {
+            members.saturating_mul(refused.count(refused.row, "looks").max(1))
+        }
+        Sort::Names | Sort::Offsets => members,
         Sort::Tables => tables_in(refused, kind_at(wanted.kind, wanted.name.as_bytes())),
         _ => wanted.least,
     }

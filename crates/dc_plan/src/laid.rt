@@ -132,10 +132,11 @@ fn slowest_of(document: &Document, plan: &Plan, label: &Label) -> Slowest {
     slowest
 }
 
-/// Tells that a label may be older than its age lets it.
+/// Tells that a label may be older than its age lets it, with ticks of so many microseconds.
 fn tell_old(
     document: &Document,
     plan: &Plan,
+    tick: u64,
     label: &Label,
     ages: &LabelPlan,
     obstacles: &mut Obstacles,
@@ -154,22 +155,23 @@ fn tell_old(
         ],
     );
     obstacles.lines.line(
-        "and may have waited for {} before (C11); an age of {}, a router that comes sooner, or a quicker {}",
+        "and may have waited for {} before (C11); an age of {} or a max_age_us of {}, a router that comes sooner, or a quicker {}",
         &[
             Fact::Number(ages.least_age.saturating_sub(ages.stale)),
             Fact::Number(ages.least_age),
+            Fact::Number(ages.least_age.saturating_add(1).saturating_mul(tick)),
             Fact::Name(slowest.name),
         ],
     );
 }
 
 /// Tells the labels that may be older than their ages let them.
-fn tell_ages(document: &Document, plan: &Plan, obstacles: &mut Obstacles) {
+fn tell_ages(document: &Document, plan: &Plan, tick: u64, obstacles: &mut Obstacles) {
     for (place, ages) in plan.labels.iter().enumerate() {
         let number = document.on_output.get(place).copied().unwrap_or(0);
         if let Some(label) = document.labels.get(number) {
             if ages.least_age > ages.age {
-                tell_old(document, plan, label, ages, obstacles);
+                tell_old(document, plan, tick, label, ages, obstacles);
             }
         }
     }
@@ -202,7 +204,7 @@ fn go_through(
             obstacles,
         )?;
     }
-    tell_ages(document, plan, obstacles);
+    tell_ages(document, plan, knobs.tick, obstacles);
     for output in &document.outputs {
         plan_output(alloc, document, output, knobs, &mut plan.frames, obstacles)?;
     }

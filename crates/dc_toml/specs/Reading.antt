@@ -1,9 +1,10 @@
 -- What the text of tables says, or its first fault: table by table, and for each its keys in their order.
-use Rattle.std.specs.Prelude.{ℕ, ◌-◌, ℤ, pos, negsuc, List, [], ◌∷◌, length, codes, Bool, false, ◌&&◌, ◌==◌, nat_le, if◌then◌else◌, Option, Some, None, option_and_then, Ok}
+use Rattle.std.specs.Prelude.{ℕ, ◌-◌, ◌*◌, ℤ, pos, negsuc, List, [], ◌∷◌, ◌++◌, length, replicate, codes, Bool, true, false, ◌&&◌, ◌==◌, nat_le, if◌then◌else◌, Option, Some, None, is_some, option_and_then, Ok}
 use Rattle.std.specs.Str.{is_utf8}
 use Rattle.toml.specs.Data.{Data, Items, no_items, item, Members, get_member, as_integer}
 use Rattle.toml.specs.Parse.{parse_document}
-use Rattle.dc_document.specs.declared.fault.TableRule.TheVariants.{NotToml, VersionUnknown}
+use Rattle.dc_dict.specs.Ticks.{out_maximum}
+use Rattle.dc_document.specs.declared.fault.TableRule.TheVariants.{NotToml, VersionUnknown, KeyAbsent, KeyUnknown, NumberOutOfRange, CountOutOfRange}
 use Rattle.dc_document.specs.declared.parts.Version.{Version}
 use Rattle.dc_document.specs.declared.parts.Version.TheVariants.{One, Two}
 use Rattle.dc_document.specs.declared.fault.Section.TheVariants.{Top, Parameter, Bus, Stream, Router, Output, Label}
@@ -111,30 +112,12 @@ read_bus d v = do
   streams ← tables_at (next_bus d) (codes "stream") 1 MOST_MEMBERS ms
   each_table read_stream (and_bus d (record { name = name; speed = speed; queue = queue; police = police })) streams
 
--- ---- routers
+-- ---- layouts: the frame of an output, the stale times and the offsets of its labels; where they are open, what else a text may say otherwise
 
--- the keys of a router
-abbrev pub router_keys : List (List ℕ)
-router_keys = codes "name" ∷ codes "steps" ∷ codes "within" ∷ codes "most" ∷ codes "visits" ∷ []
-
--- a router, after what was read before it
-unfoldable pub read_router : Written → Data → Reading Written
-read_router d v = do
-  ms ← table_of (next_router d) v
-  k ← keyed (next_router d) router_keys ms
-  name ← name_at (next_router d) (codes "name") ms
-  steps ← number_at (next_router d) (codes "steps") 1 MOST_STEPS ms
-  within ← number_at (next_router d) (codes "within") 1 LONGEST_WITHIN ms
-  most ← number_at (next_router d) (codes "most") 1 MOST_STEPS ms
-  visits ← names_at (next_router d) (codes "visits") 1 MOST_VISITS ms
-  Ok (and_router d (record { name = name; steps = steps; within = within; most = most; visits = visits }))
-
--- ---- layouts: the frame of an output, the stale times and the offsets of its labels
-
--- the keys of a table, all of them where the layout is wanted; else those of the layout may be absent
-abbrev pub keyed_by : Layout → TablePlace → (all besides : List (List ℕ)) → Members → Reading (Unit {0})
-keyed_by Wanted p all besides ms = keyed p all ms
-keyed_by Open p all besides ms = known p all ms >>= (λ k. present p besides ms)
+-- the keys of a table, all of them where the layout is wanted; else those that may stand there, and those that must
+abbrev pub keyed_by : Layout → TablePlace → (all may must : List (List ℕ)) → Members → Reading (Unit {0})
+keyed_by Wanted p all may must ms = keyed p all ms
+keyed_by Open p all may must ms = known p may ms >>= (λ k. present p must ms)
 
 -- the number at a key of the layout; where that is open nothing there is looked at, and the least stands for it
 abbrev pub laid_number : Layout → TablePlace → List ℕ → (low high : ℕ) → Members → Reading ℕ
@@ -146,34 +129,122 @@ abbrev pub laid_offsets : Layout → TablePlace → Members → Reading (List �
 laid_offsets Wanted p ms = offsets_at p (codes "offsets") 1 MOST_OFFSETS ms
 laid_offsets Open p ms = Ok []
 
--- ---- outputs, each followed by its labels
+-- whether a key is in the table
+abbrev pub has_key : List ℕ → Members → Bool
+has_key key ms = is_some (get_member key ms)
 
--- the keys of a label besides its layout
-abbrev pub label_keys_besides : List (List ℕ)
-label_keys_besides = codes "name" ∷ codes "label" ∷ codes "equipment" ∷ codes "sdi" ∷ codes "sources" ∷ codes "age" ∷ []
+-- the number at a key that may be absent, where this one stands for it
+abbrev pub number_or : ℕ → TablePlace → List ℕ → (low high : ℕ) → Members → Reading ℕ
+number_or usual p key low high ms = if has_key key ms then number_at p key low high ms else Ok usual
+
+-- ---- routers
+
+-- the keys of a router
+abbrev pub router_keys : List (List ℕ)
+router_keys = codes "name" ∷ codes "steps" ∷ codes "within" ∷ codes "most" ∷ codes "visits" ∷ []
+
+-- those that may stand where the layout is open
+abbrev pub router_keys_may : List (List ℕ)
+router_keys_may = codes "name" ∷ codes "steps" ∷ codes "within" ∷ codes "most" ∷ codes "visits" ∷ codes "looks" ∷ []
+
+-- and those that must
+abbrev pub router_keys_must : List (List ℕ)
+router_keys_must = codes "name" ∷ codes "steps" ∷ codes "within" ∷ codes "visits" ∷ []
+
+-- the most steps of a router in one tick where a text does not say them: twice those that it surely makes, 20 or more
+abbrev pub most_of : (steps : ℕ) → ℕ
+most_of steps = if nat_le steps 10 then 20 else if nat_le 500 steps then MOST_STEPS else 2 * steps
+
+-- the most steps of a router in one tick; where the layout is open the key may be absent
+abbrev pub laid_most : Layout → (steps : ℕ) → TablePlace → Members → Reading ℕ
+laid_most Wanted steps p ms = number_at p (codes "most") 1 MOST_STEPS ms
+laid_most Open steps p ms = number_or (most_of steps) p (codes "most") 1 MOST_STEPS ms
+
+-- the names of a list, each so many times in a row
+abbrev pub repeated : (looks : ℕ) → List (List ℕ) → List (List ℕ)
+repeated looks [] = []
+repeated looks (x ∷ xs) = replicate looks x ++ repeated looks xs
+
+-- as many visits as there may be, each name so many times in a row
+abbrev pub visits_of : TablePlace → (looks : ℕ) → List (List ℕ) → Reading (List (List ℕ))
+visits_of p looks names = wanted p CountOutOfRange (nat_le (looks * length names) MOST_VISITS) >>= (λ k. Ok (repeated looks names))
+
+-- the visits of a router, in their order; where the layout is open each stands for so many in a row as `looks` says, or for one
+abbrev pub laid_visits : Layout → TablePlace → Members → Reading (List (List ℕ))
+laid_visits Wanted p ms = names_at p (codes "visits") 1 MOST_VISITS ms
+laid_visits Open p ms = names_at p (codes "visits") 1 MOST_VISITS ms >>= (λ names. number_or 1 p (codes "looks") 1 MOST_VISITS ms >>= (λ looks. visits_of p looks names))
+
+-- a router, after what was read before it
+unfoldable pub read_router : Layout → Written → Data → Reading Written
+read_router y d v = do
+  ms ← table_of (next_router d) v
+  k ← keyed_by y (next_router d) router_keys router_keys_may router_keys_must ms
+  name ← name_at (next_router d) (codes "name") ms
+  steps ← number_at (next_router d) (codes "steps") 1 MOST_STEPS ms
+  within ← number_at (next_router d) (codes "within") 1 LONGEST_WITHIN ms
+  most ← laid_most y steps (next_router d) ms
+  visits ← laid_visits y (next_router d) ms
+  Ok (and_router d (record { name = name; steps = steps; within = within; most = most; visits = visits }))
+
+-- ---- outputs, each followed by its labels
 
 -- the keys of a label
 abbrev pub label_keys : List (List ℕ)
 label_keys = codes "name" ∷ codes "label" ∷ codes "equipment" ∷ codes "sdi" ∷ codes "sources" ∷ codes "stale" ∷ codes "age" ∷ codes "offsets" ∷ []
 
+-- those that may stand where the layout is open
+abbrev pub label_keys_may : List (List ℕ)
+label_keys_may =
+    codes "name" ∷ codes "label" ∷ codes "equipment" ∷ codes "sdi" ∷ codes "sources" ∷ codes "stale" ∷ codes "age" ∷ codes "max_age_us" ∷ codes "offsets" ∷ []
+
+-- and those that must
+abbrev pub label_keys_must : List (List ℕ)
+label_keys_must = codes "name" ∷ codes "label" ∷ codes "equipment" ∷ codes "sdi" ∷ codes "sources" ∷ []
+
+-- one of two keys is in the table, else T03, and not both, else T04
+abbrev pub one_key : TablePlace → (one other : Bool) → Reading (Unit {0})
+one_key p true true = refused p KeyUnknown
+one_key p false false = refused p KeyAbsent
+one_key p true false = Ok tt
+one_key p false true = Ok tt
+
+-- where the layout is open the limit on the age stands at `age` or at `max_age_us`
+abbrev pub aged_by : Layout → TablePlace → Members → Reading (Unit {0})
+aged_by Wanted p ms = Ok tt
+aged_by Open p ms = one_key p (has_key (codes "age") ms) (has_key (codes "max_age_us") ms)
+
+-- an age of at least one tick
+abbrev pub whole_age : TablePlace → (age : ℕ) → Reading ℕ
+whole_age p age = wanted p NumberOutOfRange (nat_le 1 age) >>= (λ k. Ok age)
+
+-- the age in ticks below which data are younger than `max_age_us` says
+abbrev pub age_in_us : (tick_us : ℕ) → TablePlace → Members → Reading ℕ
+age_in_us tick_us p ms = number_at p (codes "max_age_us") 1 LONGEST_INTERVAL_US ms >>= (λ us. whole_age p (out_maximum us tick_us))
+
+-- the limit on the age of a label in ticks; where the layout is open it may stand there in microseconds
+abbrev pub laid_age : Layout → (tick_us : ℕ) → TablePlace → Members → Reading ℕ
+laid_age Wanted tick_us p ms = number_at p (codes "age") 1 GREATEST_AGE ms
+laid_age Open tick_us p ms = if has_key (codes "max_age_us") ms then age_in_us tick_us p ms else number_at p (codes "age") 1 GREATEST_AGE ms
+
 -- a label of the last output
 unfoldable pub read_label : Layout → Written → Data → Reading Written
 read_label y d v = do
   ms ← table_of (next_label d) v
-  k ← keyed_by y (next_label d) label_keys label_keys_besides ms
+  k ← keyed_by y (next_label d) label_keys label_keys_may label_keys_must ms
+  a ← aged_by y (next_label d) ms
   name ← name_at (next_label d) (codes "name") ms
   label ← label_at (next_label d) (codes "label") ms
   equipment ← equipment_at (next_label d) (codes "equipment") ms
   sdi ← sdi_at (next_label d) (codes "sdi") ms
   sources ← names_at (next_label d) (codes "sources") 1 MOST_SOURCES ms
   stale ← laid_number y (next_label d) (codes "stale") 1 LONGEST_STALE ms
-  age ← number_at (next_label d) (codes "age") 1 GREATEST_AGE ms
+  age ← laid_age y d.tick_us (next_label d) ms
   offsets ← laid_offsets y (next_label d) ms
   Ok (and_label d (record { output = length d.outputs - 1; name = name; label = label; equipment = equipment; sdi = sdi; sources = sources; stale = stale; age = age; offsets = offsets }))
 
--- the keys of an output besides its layout
-abbrev pub output_keys_besides : List (List ℕ)
-output_keys_besides = codes "name" ∷ codes "speed" ∷ codes "steps" ∷ codes "within" ∷ codes "label" ∷ []
+-- those that must stand where the layout is open
+abbrev pub output_keys_must : List (List ℕ)
+output_keys_must = codes "name" ∷ codes "speed" ∷ codes "steps" ∷ codes "within" ∷ codes "label" ∷ []
 
 -- the keys of an output
 abbrev pub output_keys : List (List ℕ)
@@ -183,7 +254,7 @@ output_keys = codes "name" ∷ codes "speed" ∷ codes "steps" ∷ codes "within
 unfoldable pub read_output : Layout → Written → Data → Reading Written
 read_output y d v = do
   ms ← table_of (next_output d) v
-  k ← keyed_by y (next_output d) output_keys output_keys_besides ms
+  k ← keyed_by y (next_output d) output_keys output_keys output_keys_must ms
   name ← name_at (next_output d) (codes "name") ms
   speed ← speed_at (next_output d) (codes "speed") ms
   steps ← number_at (next_output d) (codes "steps") 1 MOST_STEPS ms
@@ -244,7 +315,7 @@ unfoldable pub members_of : Layout → Written → TopItems → Reading Written
 members_of y d lists = do
   a ← each_table read_parameter d lists.parameters
   b ← each_table read_bus a lists.buses
-  c ← each_table read_router b lists.routers
+  c ← each_table (read_router y) b lists.routers
   each_table (read_output y) c lists.outputs
 
 -- the tables that a document says
@@ -263,6 +334,6 @@ document_of text = if nat_le (length text) TEXT_LIMIT && is_utf8 text then found
 abbrev pub tables_of : List ℕ → Reading Written
 tables_of text = document_of text >>= tables_in Wanted
 
--- the tables of a text in which no layout need stand, and none is looked at
+-- the tables of a text in which no layout need stand, and none is looked at; the most steps of a router, how often it looks in a row and ages may be said otherwise
 abbrev pub unlaid_tables_of : List ℕ → Reading Written
 unlaid_tables_of text = document_of text >>= tables_in Open

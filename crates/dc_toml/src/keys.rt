@@ -5,7 +5,7 @@ ghost use Rattle.toml.specs.Data.{get_member, same_key, as_str, as_integer, as_b
 ghost use Rattle.toml.specs.View.{view, table_view};
 ghost use Rattle.dc_toml.specs.Faults.{seen};
 ghost use Rattle.dc_toml.specs.Keys.{only_keys, all_keys, table_of, known as known_keys, present as present_keys, keyed as keyed_by, bool_at, number_in, number_at, text_at, name_at, speed_at, format_at, label_at, equipment_at, sdi_at, stream_sdi_at};
-ghost use Rattle.dc_toml.specs.Reading.{version_of, bus_keys, stream_keys, police_at, jitter_at, keyed_by as keyed_by_layout, label_keys, label_keys_besides, laid_number as number_laid, output_keys, output_keys_besides};
+ghost use Rattle.dc_toml.specs.Reading.{version_of, bus_keys, stream_keys, police_at, jitter_at, keyed_by as keyed_by_layout, router_keys, router_keys_may, router_keys_must, label_keys, label_keys_may, label_keys_must, laid_number as number_laid, output_keys, output_keys_must};
 
 use crate::layout::Layout;
 use crate::place::TablePlace;
@@ -128,32 +128,49 @@ pub fn stream_keyed(table: &Table, version: Version, place: TablePlace) -> Resul
     }
 }
 
-/// Refuses keys that are none of these, and then that one is absent: one of all, or where the layout is open one of those besides it.
+/// Refuses keys that are none of these, and then that one is absent: of all, or where the layout is open of those that may
+/// stand there and those that must.
 fn keyed_by(
     table: &Table,
     layout: Layout,
     all: &[&str],
-    besides: &[&str],
+    may: &[&str],
+    must: &[&str],
     place: TablePlace,
 ) -> Result<(), TableFault>
-    ensures { result ≡ keyed_by_layout layout place (map (λ k. k.now) all.now) (map (λ k. k.now) besides.now) (table_view table.now) }
+    ensures { result ≡ keyed_by_layout layout place (map (λ k. k.now) all.now) (map (λ k. k.now) may.now) (map (λ k. k.now) must.now) (table_view table.now) }
 {
     match layout {
         Layout::Wanted => keyed(table, all, place),
         Layout::Open => {
-            known(table, all, place)?;
-            present(table, besides, place)
+            known(table, may, place)?;
+            present(table, must, place)
         }
     }
 }
 
-/// Refuses keys that are not those of an output.
-pub fn output_keyed(table: &Table, layout: Layout, place: TablePlace) -> Result<(), TableFault>
-    ensures { result ≡ keyed_by_layout layout place output_keys output_keys_besides (table_view table.now) }
+/// Refuses keys that are not those of a router.
+pub fn router_keyed(table: &Table, layout: Layout, place: TablePlace) -> Result<(), TableFault>
+    ensures { result ≡ keyed_by_layout layout place router_keys router_keys_may router_keys_must (table_view table.now) }
 {
     keyed_by(
         table,
         layout,
+        &["name", "steps", "within", "most", "visits"],
+        &["name", "steps", "within", "most", "visits", "looks"],
+        &["name", "steps", "within", "visits"],
+        place,
+    )
+}
+
+/// Refuses keys that are not those of an output.
+pub fn output_keyed(table: &Table, layout: Layout, place: TablePlace) -> Result<(), TableFault>
+    ensures { result ≡ keyed_by_layout layout place output_keys output_keys output_keys_must (table_view table.now) }
+{
+    keyed_by(
+        table,
+        layout,
+        &["name", "speed", "steps", "within", "frame", "label"],
         &["name", "speed", "steps", "within", "frame", "label"],
         &["name", "speed", "steps", "within", "label"],
         place,
@@ -162,7 +179,7 @@ pub fn output_keyed(table: &Table, layout: Layout, place: TablePlace) -> Result<
 
 /// Refuses keys that are not those of a label.
 pub fn label_keyed(table: &Table, layout: Layout, place: TablePlace) -> Result<(), TableFault>
-    ensures { result ≡ keyed_by_layout layout place label_keys label_keys_besides (table_view table.now) }
+    ensures { result ≡ keyed_by_layout layout place label_keys label_keys_may label_keys_must (table_view table.now) }
 {
     let all = &[
         "name",
@@ -174,8 +191,19 @@ pub fn label_keyed(table: &Table, layout: Layout, place: TablePlace) -> Result<(
         "age",
         "offsets",
     ];
-    let besides = &["name", "label", "equipment", "sdi", "sources", "age"];
-    keyed_by(table, layout, all, besides, place)
+    let may = &[
+        "name",
+        "label",
+        "equipment",
+        "sdi",
+        "sources",
+        "stale",
+        "age",
+        "max_age_us",
+        "offsets",
+    ];
+    let must = &["name", "label", "equipment", "sdi", "sources"];
+    keyed_by(table, layout, all, may, must, place)
 }
 
 /// The whole number at a key.

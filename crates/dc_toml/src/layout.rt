@@ -5,6 +5,7 @@
 pub enum Layout {
     /// They have to, as all others.
     Wanted,
-    /// They need not, and nothing there is looked at.
+    /// They need not, and nothing there is looked at. Then `most` of a router need not stand either, its `visits` may stand for
+    /// several looks in a row, `looks`, and the limit on a label's age may be in microseconds, `max_age_us`.
     Open,
 }

@@ -7,6 +7,7 @@
 pub mod keys;
 mod layout;
 pub mod lists;
+mod open;
 pub mod place;
 mod read;
 mod sections;

@@ -9,12 +9,12 @@ use crate::keys::{known, number, present, version};
 use crate::layout::Layout;
 use crate::lists::optional_tables;
 use crate::place::TablePlace;
-use crate::sections::{read_outputs, read_tables_of};
+use crate::sections::{read_outputs, read_routers, read_tables_of};
 use dc_bound::LONGEST_TICK;
 use dc_dict::Parameter;
 use dc_document::{
     BuildError, BusPart, MOST_BUSES, MOST_OUTPUTS, MOST_PARAMETERS, MOST_ROUTERS, Parts,
-    RouterPart, SHORTEST_TICK, Section, TEXT_LIMIT, TableFault, TableRule,
+    SHORTEST_TICK, Section, TEXT_LIMIT, TableFault, TableRule,
 };
 use std::alloc::{AllocError, Global};
 use toml::{Table, Value};
@@ -80,7 +80,7 @@ fn members(
 {
     read_tables_of::<Parameter>(alloc, parts, parameters)?;
     read_tables_of::<BusPart>(alloc, parts, buses)?;
-    read_tables_of::<RouterPart>(alloc, parts, routers)?;
+    read_routers(alloc, layout, parts, routers)?;
     read_outputs(alloc, layout, parts, outputs)
 }
 
@@ -140,7 +140,8 @@ pub fn read_parts(alloc: Global, text: &[u8]) -> Result<Parts, BuildError>
 }
 
 /// The parts that a text says in which no layout need stand: what there is of `frame`, `stale` and `offsets` is not looked at, each frame
-/// and each stale time is 1, and no label has an offset.
+/// and each stale time is 1, and no label has an offset. `most` of a router may be absent, its `visits` may stand for several looks in
+/// a row, and the limit on a label's age may be in microseconds.
 ///
 /// # Errors
 ///

@@ -5,21 +5,21 @@ ghost use Rattle.toml.specs.View.{view, items_view};
 ghost use Rattle.dc_document.specs.declared.fault.TableFault.{TableFault as SpecFault};
 ghost use Rattle.dc_toml.specs.Faults.{Leaves};
 ghost use Rattle.dc_toml.specs.Written.{Written, written, router_text, label_text, and_bus, and_router, and_label, and_output};
-ghost use Rattle.dc_toml.specs.Reading.{next_router, next_label, each_table, read_parameter, read_bus, read_stream as stream_reading, read_router, read_output as output_reading, read_label as label_reading};
+ghost use Rattle.dc_toml.specs.Reading.{next_router, next_label, each_table, read_parameter, read_bus, read_stream as stream_reading, read_router as router_reading, read_output as output_reading, read_label as label_reading};
 
 use crate::keys::{
     bus_keyed, equipment, format, jitter, keyed, label, label_keyed, laid_number, name, number,
-    output_keyed, police, sdi, speed, stream_keyed, stream_sdi, table,
+    output_keyed, police, router_keyed, sdi, speed, stream_keyed, stream_sdi, table,
 };
 use crate::layout::Layout;
 use crate::lists::{laid_offsets, names, tables};
+use crate::open::{aged, laid_age, laid_most, laid_visits};
 use crate::place::TablePlace;
 use dc_bound::{GREATEST_QUEUE, LONGEST_FRAME};
 use dc_dict::Parameter;
 use dc_document::{
-    BuildError, BusPart, GREATEST_AGE, LONGEST_INTERVAL_US, LONGEST_STALE, LONGEST_WITHIN,
-    LabelPart, MOST_MEMBERS, MOST_SOURCES, MOST_STEPS, MOST_VISITS, OutputPart, Parts, RouterPart,
-    Section, StreamPart,
+    BuildError, BusPart, LONGEST_INTERVAL_US, LONGEST_STALE, LONGEST_WITHIN, LabelPart,
+    MOST_MEMBERS, MOST_SOURCES, MOST_STEPS, OutputPart, Parts, RouterPart, Section, StreamPart,
 };
 use std::alloc::{AllocError, Global};
 use toml::Value;
@@ -171,32 +171,53 @@ impl TopTable for BusPart {
     }
 }
 
-impl TopTable for RouterPart {
-    ghost reading = { read_router };
+/// The router that a value is.
+#[tactic(auto, unfolding(crate::specs::Reading::read_router))]
+fn read_router(
+    alloc: Global,
+    layout: Layout,
+    parts: &mut Parts,
+    value: &Value,
+) -> Result<(), BuildError>
+    ensures { Leaves (written parts.new) result (router_reading layout (written parts.old) (view value.now)) }
+{
+    let place = router_place(parts);
+    let table = table(value, place)?;
+    router_keyed(table, layout, place)?;
+    let name = name(table, "name", place)?;
+    let steps = number(table, "steps", 1, MOST_STEPS, place)?;
+    let within = number(table, "within", 1, LONGEST_WITHIN, place)?;
+    let most = laid_most(table, layout, steps, place)?;
+    let visits = laid_visits(alloc, table, layout, place)?;
+    add_router(
+        parts,
+        RouterPart {
+            name,
+            steps,
+            within,
+            most,
+            visits,
+        },
+    )?;
+    Ok(())
+}
 
-    #[tactic(auto, unfolding(crate::specs::Reading::read_router))]
-    fn read(alloc: Global, parts: &mut Parts, value: &Value) -> Result<(), BuildError> {
-        let place = router_place(parts);
-        let table = table(value, place)?;
-        let keys = &["name", "steps", "within", "most", "visits"];
-        keyed(table, keys, place)?;
-        let name = name(table, "name", place)?;
-        let steps = number(table, "steps", 1, MOST_STEPS, place)?;
-        let within = number(table, "within", 1, LONGEST_WITHIN, place)?;
-        let most = number(table, "most", 1, MOST_STEPS, place)?;
-        let visits = names(alloc, table, "visits", 1, MOST_VISITS, place)?;
-        add_router(
-            parts,
-            RouterPart {
-                name,
-                steps,
-                within,
-                most,
-                visits,
-            },
-        )?;
-        Ok(())
+/// The routers in order.
+pub fn read_routers(
+    alloc: Global,
+    layout: Layout,
+    parts: &mut Parts,
+    values: &[Value],
+) -> Result<(), BuildError>
+    ensures { Leaves (written parts.new) result (each_table (router_reading layout) (written parts.old) (items_view values.now)) }
+{
+    for value in values {
+        match read_router(alloc, layout, parts, value) {
+            Ok(()) => {}
+            Err(error) => return Err(error),
+        }
     }
+    Ok(())
 }
 
 /// The label of the output with this index that a value is.
@@ -213,15 +234,17 @@ fn read_label(
 {
     let place = label_place(parts);
     let output = parts.output_count() - 1;
+    let tick_us = parts.tick_us();
     let table = table(value, place)?;
     label_keyed(table, layout, place)?;
+    aged(table, layout, place)?;
     let name = name(table, "name", place)?;
     let label = label(table, "label", place)?;
     let equipment = equipment(table, "equipment", place)?;
     let sdi = sdi(table, "sdi", place)?;
     let sources = names(alloc, table, "sources", 1, MOST_SOURCES, place)?;
     let stale = laid_number(table, layout, "stale", 1, LONGEST_STALE, place)?;
-    let age = number(table, "age", 1, GREATEST_AGE, place)?;
+    let age = laid_age(table, layout, tick_us, place)?;
     let offsets = laid_offsets(alloc, table, layout, place)?;
     add_label(
         parts,
